@@ -3,6 +3,7 @@ pub mod BlockLoop
 pub mod Chunks
 pub mod CoderLoop
 pub mod CoderState
+pub mod Conversion
 pub mod Filling
 pub mod Hashed
 pub mod Packed

@@ -1,5 +1,5 @@
 -- Images that are read or written piece by piece.
-pub mod ReaderPieces
+pub mod Unread
 pub mod InPlace
 pub mod PixelReader
 pub mod Mark

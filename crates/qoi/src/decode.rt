@@ -13,6 +13,7 @@ ghost use Rattle.qoi.specs.Sent.{IsFileFor};
 mod blocks;
 mod buffered;
 mod chunks;
+mod conversion;
 mod deltas;
 mod fast;
 mod full_rows;
@@ -389,8 +390,8 @@ impl<R: Reader> Decoder<R> {
                 required: size,
             });
         }
-        self.reader
-            .decode_image_in(&mut buf[..size], self.channels, self.header.channels)?;
+        let conversion = self.conversion();
+        self.reader.decode_image_in(&mut buf[..size], conversion)?;
         Ok(size)
     }
 
@@ -418,8 +419,8 @@ impl<R: Reader> Decoder<R> {
     {
         let size = self.required_buf_len();
         let mut out = Vec::with_capacity(alloc, size)?;
-        self.reader
-            .decode_image_to_vec(&mut out, size, self.channels, self.header.channels)?;
+        let conversion = self.conversion();
+        self.reader.decode_image_to_vec(&mut out, size, conversion)?;
         Ok(out)
     }
 }

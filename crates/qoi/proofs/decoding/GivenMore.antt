@@ -1,55 +1,60 @@
 -- Steps over the pieces of an image, one after another.
-use Rattle.std.proofs.Common.{◌≡◌, ℕ, ◌+◌, ◌-◌, ◌≤◌, List, [], ◌++◌, length, take, drop, min, Bool, Option, arith, refl, sym, ap, ◌∙◌, subst, append-nil, length-append}
+use Rattle.std.proofs.Common.{◌≡◌, ℕ, ◌+◌, ◌-◌, ◌≤◌, List, [], ◌++◌, length, take, drop, min, Bool, Option, Result, arith, refl, sym, ap, ◌∙◌, subst, append-nil, length-append}
 use Rattle.std.proofs.lemmas.List.{length-take-le, take_at}
+use Rattle.std.proofs.lemmas.Result.{MatchResult-weaker}
 use borrow.Rule.Slice.PartMut.{put_mid, mid_of, mid_len, same_len_mid}
 use Rattle.qoi.specs.declared.error.Error.{Error}
-use Rattle.qoi.specs.declared.decode.pixel_reader.pieces.Pieces.{Pieces}
-use Rattle.qoi.specs.pieces.ReaderPieces.{kept_raw, bytes_left, KeepsPixels, GivesPieces, GivesMore, RefusesMore}
+use Rattle.qoi.specs.declared.decode.pixel_reader.unread.Unread.{Unread}
+use Rattle.qoi.specs.declared.decode.pixel_reader.unread.Refused.{Refused}
+use Rattle.qoi.specs.pieces.Unread.{kept_raw, bytes_left, KeepsPixels, IsUnread, GivesMore, RefusesMore, Steps}
 use Rattle.qoi.proofs.decoding.PieceSteps.{gives, kept_long, read_two}
 use Rattle.qoi.proofs.decoding.PixelPieces.{three_of_four, four_as_three}
 
 -- a step that gives none
-pub gives_none : {f c : ℕ} {ahead rest : Option (List ℕ)} {old new : Pieces}
-    → ((n : ℕ) (start : Option (List ℕ)) (given : List ℕ) → GivesPieces f c n start ahead given old → GivesPieces f c n start rest given new)
-    → KeepsPixels c new → bytes_left new ≡ bytes_left old → GivesMore f c ahead rest old new [] 0
-gives_none {f} {c} {ahead} {rest} {old} {new} read pixels left = record {
-  read = λ n start given h. subst (λ z. GivesPieces f c n start rest z new) (sym (append-nil given)) (read n start given h);
+pub gives_none : {f c : ℕ} {ahead rest : Option (List ℕ)} {old new : Unread}
+    → ((n : ℕ) (start : Option (List ℕ)) (given : List ℕ) → IsUnread f c n start ahead given old → IsUnread f c n start rest given new)
+    → KeepsPixels c new → bytes_left new ≡ bytes_left old → new.fault ≡ old.fault → GivesMore f c ahead rest old new [] 0
+gives_none {f} {c} {ahead} {rest} {old} {new} read pixels left fault = record {
+  read = λ n start given h. subst (λ z. IsUnread f c n start rest z new) (sym (append-nil given)) (read n start given h);
   within = omega arith;
   pixels = pixels;
   left = omega (arith, left);
+  fault = fault;
 }
 
 -- a step that gives bytes behind those of another
-pub gives_two : {f c : ℕ} {ahead middle rest : Option (List ℕ)} {old between new : Pieces} {front : List ℕ} {i : ℕ} (more : List ℕ) (j : ℕ)
+pub gives_two : {f c : ℕ} {ahead middle rest : Option (List ℕ)} {old between new : Unread} {front : List ℕ} {i : ℕ} (more : List ℕ) (j : ℕ)
     → GivesMore f c ahead middle old between front i → GivesMore f c middle rest between new more j → length more ≡ length (mid_of i (length front - i) front)
     → GivesMore f c ahead rest old new (put_mid i (length front - i) front more) (i + j)
 gives_two {f} {c} {ahead} {middle} {rest} {old} {between} {new} {front} {i} more j one two same =
     let room = mid_len i (length front) front (omega (arith, one.within)) in
     record {
-      read = λ n start given h. subst (λ z. GivesPieces f c n start rest z new) (read_two given front more i j one.within two.within)
+      read = λ n start given h. subst (λ z. IsUnread f c n start rest z new) (read_two given front more i j one.within two.within)
           (two.read n start _ (one.read n start given h));
       within = omega (arith, same_len_mid i (length front - i) front more same, same, room, one.within, two.within);
       pixels = two.pixels;
       left = omega (arith, one.left, two.left);
+      fault = two.fault ∙ one.fault;
     }
 
 -- a step that gives none after another
-pub gives_then_none : {f c : ℕ} {ahead middle rest : Option (List ℕ)} {old between new : Pieces} {out : List ℕ} {size : ℕ}
+pub gives_then_none : {f c : ℕ} {ahead middle rest : Option (List ℕ)} {old between new : Unread} {out : List ℕ} {size : ℕ}
     → GivesMore f c ahead middle old between out size → GivesMore f c middle rest between new [] 0 → GivesMore f c ahead rest old new out size
 gives_then_none {f} {c} {ahead} {middle} {rest} {old} {between} {new} {out} {size} one two = record {
-  read = λ n start given h. subst (λ z. GivesPieces f c n start rest z new) (append-nil (given ++ take size out)) (two.read n start _ (one.read n start given h));
+  read = λ n start given h. subst (λ z. IsUnread f c n start rest z new) (append-nil (given ++ take size out)) (two.read n start _ (one.read n start given h));
   within = one.within;
   pixels = two.pixels;
   left = omega (arith, one.left, two.left);
+  fault = two.fault ∙ one.fault;
 }
 
 -- a step that is refused after another
-pub refused_after : {f c : ℕ} {in_memory : Bool} {ahead middle rest : Option (List ℕ)} {old between : Pieces} {out : List ℕ} {size : ℕ} {fault : Option Error}
+pub refused_after : {f c : ℕ} {in_memory : Bool} {ahead middle rest : Option (List ℕ)} {old between : Unread} {out : List ℕ} {size : ℕ} {fault : Option Error}
     → GivesMore f c ahead middle old between out size → RefusesMore f c in_memory middle rest between fault → RefusesMore f c in_memory ahead rest old fault
 refused_after one two = record { refused = λ n start given h. two.refused n start _ (one.read n start given h) }
 
 -- the same step, of values that are equal
-pub gives_as : {f g c k : ℕ} {ahead other rest : Option (List ℕ)} {old new : Pieces} {out : List ℕ} {size : ℕ} → f ≡ g → c ≡ k → ahead ≡ other
+pub gives_as : {f g c k : ℕ} {ahead other rest : Option (List ℕ)} {old new : Unread} {out : List ℕ} {size : ℕ} → f ≡ g → c ≡ k → ahead ≡ other
     → GivesMore g k other rest old new out size → GivesMore f c ahead rest old new out size
 gives_as {f} {g} {c} {k} {ahead} {other} {rest} {old} {new} {out} {size} file channels same h =
     subst (λ z. GivesMore z c ahead rest old new out size) (sym file)
@@ -57,7 +62,7 @@ gives_as {f} {g} {c} {k} {ahead} {other} {rest} {old} {new} {out} {size} file ch
     (subst (λ z. GivesMore g k z rest old new out size) (sym same) h))
 
 -- the same refusal
-pub refuses_as : {f g c k : ℕ} {in_memory : Bool} {ahead other rest : Option (List ℕ)} {old : Pieces} {fault : Option Error} → f ≡ g → c ≡ k → ahead ≡ other
+pub refuses_as : {f g c k : ℕ} {in_memory : Bool} {ahead other rest : Option (List ℕ)} {old : Unread} {fault : Option Error} → f ≡ g → c ≡ k → ahead ≡ other
     → RefusesMore g k in_memory other rest old fault → RefusesMore f c in_memory ahead rest old fault
 refuses_as {f} {g} {c} {k} {in_memory} {ahead} {other} {rest} {old} {fault} file channels same h =
     subst (λ z. RefusesMore z c in_memory ahead rest old fault) (sym file)
@@ -65,44 +70,57 @@ refuses_as {f} {g} {c} {k} {in_memory} {ahead} {other} {rest} {old} {fault} file
     (subst (λ z. RefusesMore g k in_memory z rest old fault) (sym same) h))
 
 -- three channels of a file of four are those of a file of three
-pub gives_of_four : {ahead rest : Option (List ℕ)} {old new : Pieces} {out : List ℕ} {size : ℕ}
+pub gives_of_four : {ahead rest : Option (List ℕ)} {old new : Unread} {out : List ℕ} {size : ℕ}
     → GivesMore 3 3 ahead rest old new out size → GivesMore 4 3 ahead rest old new out size
 gives_of_four h = record {
   read = λ n start given before. four_as_three (h.read n start given (three_of_four before));
   within = h.within;
   pixels = h.pixels;
   left = h.left;
+  fault = h.fault;
 }
 
 -- and so are they if they are refused
-pub refuses_of_four : {in_memory : Bool} {ahead rest : Option (List ℕ)} {old : Pieces} {fault : Option Error}
+pub refuses_of_four : {in_memory : Bool} {ahead rest : Option (List ℕ)} {old : Unread} {fault : Option Error}
     → RefusesMore 3 3 in_memory ahead rest old fault → RefusesMore 4 3 in_memory ahead rest old fault
 refuses_of_four h = record { refused = λ n start given before. h.refused n start given (three_of_four before) }
 
+-- the same step, in values that are equal
+pub steps_as : {f g c k : ℕ} {ahead other : Option (List ℕ)} (in_memory : Bool) (rest : Option (List ℕ)) (old new : Unread) (out : List ℕ) (result : Result ℕ Refused)
+    → f ≡ g → c ≡ k → ahead ≡ other → Steps g k in_memory other rest old new out result → Steps f c in_memory ahead rest old new out result
+steps_as in_memory rest old new out result file channels same h = MatchResult-weaker result h (λ size. gives_as file channels same) (λ e. refuses_as file channels same)
+
+-- a step into three channels of a file of four
+pub steps_of_four : (in_memory : Bool) (ahead rest : Option (List ℕ)) (old new : Unread) (out : List ℕ) (result : Result ℕ Refused)
+    → Steps 3 3 in_memory ahead rest old new out result → Steps 4 3 in_memory ahead rest old new out result
+steps_of_four in_memory ahead rest old new out result h = MatchResult-weaker result h (λ size. gives_of_four) (λ e. refuses_of_four)
+
 -- a step after one that gives none
-pub gives_after_none : {f c : ℕ} {ahead middle rest : Option (List ℕ)} {old between new : Pieces} {out : List ℕ} {size : ℕ}
+pub gives_after_none : {f c : ℕ} {ahead middle rest : Option (List ℕ)} {old between new : Unread} {out : List ℕ} {size : ℕ}
     → GivesMore f c ahead middle old between [] 0 → GivesMore f c middle rest between new out size → GivesMore f c ahead rest old new out size
 gives_after_none {f} {c} {ahead} {middle} {rest} {old} {between} {new} {out} {size} one two = record {
-  read = λ n start given h. two.read n start given (subst (λ z. GivesPieces f c n start middle z between) (append-nil given) (one.read n start given h));
+  read = λ n start given h. two.read n start given (subst (λ z. IsUnread f c n start middle z between) (append-nil given) (one.read n start given h));
   within = two.within;
   pixels = two.pixels;
   left = omega (arith, one.left, two.left);
+  fault = two.fault ∙ one.fault;
 }
 
 -- kept bytes are given
-pub gives_kept : {f c : ℕ} {ahead : Option (List ℕ)} (p new : Pieces) (old out : List ℕ) (k : ℕ) → KeepsPixels c p → k ≡ min (length old) (p.to - p.from)
+pub gives_kept : {f c : ℕ} {ahead : Option (List ℕ)} (p new : Unread) (old out : List ℕ) (k : ℕ) → KeepsPixels c p → k ≡ min (length old) (p.to - p.from)
     → out ≡ take k (kept_raw p) ++ drop k old → new ≡ record p { from = p.from + k } → GivesMore f c ahead ahead p new out k
 gives_kept {f} {c} {ahead} p new old out k pixels few out_is is =
     let within = pixels.0 in
-    let then : Pieces = record p { from = p.from + k } in
+    let then : Unread = record p { from = p.from + k } in
     let front = take k (kept_raw p) in
     let size : length front ≡ k = length-take-le k (kept_raw p) (omega (arith, few, kept_long p within)) in
     let same : take k out ≡ front = ap (take k) out_is ∙ take_at front (drop k old) k size in
     subst (λ q. GivesMore f c ahead ahead p q out k) (sym is) (record {
-      read = λ n start given h. subst (λ z. GivesPieces f c n start ahead (given ++ z) then) (sym same) (gives p then k refl (omega (arith, few)) within h);
+      read = λ n start given h. subst (λ z. IsUnread f c n start ahead (given ++ z) then) (sym same) (gives p then k refl (omega (arith, few)) within h);
       within = omega (arith, ap length out_is, length-append front (drop k old), size);
       pixels = ((omega (arith, few, within), within.1), pixels.1);
       left = omega (arith, few, within);
+      fault = refl;
     })
 
 -- an output that is filled by what is kept, and by a step and what it keeps

@@ -11,7 +11,7 @@ use Rattle.qoi.specs.Raw.{IsChannels, output}
 use Rattle.qoi.specs.inner.Hashed.{pixel_of_lanes, HoldsSeen}
 use Rattle.qoi.specs.inner.Filling.{upto, Filling, filling, HasWritten, DecoderBetween, IsFrontAfter}
 use Rattle.qoi.specs.pieces.InPlace.{TakesPiece}
-use Rattle.qoi.specs.pieces.ReaderPieces.{copies, DecoderAfter}
+use Rattle.qoi.specs.pieces.Unread.{copies, DecoderAfter}
 use Rattle.qoi.proofs.format.Appended.{are_chunks_append, chunk_bytes-last}
 use Rattle.qoi.proofs.format.ChunkSteps.{then_chunks-append}
 use Rattle.qoi.proofs.format.SeenTable.{holds_seen_copies, previous_copies}

@@ -7,7 +7,7 @@ use Rattle.qoi.specs.DecoderState.{DecoderState}
 use Rattle.qoi.specs.Qoi.{channels_number, header_size, IsValid}
 use Rattle.qoi.specs.pieces.Mark.{MarkState, mark_of, reader_at, MarksGiven, MarksRows}
 use Rattle.qoi.specs.pieces.PixelReader.{PixelsState, HasGiven, HasRows}
-use Rattle.qoi.specs.pieces.ReaderPieces.{KeepsPixels}
+use Rattle.qoi.specs.pieces.Unread.{KeepsPixels}
 use Rattle.qoi.proofs.decoding.Appended.{given_then}
 
 -- the image stands behind the header, and the reader in it
@@ -38,7 +38,7 @@ unfolding HasRows MarksRows
 marks_rows d e file bytes stride k p m is made (given, many, h) = (given, many, marks_given d e file bytes given p m is made h)
 
 -- the same if bytes are appended
-pub marks_then : (d : DecoderState (List ℕ)) (bytes given more : List ℕ) (m : MarkState) → IsValid m.header → (m.refused ≡ false → KeepsPixels (channels_number m.channels) m.pieces) → MarksGiven d bytes given m → MarksGiven d (bytes ++ more) given m
+pub marks_then : (d : DecoderState (List ℕ)) (bytes given more : List ℕ) (m : MarkState) → IsValid m.header → (m.refused ≡ false → KeepsPixels (channels_number m.channels) m.unread) → MarksGiven d bytes given m → MarksGiven d (bytes ++ more) given m
 unfolding MarksGiven
 marks_then d bytes given more m valid keeps (rest, at, h) = (
   rest ++ more,
@@ -46,7 +46,7 @@ marks_then d bytes given more m valid keeps (rest, at, h) = (
   given_then d bytes rest given more (reader_at m rest) (reader_at m (rest ++ more)) valid refl refl refl refl keeps h,
 )
 
-pub marks_rows_then : (d : DecoderState (List ℕ)) (bytes more : List ℕ) (stride k : ℕ) (m : MarkState) → IsValid m.header → (m.refused ≡ false → KeepsPixels (channels_number m.channels) m.pieces) → MarksRows d bytes stride k m → MarksRows d (bytes ++ more) stride k m
+pub marks_rows_then : (d : DecoderState (List ℕ)) (bytes more : List ℕ) (stride k : ℕ) (m : MarkState) → IsValid m.header → (m.refused ≡ false → KeepsPixels (channels_number m.channels) m.unread) → MarksRows d bytes stride k m → MarksRows d (bytes ++ more) stride k m
 unfolding MarksRows
 marks_rows_then d bytes more stride k m valid keeps (given, many, h) = (given, many, marks_then d bytes given more m valid keeps h)
 

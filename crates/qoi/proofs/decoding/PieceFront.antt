@@ -7,12 +7,12 @@ use Rattle.std.proofs.Math.Seq.{take-append_seam, take-append-add}
 use Rattle.qoi.specs.declared.chunk.Chunk.{Chunk}
 use Rattle.qoi.specs.declared.header.Header.{Header}
 use Rattle.qoi.specs.declared.types.Channels.{Channels}
-use Rattle.qoi.specs.declared.decode.pixel_reader.pieces.Pieces.{Pieces}
+use Rattle.qoi.specs.declared.decode.pixel_reader.unread.Unread.{Unread}
 use Rattle.qoi.specs.Qoi.{Past, chunk_bytes, then_chunks, meaning, channels_number, pixel_count}
 use Rattle.qoi.specs.Raw.{IsChannels, pixel_bytes, output}
 use Rattle.qoi.specs.Images.{front_image}
 use Rattle.qoi.specs.DecoderState.{TakesAtMost}
-use Rattle.qoi.specs.pieces.ReaderPieces.{kept_raw, AreWhole, GivesPieces}
+use Rattle.qoi.specs.pieces.Unread.{kept_raw, AreWhole, IsUnread}
 use Rattle.qoi.proofs.format.ChunkSteps.{given as pixels_after, then_chunks_given, then_chunks-append}
 use Rattle.qoi.proofs.decoding.Ahead.{image_read}
 use Rattle.qoi.proofs.decoding.FrontImage.{image_begins, image_is}
@@ -25,9 +25,9 @@ seam : {A : Type 0} (xs ys zs : List A) → zs ≡ xs ++ ys → xs ≡ take (len
 seam xs ys zs e = sym (ap (take (length xs)) e ∙ take-append_seam xs ys)
 
 -- for n pixels at most 5n + 8 bytes were taken
-pub pieces_within : (f c n : ℕ) (start now : Option (List ℕ)) (given : List ℕ) (p : Pieces) → IsChannels c → GivesPieces f c n start now given p → AreWhole c p
+pub unread_within : (f c n : ℕ) (start now : Option (List ℕ)) (given : List ℕ) (p : Unread) → IsChannels c → IsUnread f c n start now given p → AreWhole c p
     → TakesAtMost (5 * n + 8) start now
-pieces_within f c n start now given p is h whole =
+unread_within f c n start now given p is h whole =
     elim (cases_lt 0 p.undecoded) [
       | inl some ↦
           let so_far = still_goes p is h whole some in
@@ -47,8 +47,8 @@ more_pixels n cs more gone is few =
     ap (take n) all ∙ ap (λ k. take k (reverse gone ++ pixels_after gone more)) count ∙ take-append-add (reverse gone) (pixels_after gone more) (n - length gone)
 
 -- the pieces so far are the beginning of the image
-pub front_given : (channels : Channels) (h : Header) (start now : Option (List ℕ)) (given : List ℕ) (p : Pieces)
-    → GivesPieces (channels_number h.channels) (channels_number channels) (pixel_count h) start now given p → AreWhole (channels_number channels) p
+pub front_given : (channels : Channels) (h : Header) (start now : Option (List ℕ)) (given : List ℕ) (p : Unread)
+    → IsUnread (channels_number h.channels) (channels_number channels) (pixel_count h) start now given p → AreWhole (channels_number channels) p
     → IfSome start (λ bytes. given ≡ take (length given) (front_image channels h bytes))
 front_given channels h None now given p s whole = tt
 front_given channels h (Some bytes) now given p s whole =
@@ -58,7 +58,7 @@ front_given channels h (Some bytes) now given p s whole =
           seam given (kept_raw p) _ (sym (image_is channels h bytes read.0 (given ++ kept_raw p) read.2))
     ]
   where
-    going : (now : Option (List ℕ)) (given : List ℕ) (p : Pieces) → GivesPieces (channels_number h.channels) (channels_number channels) (pixel_count h) (Some bytes) now given p
+    going : (now : Option (List ℕ)) (given : List ℕ) (p : Unread) → IsUnread (channels_number h.channels) (channels_number channels) (pixel_count h) (Some bytes) now given p
         → AreWhole (channels_number channels) p → 0 < p.undecoded → given ≡ take (length given) (front_image channels h bytes)
     going None given p s whole some = let (gone, stands, e) = s.goes_on some in absurd stands.taken
     going (Some left) given p s whole some =

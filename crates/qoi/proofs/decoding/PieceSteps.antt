@@ -1,4 +1,4 @@
--- A piece more: what stands between two pieces, before and after chunks are decoded.
+-- A piece more: what is unread, before and after chunks are decoded.
 use Rattle.std.proofs.Common.{◌≡◌, ℕ, ◌+◌, ◌-◌, ◌*◌, ◌/◌, ◌%◌, ◌<◌, ◌≤◌, List, [], ◌∷◌, ◌++◌, length, take, drop, replicate, reverse, min, inl, inr, Option, arith, refl, sym, ap, ◌∙◌, subst, append_assoc, append-nil, length-append}
 use Rattle.std.specs.Io.KnownBytes.{Consumes}
 use Rattle.std.proofs.KnownBytes.{Consumes-trans}
@@ -9,14 +9,14 @@ use borrow.Rule.Slice.PartMut.{put_mid}
 use Rattle.std.proofs.lemmas.Grind.{flat_map-append}
 use Rattle.qoi.specs.declared.chunk.Chunk.{Chunk}
 use Rattle.qoi.specs.declared.decode.in_place.InPlace.{InPlace}
-use Rattle.qoi.specs.declared.decode.pixel_reader.pieces.Pieces.{Pieces}
+use Rattle.qoi.specs.declared.decode.pixel_reader.unread.Unread.{Unread}
 use Rattle.qoi.specs.Qoi.{Past, RgbaPixel, Each, AreChunks, chunk_bytes, end_marker, pixel_after, times, then_chunk, then_chunks}
 use Rattle.qoi.specs.Raw.{IsChannels, pixel_bytes, output}
 use Rattle.qoi.specs.Decoding.{TakesImagePixels, ReadsImage}
 use Rattle.qoi.specs.inner.Filling.{HasSeen, HasWritten, IsFillable, upto, filling, DecoderBetween}
 use Rattle.qoi.specs.inner.Hashed.{pixel_of_lanes}
 use Rattle.qoi.specs.pieces.InPlace.{TakesPiece, IsInPlace}
-use Rattle.qoi.specs.pieces.ReaderPieces.{kept_raw, bytes_left, copies, KeepsWithin, KeepsNothing, AreWhole, DecoderAfter, GivesPieces}
+use Rattle.qoi.specs.pieces.Unread.{kept_raw, bytes_left, copies, KeepsWithin, KeepsNothing, AreWhole, DecoderAfter, IsUnread}
 use Rattle.qoi.proofs.format.ChunkSteps.{times_some, reverse-replicate}
 use Rattle.qoi.proofs.format.WholePixels.{by_channels, whole_pixels, length-output, take_whole}
 use Rattle.qoi.proofs.decoding.Progress.{fewer, none_written, fillable_whole}
@@ -84,7 +84,7 @@ output_copies f c k p past =
     ∙ flat_map-append (pixel_bytes f c) (reverse past) (replicate k p)
 
 -- with nothing kept, what was given are the pixels that are gone
-pub none_kept : (p : Pieces) (given : List ℕ) → p.from ≡ p.to → given ++ kept_raw p ≡ given
+pub none_kept : (p : Unread) (given : List ℕ) → p.from ≡ p.to → given ++ kept_raw p ≡ given
 none_kept p given same =
     let none : p.to - p.from ≡ 0 = omega (arith, same) in
     ap (λ k. given ++ take k (drop p.from p.bytes)) none ∙ append-nil given
@@ -154,13 +154,13 @@ whole_times : (c size : ℕ) → IsChannels c → size / c * c ≡ c * (size / c
 whole_times c size is = by_channels (λ k. size / k * k ≡ k * (size / k)) is (omega arith) (omega arith)
 
 -- an output that is lent with nothing kept, and `at` bytes of a run at its front
-pub record Lent (f c n m : ℕ) (start old : Option (List ℕ)) (given : List ℕ) (p : Pieces) (out : List ℕ) (at : ℕ) : Type 0 where
+pub record Lent (f c n m : ℕ) (start old : Option (List ℕ)) (given : List ℕ) (p : Unread) (out : List ℕ) (at : ℕ) : Type 0 where
   pub gone : Past
   pub before : DecoderBetween f c gone m (Consumes start old) (filling p.table p.last out at)
   pub so_far : given ≡ output f c (reverse gone)
   pub most : length gone + m ≤ n
 
-pub lent : {f c n : ℕ} {start old : Option (List ℕ)} {given : List ℕ} {p : Pieces} (m : ℕ) (out : List ℕ) → IsChannels c → GivesPieces f c n start old given p
+pub lent : {f c n : ℕ} {start old : Option (List ℕ)} {given : List ℕ} {p : Unread} (m : ℕ) (out : List ℕ) → IsChannels c → IsUnread f c n start old given p
     → KeepsNothing p → 0 < p.undecoded → length out ≡ c * m → length out ≤ p.undecoded → Lent f c n m start old given p out 0
 lent {f} {c} {n} {start} {old} {given} {p} m out is h none some size fits =
     let (gone, stands, all) = h.goes_on some in
@@ -204,8 +204,8 @@ begun {f} {c} {gone} {Taken} {table} {last} m run before out is s size whole fit
     least : (m k : ℕ) → k ≤ m → min m k ≡ k
     least m k le = omega (arith, le)
 
--- the same between two pieces
-pub run_lent : {f c n : ℕ} {start old : Option (List ℕ)} {given : List ℕ} (p : Pieces) (m : ℕ) (before out : List ℕ) → IsChannels c → GivesPieces f c n start old given p
+-- the same of what is unread
+pub run_lent : {f c n : ℕ} {start old : Option (List ℕ)} {given : List ℕ} (p : Unread) (m : ℕ) (before out : List ℕ) → IsChannels c → IsUnread f c n start old given p
     → p.from ≡ p.to → AreWhole c p → 256 ≤ length out → length out ≡ c * m → length out + 256 ≤ p.undecoded
     → HasWritten f c (upto before 0) (upto out (0 + c * (p.run / c))) (replicate (p.run / c) (pixel_of_lanes p.last)) → Lent f c n m start old given p out p.run
 run_lent {f} {c} {n} {start} {old} {given} p m before out is h same whole long size fits written =
@@ -220,7 +220,7 @@ run_lent {f} {c} {n} {start} {old} {given} p m before out is h same whole long s
     }
 
 -- the same in the whole pixels of an output, of which so many bytes are lent
-pub piece_lent : {f c n : ℕ} {start old : Option (List ℕ)} {given : List ℕ} (p : Pieces) (before out : List ℕ) → IsChannels c → GivesPieces f c n start old given p
+pub piece_lent : {f c n : ℕ} {start old : Option (List ℕ)} {given : List ℕ} (p : Unread) (before out : List ℕ) → IsChannels c → IsUnread f c n start old given p
     → p.from ≡ p.to → AreWhole c p → 512 ≤ length before → length before + 256 ≤ p.undecoded → length out ≡ length before
     → HasWritten f c (upto before 0) (upto out (0 + c * (p.run / c))) (replicate (p.run / c) (pixel_of_lanes p.last))
     → Lent f c n (length before / c) start old given p (take (length before / c * c) out) p.run
@@ -234,10 +234,10 @@ piece_lent {c = c} p before out is h same whole long fits same_size written =
     (front_run before out (0 + c * (p.run / c)) size run written)
 
 -- the rest of a run is kept
-pub run_kept : {f c n : ℕ} {start now : Option (List ℕ)} {given : List ℕ} (p : Pieces) (bytes : List ℕ) → IsChannels c → GivesPieces f c n start now given p
+pub run_kept : {f c n : ℕ} {start now : Option (List ℕ)} {given : List ℕ} (p : Unread) (bytes : List ℕ) → IsChannels c → IsUnread f c n start now given p
     → p.from ≡ p.to → 0 < p.run → AreWhole c p → 256 ≤ length bytes
     → HasWritten f c (upto p.bytes 0) (upto bytes (0 + c * (p.run / c))) (replicate (p.run / c) (pixel_of_lanes p.last))
-    → GivesPieces f c n start now given (record { table = p.table; last = p.last; bytes = bytes; from = 0; to = p.run; run = 0; undecoded = p.undecoded - p.run })
+    → IsUnread f c n start now given (record p { bytes = bytes; from = 0; to = p.run; run = 0; undecoded = p.undecoded - p.run })
 run_kept {f} {c} {n} {start} {now} {given} p bytes is h same some whole room written =
     let fits : p.run < p.undecoded = whole.3 some in
     let (gone, stands, all) = h.goes_on (omega (arith, fits)) in
@@ -269,7 +269,7 @@ front_most c out is =
     (omega (arith, size, within), omega (arith, size, near))
 
 -- the whole pixels at the front of an output are lent
-pub front_lent : {f c n : ℕ} {start old : Option (List ℕ)} {given : List ℕ} (p : Pieces) (out : List ℕ) → IsChannels c → GivesPieces f c n start old given p
+pub front_lent : {f c n : ℕ} {start old : Option (List ℕ)} {given : List ℕ} (p : Unread) (out : List ℕ) → IsChannels c → IsUnread f c n start old given p
     → KeepsNothing p → length out ≤ bytes_left p → 0 < length out
     → Lent f c n (length out / c) start old given p (take (length out / c * c) out) 0
 front_lent {c = c} p out is h none fits some =
@@ -281,14 +281,14 @@ pub moved_size : (g k l u a t : ℕ) → g + (l + u) ≡ t → a ≤ u → k ≡
 moved_size g k l u a t e le same = omega arith
 
 -- chunks were decoded into what was lent
-pub long_read : {f c n m : ℕ} {start old new : Option (List ℕ)} {given : List ℕ} {p : Pieces} {out : List ℕ} {table : List ℕ} {last : ℕ}
-    (now rest : List ℕ) (at : ℕ) → IsChannels c → GivesPieces f c n start old given p → KeepsNothing p → (l : Lent f c n m start old given p out 0)
+pub long_read : {f c n m : ℕ} {start old new : Option (List ℕ)} {given : List ℕ} {p : Unread} {out : List ℕ} {table : List ℕ} {last : ℕ}
+    (now rest : List ℕ) (at : ℕ) → IsChannels c → IsUnread f c n start old given p → KeepsNothing p → (l : Lent f c n m start old given p out 0)
     → DecoderBetween f c l.gone m (Consumes start new) (filling table last now at) → at < length now → length now ≤ p.undecoded
-    → GivesPieces f c n start new (given ++ take at (now ++ rest)) (record { table = table; last = last; bytes = p.bytes; from = p.from; to = p.to; run = p.run; undecoded = p.undecoded - at })
+    → IsUnread f c n start new (given ++ take at (now ++ rest)) (record p { table = table; last = last; undecoded = p.undecoded - at })
 long_read {f} {c} {n} {m} {start} {old} {new} {given} {p} {out} {table} {last} now rest at is h same l after inside fits =
     let (all, stands, e) = closes given now at is after inside l.so_far in
     let front : take at (now ++ rest) ≡ take at now = take-append-le at now rest (omega (arith, inside)) in
-    let then : Pieces = record { table = table; last = last; bytes = p.bytes; from = p.from; to = p.to; run = p.run; undecoded = p.undecoded - at } in
+    let then : Unread = record p { table = table; last = last; undecoded = p.undecoded - at } in
     let more = given ++ take at (now ++ rest) in
     let size : length more ≡ length given + at =
     length-append given (take at (now ++ rest)) ∙ ap (λ k. length given + k) (ap length front ∙ length-take-le at now (omega (arith, inside))) in
@@ -304,16 +304,16 @@ placed_most c before out is =
     omega (arith, length-take (length before / c * c) out, whole_within c (length before) is)
 
 -- a piece of what was lent was taken
-pub piece_read : {f c n m : ℕ} {start old new : Option (List ℕ)} {given : List ℕ} {p : Pieces} {out : List ℕ} {table : List ℕ}
-    (now rest : List ℕ) (placed : InPlace) → IsChannels c → GivesPieces f c n start old given p → p.from ≡ p.to → (l : Lent f c n m start old given p out p.run)
+pub piece_read : {f c n m : ℕ} {start old new : Option (List ℕ)} {given : List ℕ} {p : Unread} {out : List ℕ} {table : List ℕ}
+    (now rest : List ℕ) (placed : InPlace) → IsChannels c → IsUnread f c n start old given p → p.from ≡ p.to → (l : Lent f c n m start old given p out p.run)
     → TakesPiece f c l.gone (Consumes start new) table now placed → IsInPlace c (length now) placed → length now + 256 ≤ p.undecoded
-    → GivesPieces f c n start new (given ++ take placed.at (now ++ rest))
-    (record { table = table; last = placed.last; bytes = p.bytes; from = p.from; to = p.to; run = placed.run; undecoded = p.undecoded - placed.at })
+    → IsUnread f c n start new (given ++ take placed.at (now ++ rest))
+    (record p { table = table; last = placed.last; run = placed.run; undecoded = p.undecoded - placed.at })
 piece_read {f} {c} {n} {m} {start} {old} {new} {given} {p} {out} {table} now rest placed is h same l t sizes fits =
     let at = placed.at in
     let inside = sizes.within in
     let front : take at (now ++ rest) ≡ take at now = take-append-le at now rest inside in
-    let then : Pieces = record { table = table; last = placed.last; bytes = p.bytes; from = p.from; to = p.to; run = placed.run; undecoded = p.undecoded - at } in
+    let then : Unread = record p { table = table; last = placed.last; run = placed.run; undecoded = p.undecoded - at } in
     let more = given ++ take at (now ++ rest) in
     let size : length more ≡ length given + at = length-append given (take at (now ++ rest)) ∙ ap (λ k. length given + k) (ap length front ∙ length-take-le at now inside) in
     record {
@@ -323,10 +323,10 @@ piece_read {f} {c} {n} {m} {start} {old} {new} {given} {p} {out} {table} now res
     }
 
 -- chunks were decoded into the front of what is kept
-pub kept_read : {f c n m : ℕ} {start old new : Option (List ℕ)} {given : List ℕ} {p : Pieces} {out : List ℕ} {table : List ℕ} {last : ℕ}
-    (now rest : List ℕ) (at : ℕ) → IsChannels c → GivesPieces f c n start old given p → KeepsNothing p → (l : Lent f c n m start old given p out 0)
+pub kept_read : {f c n m : ℕ} {start old new : Option (List ℕ)} {given : List ℕ} {p : Unread} {out : List ℕ} {table : List ℕ} {last : ℕ}
+    (now rest : List ℕ) (at : ℕ) → IsChannels c → IsUnread f c n start old given p → KeepsNothing p → (l : Lent f c n m start old given p out 0)
     → DecoderBetween f c l.gone m (Consumes start new) (filling table last now at) → at < length now → length now < p.undecoded
-    → GivesPieces f c n start new given (record { table = table; last = last; bytes = now ++ rest; from = 0; to = at; run = p.run; undecoded = p.undecoded - at })
+    → IsUnread f c n start new given (record p { table = table; last = last; bytes = now ++ rest; from = 0; to = at; undecoded = p.undecoded - at })
 kept_read {f} {c} {n} {m} {start} {old} {new} {given} {p} {out} {table} {last} now rest at is h same l after inside fits =
     let (all, stands, e) = closes given now at is after inside l.so_far in
     record {
@@ -336,17 +336,17 @@ kept_read {f} {c} {n} {m} {start} {old} {new} {given} {p} {out} {table} {last} n
     }
 
 -- the rest of the image are the pixels that are missing
-pub rest_count : {f c n m : ℕ} {start old : Option (List ℕ)} {given : List ℕ} {p : Pieces} {out : List ℕ} → IsChannels c → GivesPieces f c n start old given p
+pub rest_count : {f c n m : ℕ} {start old : Option (List ℕ)} {given : List ℕ} {p : Unread} {out : List ℕ} → IsChannels c → IsUnread f c n start old given p
     → KeepsNothing p → (l : Lent f c n m start old given p out 0) → p.undecoded ≡ c * m → length l.gone + m ≡ n
 rest_count {f} {c} {n} {m} {start} {old} {given} {p} is h same l all =
     gone_count f c n m l.gone given p.undecoded is l.so_far (only_undecoded (length given) (p.to - p.from) p.undecoded (c * n) (omega (arith, same)) h.size) all
 
 -- the rest of the image was decoded and is kept, and the end marker was taken
-pub rest_read : {f c n m : ℕ} {start old new : Option (List ℕ)} {given : List ℕ} {p : Pieces} {out : List ℕ} {table : List ℕ} {last : ℕ}
-    (now : List ℕ) → IsChannels c → GivesPieces f c n start old given p → KeepsNothing p → (l : Lent f c n m start old given p out 0)
+pub rest_read : {f c n m : ℕ} {start old new : Option (List ℕ)} {given : List ℕ} {p : Unread} {out : List ℕ} {table : List ℕ} {last : ℕ}
+    (now : List ℕ) → IsChannels c → IsUnread f c n start old given p → KeepsNothing p → (l : Lent f c n m start old given p out 0)
     → ReadsImage f c (length l.gone + m) start new (output f c (reverse l.gone) ++ take p.undecoded now)
     → p.undecoded ≤ length now → p.undecoded ≡ c * m
-    → GivesPieces f c n start new given (record { table = table; last = last; bytes = now; from = 0; to = p.undecoded; run = p.run; undecoded = 0 })
+    → IsUnread f c n start new given (record p { table = table; last = last; bytes = now; from = 0; to = p.undecoded; undecoded = 0 })
 rest_read {f} {c} {n} {m} {start} {old} {new} {given} {p} {out} {table} {last} now is h same l read fits all =
     let none : p.to - p.from ≡ 0 = omega (arith, same) in
     let count : length l.gone + m ≡ n = rest_count is h same l all in
@@ -361,7 +361,7 @@ rest_read {f} {c} {n} {m} {start} {old} {new} {given} {p} {out} {table} {last} n
     rest_size g l u t none e = omega arith
 
 -- the rest of the image are whole pixels
-pub rest_whole : {f c n : ℕ} {start now : Option (List ℕ)} {given : List ℕ} {p : Pieces} → IsChannels c → GivesPieces f c n start now given p → p.from ≡ p.to
+pub rest_whole : {f c n : ℕ} {start now : Option (List ℕ)} {given : List ℕ} {p : Unread} → IsChannels c → IsUnread f c n start now given p → p.from ≡ p.to
     → 0 < p.undecoded → p.undecoded ≡ c * (p.undecoded / c)
 rest_whole {f} {c} {n} {start} {now} {given} {p} is h same some =
     let (gone, stands, all) = h.goes_on some in
@@ -370,10 +370,10 @@ rest_whole {f} {c} {n} {start} {now} {given} {p} is h same some =
     (λ a b. omega (arith, same)) (λ a b. omega (arith, same)) size h.size
 
 -- kept bytes were given
-pub gives : {f c n : ℕ} {start now : Option (List ℕ)} {given : List ℕ} (p new : Pieces) (k : ℕ) → new ≡ record p { from = p.from + k } → k ≤ p.to - p.from
-    → KeepsWithin p → GivesPieces f c n start now given p → GivesPieces f c n start now (given ++ take k (kept_raw p)) new
+pub gives : {f c n : ℕ} {start now : Option (List ℕ)} {given : List ℕ} (p new : Unread) (k : ℕ) → new ≡ record p { from = p.from + k } → k ≤ p.to - p.from
+    → KeepsWithin p → IsUnread f c n start now given p → IsUnread f c n start now (given ++ take k (kept_raw p)) new
 gives {f} {c} {n} {start} {now} {given} p new k is few within h =
-    let then : Pieces = record p { from = p.from + k } in
+    let then : Unread = record p { from = p.from + k } in
     let rest = drop p.from p.bytes in
     let m = p.to - (p.from + k) in
     let parts : p.to - p.from ≡ k + m = omega (arith, few) in
@@ -383,7 +383,7 @@ gives {f} {c} {n} {start} {now} {given} p new k is few within h =
     ∙ sym (take-add k m rest) ∙ ap (λ i. take i rest) (sym parts) in
     let all : (given ++ take k (kept_raw p)) ++ kept_raw then ≡ given ++ kept_raw p = append_assoc given (take k (kept_raw p)) (kept_raw then) ∙ ap (λ z. given ++ z) whole in
     let long : length (take k (kept_raw p)) ≡ k = length-take-le k (kept_raw p) (omega (arith, few, length-take-le (p.to - p.from) rest (omega (arith, within, length-drop p.from p.bytes)))) in
-    subst (GivesPieces f c n start now (given ++ take k (kept_raw p))) (sym is) (record {
+    subst (IsUnread f c n start now (given ++ take k (kept_raw p))) (sym is) (record {
       size = ap (λ z. z + (m + p.undecoded)) (length-append given (take k (kept_raw p)) ∙ ap (λ z. length given + z) long) ∙ given_size (length given) k (p.to - p.from) m p.undecoded (c * n) parts h.size;
       goes_on = λ some. let (gone, stands, e) = h.goes_on some in (gone, stands, all ∙ e);
       ends = λ none. subst (ReadsImage f c n start now) (sym all) (h.ends none);
@@ -393,11 +393,10 @@ gives {f} {c} {n} {start} {now} {given} p new k is few within h =
     given_size g k l m u t parts e = omega arith
 
 -- how many bytes are kept
-pub kept_long : (p : Pieces) → KeepsWithin p → length (kept_raw p) ≡ p.to - p.from
+pub kept_long : (p : Unread) → KeepsWithin p → length (kept_raw p) ≡ p.to - p.from
 kept_long p within = length-take-le (p.to - p.from) (drop p.from p.bytes) (omega (arith, within, length-drop p.from p.bytes))
 
--- between two pieces, of an image that isn't decoded whole: the pixels of its chunks so far, and others
--- are missing
+-- of an image that isn't decoded whole: the pixels of its chunks so far, and others are missing
 pub record GoesOn (f c n : ℕ) (Taken : List ℕ → Type 0) (table : List ℕ) (last : ℕ) (given : List ℕ) : Type 0 where
   pub all : Past
   pub stands : DecoderAfter Taken table last all
@@ -406,14 +405,14 @@ pub record GoesOn (f c n : ℕ) (Taken : List ℕ → Type 0) (table : List ℕ)
   pub fewer : length all < n
 
 -- no more bytes are kept
-pub kept_most : (p : Pieces) → length (kept_raw p) ≤ p.to - p.from
+pub kept_most : (p : Unread) → length (kept_raw p) ≤ p.to - p.from
 kept_most p = omega (arith, length-take (p.to - p.from) (drop p.from p.bytes))
 
 -- pixels are missing behind a run
-run_short : (c : ℕ) (p : Pieces) → AreWhole c p → 0 < p.undecoded → p.run < p.undecoded
+run_short : (c : ℕ) (p : Unread) → AreWhole c p → 0 < p.undecoded → p.run < p.undecoded
 run_short c p whole some = elim (cases_lt 0 p.run) [ inl run ↦ whole.3 run | inr none ↦ omega (arith, none, some) ]
 
-pub still_goes : {f c n : ℕ} {start now : Option (List ℕ)} {given : List ℕ} (p : Pieces) → IsChannels c → GivesPieces f c n start now given p → AreWhole c p → 0 < p.undecoded
+pub still_goes : {f c n : ℕ} {start now : Option (List ℕ)} {given : List ℕ} (p : Unread) → IsChannels c → IsUnread f c n start now given p → AreWhole c p → 0 < p.undecoded
     → GoesOn f c n (Consumes start now) p.table p.last given
 still_goes {f} {c} {n} {start} {now} {given} p is h whole some =
     let (gone, stands, e) = h.goes_on some in

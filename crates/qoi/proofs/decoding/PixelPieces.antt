@@ -6,15 +6,15 @@ use Rattle.qoi.specs.declared.error.Error.{Error}
 use Rattle.qoi.specs.declared.header.Header.{Header}
 use Rattle.qoi.specs.declared.types.Channels.{Channels}
 use Rattle.qoi.specs.declared.types.Channels.TheVariants.{Rgb, Rgba}
-use Rattle.qoi.specs.declared.decode.pixel_reader.pieces.Pieces.{Pieces}
+use Rattle.qoi.specs.declared.decode.pixel_reader.unread.Unread.{Unread}
 use Rattle.qoi.specs.Qoi.{channels_number, pixel_count, IsValid}
 use Rattle.qoi.specs.Raw.{byte_count}
 use Rattle.qoi.specs.Decoding.{ReadsImage}
 use Rattle.qoi.specs.DecoderState.{DecoderState, output_byte_count}
 use Rattle.qoi.specs.pieces.PixelReader.{PixelsState, pixels_left, HasGiven, RefusesPixels}
 use Rattle.qoi.specs.inner.Chunks.{RefusesChunks}
-use Rattle.qoi.specs.pieces.ReaderPieces.{bytes_left, KeepsPixels, GivesPieces}
-use Rattle.qoi.proofs.decoding.PieceFront.{front_given, pieces_within}
+use Rattle.qoi.specs.pieces.Unread.{bytes_left, KeepsPixels, IsUnread}
+use Rattle.qoi.proofs.decoding.PieceFront.{front_given, unread_within}
 use Rattle.qoi.proofs.decoding.PieceSteps.{none_kept}
 use Rattle.qoi.proofs.decoding.ImageSize.{channels_are}
 use Rattle.qoi.proofs.decoding.Promised.{has_decoded, has_refused}
@@ -26,23 +26,23 @@ byte_bounds h Rgba valid = (omega (arith, valid), omega (arith, valid))
 
 -- what was given
 pub has_given : {R : Type 0} (d : DecoderState R) (start now : Option (List ℕ)) (given : List ℕ) (p : PixelsState R)
-    → GivesPieces (channels_number d.header.channels) (channels_number d.channels) (pixel_count d.header) start now given p.pieces
-    → KeepsPixels (channels_number d.channels) p.pieces → p.header ≡ d.header → p.channels ≡ d.channels → p.refused ≡ false → 3 ≤ output_byte_count d → HasGiven d start now given p
+    → IsUnread (channels_number d.header.channels) (channels_number d.channels) (pixel_count d.header) start now given p.unread
+    → KeepsPixels (channels_number d.channels) p.unread → p.header ≡ d.header → p.channels ≡ d.channels → p.refused ≡ false → 3 ≤ output_byte_count d → HasGiven d start now given p
 unfolding pixels_left HasGiven
 has_given d start now given p h pixels same chosen going some =
     let n = pixel_count d.header in
     let k = channels_number d.channels in
-    let all : length given + bytes_left p.pieces ≡ output_byte_count d = h.size ∙ mul_comm k n in
+    let all : length given + bytes_left p.unread ≡ output_byte_count d = h.size ∙ mul_comm k n in
     record {
       going = going;
-      pieces = h;
+      unread = h;
       header = same;
       channels = chosen;
       left = all;
-      within = pieces_within (channels_number d.header.channels) k n start now given p.pieces (channels_are d.channels k refl) h pixels.1;
-      front = front_given d.channels d.header start now given p.pieces h pixels.1;
+      within = unread_within (channels_number d.header.channels) k n start now given p.unread (channels_are d.channels k refl) h pixels.1;
+      front = front_given d.channels d.header start now given p.unread h pixels.1;
       whole = λ none.
-          let q = p.pieces in
+          let q = p.unread in
           let empty : q.from ≡ q.to = omega (arith, none, pixels.0) in
           has_decoded d start now given (omega (arith, all, none), omega (arith, all, none, some))
           (subst (ReadsImage (channels_number d.header.channels) k n start now) (none_kept q given empty) (h.ends (omega (arith, none))));
@@ -55,16 +55,16 @@ refuses_pixels true d start now e why = has_refused true d start start e (Keeps-
 refuses_pixels false d start now e why = has_refused false d start now e why
 
 -- the same of values that are equal
-pub pieces_as : {n : ℕ} {start : Option (List ℕ)} {given : List ℕ} {f g c k : ℕ} {now other : Option (List ℕ)} {p q : Pieces} → f ≡ g → c ≡ k → now ≡ other → p ≡ q
-    → GivesPieces g k n start other given q → GivesPieces f c n start now given p
-pieces_as {n} {start} {given} {f} {g} {c} {k} {now} {other} {p} {q} file channels ahead pieces h =
-    subst (λ z. GivesPieces z c n start now given p) (sym file)
-    (subst (λ z. GivesPieces g z n start now given p) (sym channels)
-    (subst (λ z. GivesPieces g k n start z given p) (sym ahead)
-    (subst (λ z. GivesPieces g k n start other given z) (sym pieces) h)))
+pub unread_as : {n : ℕ} {start : Option (List ℕ)} {given : List ℕ} {f g c k : ℕ} {now other : Option (List ℕ)} {p q : Unread} → f ≡ g → c ≡ k → now ≡ other → p ≡ q
+    → IsUnread g k n start other given q → IsUnread f c n start now given p
+unread_as {n} {start} {given} {f} {g} {c} {k} {now} {other} {p} {q} file channels ahead unread h =
+    subst (λ z. IsUnread z c n start now given p) (sym file)
+    (subst (λ z. IsUnread g z n start now given p) (sym channels)
+    (subst (λ z. IsUnread g k n start z given p) (sym ahead)
+    (subst (λ z. IsUnread g k n start other given z) (sym unread) h)))
 
 -- three channels of a file of four
-pub three_of_four : {n : ℕ} {start now : Option (List ℕ)} {given : List ℕ} {p : Pieces} → GivesPieces 4 3 n start now given p → GivesPieces 3 3 n start now given p
+pub three_of_four : {n : ℕ} {start now : Option (List ℕ)} {given : List ℕ} {p : Unread} → IsUnread 4 3 n start now given p → IsUnread 3 3 n start now given p
 three_of_four h = record {
   size = h.size;
   goes_on = λ some. let (gone, stands, e) = h.goes_on some in (gone, stands, e);
@@ -72,7 +72,7 @@ three_of_four h = record {
 }
 
 -- and back
-pub four_as_three : {n : ℕ} {start now : Option (List ℕ)} {given : List ℕ} {p : Pieces} → GivesPieces 3 3 n start now given p → GivesPieces 4 3 n start now given p
+pub four_as_three : {n : ℕ} {start now : Option (List ℕ)} {given : List ℕ} {p : Unread} → IsUnread 3 3 n start now given p → IsUnread 4 3 n start now given p
 four_as_three h = record {
   size = h.size;
   goes_on = λ some. let (gone, stands, e) = h.goes_on some in (gone, stands, e);
@@ -80,9 +80,9 @@ four_as_three h = record {
 }
 
 -- the same of equal headers and channels
-pub pieces_of : {start : Option (List ℕ)} {given : List ℕ} {h g : Header} {c k : Channels} {now other : Option (List ℕ)} {p q : Pieces} → h ≡ g → c ≡ k → now ≡ other → p ≡ q
-    → GivesPieces (channels_number g.channels) (channels_number k) (pixel_count g) start other given q
-    → GivesPieces (channels_number h.channels) (channels_number c) (pixel_count h) start now given p
-pieces_of {start} {given} {h} {g} {c} {k} {now} {other} {p} {q} header channels ahead pieces x =
-    subst (λ z. GivesPieces (channels_number z.channels) (channels_number c) (pixel_count z) start now given p) (sym header)
-    (pieces_as refl (ap channels_number channels) ahead pieces x)
+pub unread_of : {start : Option (List ℕ)} {given : List ℕ} {h g : Header} {c k : Channels} {now other : Option (List ℕ)} {p q : Unread} → h ≡ g → c ≡ k → now ≡ other → p ≡ q
+    → IsUnread (channels_number g.channels) (channels_number k) (pixel_count g) start other given q
+    → IsUnread (channels_number h.channels) (channels_number c) (pixel_count h) start now given p
+unread_of {start} {given} {h} {g} {c} {k} {now} {other} {p} {q} header channels ahead unread x =
+    subst (λ z. IsUnread (channels_number z.channels) (channels_number c) (pixel_count z) start now given p) (sym header)
+    (unread_as refl (ap channels_number channels) ahead unread x)

@@ -9,7 +9,7 @@ use Rattle.qoi.specs.Qoi.{RgbaPixel, previous, channels_number, pixel_count, hea
 use Rattle.qoi.specs.Raw.{IsChannels, output}
 use Rattle.qoi.specs.inner.Hashed.{pixel_of_lanes, HoldsSeen}
 use Rattle.qoi.specs.pieces.PixelReader.{PixelsState, pixels_left, HasGiven}
-use Rattle.qoi.specs.pieces.ReaderPieces.{kept_raw, copies, DecoderAfter, GivesPieces}
+use Rattle.qoi.specs.pieces.Unread.{kept_raw, copies, DecoderAfter, IsUnread}
 use Rattle.qoi.specs.pieces.RowIndex.{PlaceState, StandsAt, ReadsFile, IsPlaceOf, GoesOnAt, file_decoder}
 use Rattle.qoi.proofs.format.HeaderBytes.{header_front}
 use Rattle.qoi.proofs.format.WholePixels.{by_channels, whole_pixels, length-output}
@@ -34,13 +34,13 @@ place_stands channels h file p m s (is, given, r) =
     let f = channels_number h.channels in
     let is_c = channels_are channels c refl in
     let own : channels_number p.channels ≡ c = ap channels_number r.channels in
-    let (gone, stands, so_far) = r.pieces.goes_on s.some in
-    let run : m.run ≡ p.pieces.run / c = s.run ∙ ap (λ k. p.pieces.run / k) own in
-    let left : m.left ≡ p.pieces.undecoded / c = s.left ∙ ap (λ k. p.pieces.undecoded / k) own in
-    let whole : p.pieces.undecoded % c ≡ 0 = ap (λ k. p.pieces.undecoded % k) (sym own) ∙ s.whole in
-    let some : p.pieces.undecoded ≡ c * m.left = whole_pixels c p.pieces.undecoded is_c whole ∙ ap (λ k. c * k) (sym left) in
-    let size : length (given ++ kept_raw p.pieces) + p.pieces.undecoded ≡ c * pixel_count h =
-    omega (arith, r.pieces.size, length-append given (kept_raw p.pieces), kept_long p.pieces s.within) in
+    let (gone, stands, so_far) = r.unread.goes_on s.some in
+    let run : m.run ≡ p.unread.run / c = s.run ∙ ap (λ k. p.unread.run / k) own in
+    let left : m.left ≡ p.unread.undecoded / c = s.left ∙ ap (λ k. p.unread.undecoded / k) own in
+    let whole : p.unread.undecoded % c ≡ 0 = ap (λ k. p.unread.undecoded % k) (sym own) ∙ s.whole in
+    let some : p.unread.undecoded ≡ c * m.left = whole_pixels c p.unread.undecoded is_c whole ∙ ap (λ k. c * k) (sym left) in
+    let size : length (given ++ kept_raw p.unread) + p.unread.undecoded ≡ c * pixel_count h =
+    omega (arith, r.unread.size, length-append given (kept_raw p.unread), kept_long p.unread s.within) in
     record {
       cs = stands.cs;
       rest = p.reader;
@@ -48,10 +48,10 @@ place_stands channels h file p m s (is, given, r) =
       chunks = stands.chunks;
       split = stands.taken;
       at = omega (arith, s.at, header_fits file h is, length-drop header_size file, ap length stands.taken, length-append (chunk_bytes stands.cs) p.reader);
-      pixels = stands.pixels ∙ ap (λ z. z ++ gone) (sym (copies_of c p.pieces.run p.pieces.last m.run m.last run s.last));
-      table = s.table (then_chunks [] stands.cs) (subst (HoldsSeen p.pieces.table) (sym stands.pixels) stands.table_is);
+      pixels = stands.pixels ∙ ap (λ z. z ++ gone) (sym (copies_of c p.unread.run p.unread.last m.run m.last run s.last));
+      table = s.table (then_chunks [] stands.cs) (subst (HoldsSeen p.unread.table) (sym stands.pixels) stands.table_is);
       last = s.last ∙ stands.last_is ∙ ap previous (sym stands.pixels);
-      left = gone_count f c (pixel_count h) m.left gone (given ++ kept_raw p.pieces) p.pieces.undecoded is_c so_far size some;
+      left = gone_count f c (pixel_count h) m.left gone (given ++ kept_raw p.unread) p.unread.undecoded is_c so_far size some;
     }
 
 -- the bytes of all pixels are those before the place and behind it
@@ -86,24 +86,24 @@ place_resumes channels h file m q s is p =
     let start = Some (drop header_size file) in
     let given = output f c (reverse p.gone) in
     let reader : q.reader ≡ p.rest = s.reader ∙ rest_at file n m p in
-    let same : replicate m.run m.last ≡ copies c q.pieces.run q.pieces.last = copies_of c q.pieces.run q.pieces.last m.run m.last (run_back c m.run q.pieces.run is_c s.run) (sym s.last) in
-    let all : then_chunks [] p.cs ≡ copies c q.pieces.run q.pieces.last ++ p.gone = p.pixels ∙ ap (λ z. z ++ p.gone) same in
-    let after : DecoderAfter (Consumes start (Some q.reader)) q.pieces.table q.pieces.last (copies c q.pieces.run q.pieces.last ++ p.gone) = record {
+    let same : replicate m.run m.last ≡ copies c q.unread.run q.unread.last = copies_of c q.unread.run q.unread.last m.run m.last (run_back c m.run q.unread.run is_c s.run) (sym s.last) in
+    let all : then_chunks [] p.cs ≡ copies c q.unread.run q.unread.last ++ p.gone = p.pixels ∙ ap (λ z. z ++ p.gone) same in
+    let after : DecoderAfter (Consumes start (Some q.reader)) q.unread.table q.unread.last (copies c q.unread.run q.unread.last ++ p.gone) = record {
       cs = p.cs;
       chunks = p.chunks;
       pixels = all;
       taken = p.split ∙ ap (λ z. chunk_bytes p.cs ++ z) (sym reader);
-      table_is = subst (HoldsSeen q.pieces.table) all (s.table (then_chunks [] p.cs) p.table);
+      table_is = subst (HoldsSeen q.unread.table) all (s.table (then_chunks [] p.cs) p.table);
       last_is = s.last ∙ p.last ∙ ap previous all;
     } in
     let size : length given ≡ c * length p.gone = length-output f c (reverse p.gone) is_c ∙ ap (λ k. c * k) (length-reverse p.gone) in
-    let more : q.pieces.run < q.pieces.undecoded = fewer_bytes c m.run m.left q.pieces.run q.pieces.undecoded is_c s.run s.left s.behind in
-    let pieces : GivesPieces f c n start (Some q.reader) given q.pieces = record {
-      size = omega (arith, all_bytes c (length p.gone) m.left n (length given) q.pieces.undecoded is_c size s.left p.left, s.none);
-      goes_on = λ some. (p.gone, after, none_kept q.pieces given s.none);
+    let more : q.unread.run < q.unread.undecoded = fewer_bytes c m.run m.left q.unread.run q.unread.undecoded is_c s.run s.left s.behind in
+    let unread : IsUnread f c n start (Some q.reader) given q.unread = record {
+      size = omega (arith, all_bytes c (length p.gone) m.left n (length given) q.unread.undecoded is_c size s.left p.left, s.none);
+      goes_on = λ some. (p.gone, after, none_kept q.unread given s.none);
       ends = λ none. absurd (omega (arith, none, more));
     } in
-    (is, given, has_given (file_decoder channels h file) start (Some q.reader) given q pieces s.pixels s.header s.channels s.going (byte_bounds h channels s.valid).0)
+    (is, given, has_given (file_decoder channels h file) start (Some q.reader) given q unread s.pixels s.header s.channels s.going (byte_bounds h channels s.valid).0)
 
 -- the place stands in the file
 pub place_within : (h : Header) (file : List ℕ) (m : PlaceState) → header_of file ≡ Ok h → StandsAt (pixel_count h) file m → (m.at ≤ length file) × (m.left ≤ pixel_count h)

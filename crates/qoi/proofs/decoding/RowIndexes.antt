@@ -12,7 +12,7 @@ use Rattle.qoi.specs.Reading.{IsImage, StandsAhead}
 use Rattle.qoi.specs.Raw.{output}
 use Rattle.qoi.specs.Images.{file_image, image_by}
 use Rattle.qoi.specs.pieces.PixelReader.{PixelsState, pixels_left, HasGiven, HasRows, RefusesPixels}
-use Rattle.qoi.specs.pieces.RowIndex.{file_decoder, row_size, PlaceState, StandsAt, ArePlaces, ReadsFile, IsRowIndex}
+use Rattle.qoi.specs.pieces.RowIndex.{file_decoder, row_size, PlaceState, StandsAt, ArePlaces, ReadsFile, IsRowIndex, IsDecoderOf}
 use Rattle.qoi.proofs.format.HeaderBytes.{header_front, header_split}
 use Rattle.std.proofs.Math.Nat.{mul_assoc, mul_comm}
 use Rattle.std.proofs.lemmas.Nat.{mul-le}
@@ -43,6 +43,27 @@ all_left channels h d e file p made is same g =
     let header : d.header ≡ h = cc (made.header, is) in
     let all : pixels_left p ≡ output_byte_count e = sym (zero-add (pixels_left p)) ∙ g.left in
     all ∙ ap (λ (z : DecoderState (List ℕ)). output_byte_count z) same ∙ ap (λ (z : Header). pixel_count z * channels_number channels) header
+
+-- a decoder that was just made is that of the file, into any channels
+pub decoder_of : (channels : Channels) (d e : DecoderState (List ℕ)) (file : List ℕ) → HasHeader d (Some file) (Some d.reader) → e ≡ record d { channels = channels }
+    → IsDecoderOf file e
+decoder_of channels d e file made same =
+    let reader : d.reader ≡ drop header_size file = cc made.after in
+    let own : record d { channels = channels } ≡ file_decoder channels d.header file =
+    ap (λ (r : List ℕ). record { reader = r; header = d.header; channels = channels }) reader in
+    subst (IsDecoderOf file) (sym same) (made.header, own)
+
+-- and so is its reader
+pub reads_first : (d : DecoderState (List ℕ)) (file : List ℕ) (p : PixelsState (List ℕ)) → IsDecoderOf file d → HasGiven d (Some d.reader) (Some p.reader) [] p
+    → ReadsFile d.channels d.header file p
+unfolding ReadsFile
+reads_first d file p is g = (is.0, [], subst (λ (z : DecoderState (List ℕ)). HasGiven z (Some z.reader) (Some p.reader) [] p) is.1 g)
+
+-- of which nothing was read
+pub first_left : (d : DecoderState (List ℕ)) (p : PixelsState (List ℕ)) → HasGiven d (Some d.reader) (Some p.reader) [] p
+    → pixels_left p ≡ pixel_count d.header * channels_number d.channels
+unfolding HasGiven
+first_left d p g = sym (zero-add (pixels_left p)) ∙ g.left
 
 -- more was read
 pub reads_more : (channels : Channels) (h : Header) (file : List ℕ) (p q : PixelsState (List ℕ))

@@ -6,7 +6,7 @@ use Rattle.qoi.specs.declared.decode.one_chunk.Decoded.{Decoded}
 use Rattle.qoi.specs.Qoi.{Past, run_max}
 use Rattle.qoi.specs.Raw.{output}
 use Rattle.qoi.specs.inner.Filling.{Filling, DecoderBetween}
-use Rattle.qoi.specs.pieces.ReaderPieces.{copies, DecoderAfter}
+use Rattle.qoi.specs.pieces.Unread.{copies, DecoderAfter}
 
 -- Chunks were taken after those of the pixels that are gone, and the output up to where it stopped has
 -- the bytes of their pixels, but for what is left of a run.

@@ -3,20 +3,20 @@ use Rattle.std.specs.Prelude.{◌≡◌, ℕ, ◌+◌, ◌*◌, ◌<◌, List, l
 use Rattle.qoi.specs.declared.types.Channels.{Channels}
 use Rattle.qoi.specs.declared.error.Error.{Error}
 use Rattle.qoi.specs.declared.header.Header.{Header}
-use Rattle.qoi.specs.declared.decode.pixel_reader.pieces.Pieces.{Pieces}
+use Rattle.qoi.specs.declared.decode.pixel_reader.unread.Unread.{Unread}
 use Rattle.qoi.specs.Qoi.{channels_number, pixel_count, chunk_max, marker_size}
 use Rattle.qoi.specs.DecoderState.{DecoderState, output_byte_count, TakesAtMost}
 use Rattle.qoi.specs.Images.{front_image}
 use Rattle.qoi.specs.Decoded.{HasDecoded, HasRefused}
-use Rattle.qoi.specs.pieces.ReaderPieces.{GivesPieces, bytes_left}
+use Rattle.qoi.specs.pieces.Unread.{IsUnread, bytes_left}
 
--- the reader as it stands, the header of the file, the channels of the output, what stands between two
--- pieces, and whether the image was refused
+-- the reader as it stands, the header of the file, the channels of the output, what is unread of the image,
+-- and whether it was refused
 pub record PixelsState (R : Type 0) : Type 0 where
   pub reader : R
   pub header : Header
   pub channels : Channels
-  pub pieces : Pieces
+  pub unread : Unread
   pub refused : Bool
 
 -- the decoder as it stands
@@ -25,7 +25,7 @@ as_decoder p = record { reader = p.reader; header = p.header; channels = p.chann
 
 -- how many bytes of the image are unread
 unfoldable pub pixels_left : {R : Type 0} → PixelsState R → ℕ
-pixels_left p = bytes_left p.pieces
+pixels_left p = bytes_left p.unread
 
 -- The decoder d decodes an image from `start`. The raw bytes `given` were read of it so far, and `now`
 -- is ahead.
@@ -33,7 +33,7 @@ pub record GivesSoFar {R : Type 0} (d : DecoderState R) (start now : Option (Lis
   -- the image wasn't refused
   pub going : p.refused ≡ false
   -- chunks at the front of `start` were taken, and these are the first bytes of their pixels
-  pub pieces : GivesPieces (channels_number d.header.channels) (channels_number d.channels) (pixel_count d.header) start now given p.pieces
+  pub unread : IsUnread (channels_number d.header.channels) (channels_number d.channels) (pixel_count d.header) start now given p.unread
   -- header and channels are the decoder's
   pub header : p.header ≡ d.header
   pub channels : p.channels ≡ d.channels

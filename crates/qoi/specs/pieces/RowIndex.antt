@@ -8,12 +8,16 @@ use Rattle.qoi.specs.Reading.{StandsAhead}
 use Rattle.qoi.specs.inner.Hashed.{pixel_of_lanes, HoldsSeen}
 use Rattle.qoi.specs.inner.Table.{Holds}
 use Rattle.qoi.specs.DecoderState.{DecoderState}
-use Rattle.qoi.specs.pieces.ReaderPieces.{KeepsWithin, KeepsPixels}
+use Rattle.qoi.specs.pieces.Unread.{KeepsWithin, KeepsPixels}
 use Rattle.qoi.specs.pieces.PixelReader.{PixelsState, HasGiven}
 
 -- the decoder, into these channels, of the file with the header h at the front of the bytes
 abbrev pub file_decoder : Channels → Header → List ℕ → DecoderState (List ℕ)
 file_decoder channels h file = record { reader = drop header_size file; header = h; channels = channels }
+
+-- it is the decoder of the file, into some channels
+abbrev pub IsDecoderOf : List ℕ → DecoderState (List ℕ) → Type 0
+IsDecoderOf file d = (header_of file ≡ Ok d.header) × (d ≡ file_decoder d.channels d.header file)
 
 -- how many bytes a row of the image has in these channels
 abbrev pub row_size : Channels → Header → ℕ
@@ -64,14 +68,14 @@ ReadsFile channels h file p = (header_of file ≡ Ok h) × (given : List ℕ) ×
 
 -- the place behind what a reader keeps, of which some pixels are to come
 pub record IsPlaceOf (file : List ℕ) (p : PixelsState (List ℕ)) (m : PlaceState) : Type 0 where
-  pub some : 0 < p.pieces.undecoded
-  pub within : KeepsWithin p.pieces
-  pub whole : p.pieces.undecoded % channels_number p.channels ≡ 0
-  pub table : (past : Past) → HoldsSeen p.pieces.table past → Holds m.table past
-  pub last : m.last ≡ pixel_of_lanes p.pieces.last
+  pub some : 0 < p.unread.undecoded
+  pub within : KeepsWithin p.unread
+  pub whole : p.unread.undecoded % channels_number p.channels ≡ 0
+  pub table : (past : Past) → HoldsSeen p.unread.table past → Holds m.table past
+  pub last : m.last ≡ pixel_of_lanes p.unread.last
   pub at : m.at ≡ length file - length p.reader
-  pub left : m.left ≡ p.pieces.undecoded / channels_number p.channels
-  pub run : m.run ≡ p.pieces.run / channels_number p.channels
+  pub left : m.left ≡ p.unread.undecoded / channels_number p.channels
+  pub run : m.run ≡ p.unread.run / channels_number p.channels
 
 -- a reader that goes on at a place, with these bytes ahead and into these channels
 pub record GoesOnAt (c : Channels) (h : Header) (rest : List ℕ) (m : PlaceState) (q : PixelsState (List ℕ)) : Type 0 where
@@ -80,10 +84,10 @@ pub record GoesOnAt (c : Channels) (h : Header) (rest : List ℕ) (m : PlaceStat
   pub channels : q.channels ≡ c
   pub going : q.refused ≡ false
   pub reader : q.reader ≡ rest
-  pub none : q.pieces.from ≡ q.pieces.to
-  pub pixels : KeepsPixels (channels_number c) q.pieces
-  pub table : (past : Past) → Holds m.table past → HoldsSeen q.pieces.table past
-  pub last : pixel_of_lanes q.pieces.last ≡ m.last
-  pub left : q.pieces.undecoded ≡ m.left * channels_number c
-  pub run : q.pieces.run ≡ m.run * channels_number c
+  pub none : q.unread.from ≡ q.unread.to
+  pub pixels : KeepsPixels (channels_number c) q.unread
+  pub table : (past : Past) → Holds m.table past → HoldsSeen q.unread.table past
+  pub last : pixel_of_lanes q.unread.last ≡ m.last
+  pub left : q.unread.undecoded ≡ m.left * channels_number c
+  pub run : q.unread.run ≡ m.run * channels_number c
   pub behind : m.run < m.left

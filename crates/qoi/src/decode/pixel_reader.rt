@@ -1,24 +1,25 @@
 //! Decoding an image piece by piece.
 ghost use Rattle.std.specs.Io.KnownBytes.{Keeps};
-ghost use Rattle.std.specs.Prelude.{◌*◌, ◌≡◌, ℕ, ◌+◌, ◌-◌, ◌<◌, ◌≤◌, List, [], ◌++◌, length, take, drop, min, Option, Some, Ok, true, false, IsTrue, IfSome, IfOk, IfErr, OnOk, OnErr, IsErrOf};
+ghost use Rattle.std.specs.Prelude.{◌*◌, ◌≡◌, ℕ, ◌+◌, ◌-◌, ◌<◌, ◌≤◌, List, [], ◌++◌, length, take, drop, min, Option, Some, Ok, true, false, IsTrue, IfSome, IfOk, IfErr, OnErr, IsErrOf};
 ghost use Rattle.qoi.specs.Decoded.{HasDecoded};
 ghost use Rattle.qoi.specs.DecoderState.{DecoderState, output_byte_count};
 ghost use Rattle.qoi.specs.Images.{front_image, front_rest};
+ghost use Rattle.qoi.specs.inner.Conversion.{conversion_of};
 ghost use Rattle.qoi.specs.pieces.PixelReader.{as_decoder, pixels_left, HasGiven, HasRows, RefusesPixels, IsSpent};
 ghost use Rattle.qoi.specs.Qoi.{channels_number};
-ghost use Rattle.qoi.specs.pieces.ReaderPieces.{bytes_left, KeepsPixels, GivesMore, RefusesMore};
+ghost use Rattle.qoi.specs.pieces.Unread.{bytes_left, kept_count, KeepsPixels, Asks, StepsIn, Fills};
 ghost use Rattle.qoi.specs.Reading.{StandsAhead, IsCutAhead, IsWrongAhead, SaysWhy};
 ghost use Rattle.qoi.specs.Rectangles.{row_bytes, rectangle};
 ghost use Rattle.qoi.specs.declared.error.Error.{Error};
 
 pub(super) mod mark;
-pub(super) mod pieces;
 mod place;
 mod room;
 pub(super) mod row_index;
+pub(super) mod unread;
 
 use crate::decode::Decoder;
-use crate::decode::pixel_reader::pieces::{PieceResult, Pieces};
+use crate::decode::pixel_reader::unread::{PieceResult, Unread};
 use crate::decode::reader::Reader;
 use crate::error::{Error, Result};
 use crate::header::Header;
@@ -28,8 +29,8 @@ use std::marker::Model;
 /// Hands out the raw bytes of one image piece by piece, so that it needn't fit into memory (QOI
 /// specification 1.0, "Data" and "Chunks"). Nothing is allocated; a reader has some 5 KB.
 ///
-/// A contract sees the reader, the header, the channels of the output, what stands between two
-/// pieces, and whether the image was refused.
+/// A contract sees the reader, the header, the channels of the output, what is unread, and whether
+/// the image was refused.
 ///
 /// ```
 /// let mut pixels = Decoder::from_buf_read(reader)?.into_pixels();
@@ -41,17 +42,15 @@ use std::marker::Model;
 #[derive(Drop)]
 pub struct PixelReader<R> {
     decoder: Decoder<R>,
-    pieces: Pieces,
+    unread: Unread,
     refused: bool,
-    // Where the error of a refusal stands until it is returned.
-    fault: Option<Error>,
 }
 
 impl<R> Model for PixelReader<R> {
-    ghost use Rattle.std.specs.Prelude.{◌≡◌, ◌≤◌, false};
+    ghost use Rattle.std.specs.Prelude.{◌≡◌, ◌≤◌, None, false};
     ghost use Rattle.qoi.specs.Qoi.{channels_number, IsValid};
     ghost use Rattle.qoi.specs.DecoderState.{output_byte_count};
-    ghost use Rattle.qoi.specs.pieces.ReaderPieces.{bytes_left, KeepsWithin, AreWhole};
+    ghost use Rattle.qoi.specs.pieces.Unread.{bytes_left, KeepsWithin, AreWhole};
     ghost use Rattle.qoi.specs.pieces.PixelReader.{PixelsState};
 
     ghost Value = { PixelsState R };
@@ -60,25 +59,14 @@ impl<R> Model for PixelReader<R> {
       reader = p.decoder.reader;
       header = p.decoder.header;
       channels = p.decoder.channels;
-      pieces = p.pieces;
+      unread = p.unread;
       refused = p.refused;
     } };
 
-    ghost invariant = { λ p. IsValid p.decoder.header × KeepsWithin p.pieces
-        × (bytes_left p.pieces ≤ output_byte_count p.decoder)
-        × (p.refused ≡ false → AreWhole (channels_number p.decoder.channels) p.pieces) };
-}
-
-// The error of a refusal.
-#[cold]
-#[inline(never)]
-fn fault_of(fault: Option<Error>) -> Error
-    ensures { IfSome fault (λ e. result ≡ e) }
-{
-    match fault {
-        Some(e) => e,
-        None => Error::UnexpectedBufferEnd,
-    }
+    ghost invariant = { λ p. IsValid p.decoder.header × KeepsWithin p.unread
+        × (bytes_left p.unread ≤ output_byte_count p.decoder)
+        × (p.refused ≡ false → AreWhole (channels_number p.decoder.channels) p.unread)
+        × (p.unread.fault ≡ None) };
 }
 
 impl<R: Reader> Decoder<R> {
@@ -95,9 +83,8 @@ impl<R: Reader> Decoder<R> {
         let size = self.required_buf_len();
         PixelReader {
             decoder: self,
-            pieces: Pieces::new(size),
+            unread: Unread::new(size),
             refused: false,
-            fault: None,
         }
     }
 
@@ -105,62 +92,43 @@ impl<R: Reader> Decoder<R> {
     // bytes it has; the rest of `out`, and more, are kept. Not inlined: what `read` does for
     // bytes that are kept is then a few instructions.
     #[inline(never)]
-    fn ask_reader(
-        &mut self,
-        pieces: &mut Pieces,
-        out: &mut [u8],
-        fault: &mut Option<Error>,
-    ) -> PieceResult<usize>
-        requires none { pieces.old.from ≡ pieces.old.to }
-        requires fits { length out.old ≤ bytes_left pieces.old }
-        requires pixels { KeepsPixels (channels_number self.old.channels) pieces.old }
-        ensures gives { IfOk result (GivesMore (channels_number self.old.header.channels)
-            (channels_number self.old.channels)
-            (R.ahead self.old.reader) (R.ahead self.new.reader) pieces.old pieces.new out.new) }
-        ensures refused { OnErr result (RefusesMore (channels_number self.old.header.channels)
-            (channels_number self.old.channels) R.in_memory
-            (R.ahead self.old.reader) (R.ahead self.new.reader) pieces.old fault.new) }
-        ensures enough { IfOk result (λ size.
-            length out.new ≤ size + (pieces.new.to - pieces.new.from)) }
+    fn ask_reader(&mut self, unread: &mut Unread, out: &mut [u8]) -> PieceResult<usize>
+        requires { Asks (channels_number self.old.channels) unread.old (length out.old) }
+        ensures step { StepsIn (conversion_of self.old) R.in_memory
+            (R.ahead self.old.reader) (R.ahead self.new.reader)
+            unread.old unread.new out.new result }
+        ensures enough { IfOk result (λ size. length out.new ≤ size + kept_count unread.new) }
         ensures kept { IsTrue R.in_memory
             → OnErr result (Keeps (R.ahead self.old.reader) (R.ahead self.new.reader)) }
         ensures unchanged { self.new ≡ record self.old { reader = self.new.reader } }
     {
-        self.reader
-            .decode_piece(pieces, out, self.channels, self.header.channels, fault)
+        let conversion = self.conversion();
+        self.reader.decode_piece(unread, out, conversion)
     }
 
     // Fills `out` with the next bytes of the image: with what is kept, with more that is decoded in
     // place, and with what is then kept.
     #[inline(always)]
-    fn next_piece(
-        &mut self,
-        pieces: &mut Pieces,
-        out: &mut [u8],
-        fault: &mut Option<Error>,
-    ) -> PieceResult<()>
-        requires fits { length out.old ≤ bytes_left pieces.old }
-        requires pixels { KeepsPixels (channels_number self.old.channels) pieces.old }
-        ensures gives { OnOk result (GivesMore (channels_number self.old.header.channels)
-            (channels_number self.old.channels) (R.ahead self.old.reader)
-            (R.ahead self.new.reader) pieces.old pieces.new out.new (length out.new)) }
-        ensures refused { OnErr result (RefusesMore (channels_number self.old.header.channels)
-            (channels_number self.old.channels) R.in_memory
-            (R.ahead self.old.reader) (R.ahead self.new.reader) pieces.old fault.new) }
+    fn next_piece(&mut self, unread: &mut Unread, out: &mut [u8]) -> PieceResult<()>
+        requires fits { length out.old ≤ bytes_left unread.old }
+        requires pixels { KeepsPixels (channels_number self.old.channels) unread.old }
+        ensures step { Fills (channels_number self.old.header.channels)
+            (channels_number self.old.channels) R.in_memory (R.ahead self.old.reader)
+            (R.ahead self.new.reader) unread.old unread.new out.new result }
         ensures kept { IsTrue R.in_memory
             → OnErr result (Keeps (R.ahead self.old.reader) (R.ahead self.new.reader)) }
         ensures unchanged { self.new ≡ record self.old { reader = self.new.reader } }
     {
-        let done = pieces.give(out);
+        let done = unread.give(out);
         if done == out.len() {
             return Ok(());
         }
-        let more = self.ask_reader(pieces, &mut out[done..], fault)?;
+        let more = self.ask_reader(unread, &mut out[done..])?;
         let given = done + more;
         if given == out.len() {
             return Ok(());
         }
-        pieces.give(&mut out[given..]);
+        unread.give(&mut out[given..]);
         Ok(())
     }
 }
@@ -183,9 +151,8 @@ impl<R: Reader> PixelReader<R> {
     {
         Ok(PixelReader {
             decoder: self.decoder.clone()?,
-            pieces: self.pieces.copied(),
+            unread: self.unread.copied(),
             refused: self.refused,
-            fault: None,
         })
     }
 
@@ -216,7 +183,7 @@ impl<R: Reader> PixelReader<R> {
             → HasGiven d start (R.ahead self.now.reader) given self.now → start ≡ Some bytes
             → result ≡ 0 → given ≡ front_image d.channels d.header bytes }
     {
-        self.pieces.left()
+        self.unread.left()
     }
 
     /// Reads the next raw bytes into the front of `buf`: as many as it has, or as are left of the
@@ -283,7 +250,7 @@ impl<R: Reader> PixelReader<R> {
         ensures unchanged { (self.new.header ≡ self.old.header)
             × (self.new.channels ≡ self.old.channels) }
     {
-        let left = self.pieces.left();
+        let left = self.unread.left();
         let size = buf.len().min(left);
         if size == 0 {
             return Ok(0);
@@ -291,15 +258,11 @@ impl<R: Reader> PixelReader<R> {
         if self.refused {
             return Err(Error::UnexpectedBufferEnd);
         }
-        match self
-            .decoder
-            .next_piece(&mut self.pieces, &mut buf[..size], &mut self.fault)
-        {
+        match self.decoder.next_piece(&mut self.unread, &mut buf[..size]) {
             Ok(()) => Ok(size),
             Err(_) => {
                 self.refused = true;
-                self.pieces.refuse(left);
-                Err(fault_of(self.fault.take()))
+                Err(self.unread.refuse(left))
             }
         }
     }

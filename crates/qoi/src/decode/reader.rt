@@ -1,16 +1,18 @@
 //! Where a decoder takes its bytes from: bytes in memory, a stream, or a reader with a buffer.
 ghost use Rattle.std.specs.Io.KnownBytes.{Keeps};
-ghost use Rattle.std.specs.Prelude.{◌≡◌, ℕ, ◌+◌, ◌-◌, ◌≤◌, ◌/◌, ◌%◌, List, length, Option, Some, IfSome, IfNone, IfOk, IfErr, OnOk, OnErr, IsSome, IsTrue, Bool, true, false, Err, refl};
+ghost use Rattle.std.specs.Prelude.{◌≡◌, ℕ, ◌+◌, ◌-◌, ◌≤◌, ◌/◌, ◌%◌, List, length, Option, Some, IfOk, IfErr, OnOk, OnErr, IsSome, IsTrue, Bool, true, false, Err, refl};
 ghost use Rattle.std.specs.Vec.{vec_len, vec_capacity};
 ghost use Rattle.qoi.specs.Qoi.{channels_number};
 ghost use Rattle.qoi.specs.Raw.{AreChannels};
 ghost use Rattle.qoi.specs.Decoding.{ReadsImage, ReadsHeader, RefusesImage};
+ghost use Rattle.qoi.specs.inner.Conversion.{IsWholeIn, ReadsIn, RefusesIn};
 ghost use Rattle.qoi.specs.declared.error.Error.{Error};
-ghost use Rattle.qoi.specs.pieces.ReaderPieces.{bytes_left, kept_count, KeepsNone, KeepsPixels, GivesMore, RefusesMore};
+ghost use Rattle.qoi.specs.pieces.Unread.{kept_count, Asks, StepsIn};
 
 use crate::consts::QOI_HEADER_SIZE;
 use crate::decode::chunks::{image_to_buf, image_to_vec};
-use crate::decode::pixel_reader::pieces::{PieceResult, Pieces};
+use crate::decode::conversion::Conversion;
+use crate::decode::pixel_reader::unread::{PieceResult, Unread};
 use crate::decode::slice::{slice_image, slice_image_to_vec};
 use crate::decode::stream::read_exact;
 use crate::error::{Error, Result};
@@ -22,29 +24,14 @@ use std::marker::Model;
 // Calls a function of a kind of reader for the channels of output and file, which are constants of its
 // loops. Three channels don't show what the fourth is.
 macro_rules! in_channels {
-    ($channels:expr, $file_channels:expr, $($name:ident)::+[$($reader:ty)?]($($arg:expr),*)) => {
-        match ($channels, $file_channels) {
+    ($conversion:expr, $($name:ident)::+[$($reader:ty)?]($($arg:expr),*)) => {
+        match ($conversion.channels, $conversion.file_channels) {
             (Channels::Rgb, Channels::Rgb) => $($name)::+::<$($reader,)? 3, 3>($($arg),*),
             (Channels::Rgb, Channels::Rgba) => $($name)::+::<$($reader,)? 3, 3>($($arg),*),
             (Channels::Rgba, Channels::Rgb) => $($name)::+::<$($reader,)? 4, 3>($($arg),*),
             (Channels::Rgba, Channels::Rgba) => $($name)::+::<$($reader,)? 4, 4>($($arg),*),
         }
     };
-}
-
-// The channels of an output and of a file, if both numbers are 3 or 4.
-fn both_channels(channels: u8, file_channels: u8) -> Option<(Channels, Channels)>
-    ensures both { IfSome result (λ both.
-        (channels_number both.0 ≡ channels) × (channels_number both.1 ≡ file_channels)) }
-    ensures none { IfNone result (AreChannels file_channels channels → ⊥) }
-{
-    match (
-        Channels::try_from(channels),
-        Channels::try_from(file_channels),
-    ) {
-        (Ok(channels), Ok(file_channels)) => Some((channels, file_channels)),
-        _ => None,
-    }
 }
 
 /// Where a decoder takes its bytes from: `Bytes`, any `R: Read`, or a `Buffered` reader. No other type
@@ -92,27 +79,19 @@ pub trait Reader: Sized {
             → (result ≡ Err (Error.InvalidChannels channels))
             × (self.new ≡ self.old) × (out.new ≡ out.old) }
     {
-        let Some(both) = both_channels(channels, file_channels) else {
+        let Some(conversion) = Conversion::of_numbers(channels, file_channels) else {
             return Err(Error::InvalidChannels { channels });
         };
-        self.decode_image_in(out, both.0, both.1)
+        self.decode_image_in(out, conversion)
     }
 
-    /// Like `decode_image`, in channels that a header can have.
+    /// `decode_image`, in channels that a header can have.
     #[doc(hidden)]
-    fn decode_image_in(
-        &mut self,
-        out: &mut [u8],
-        channels: Channels,
-        file_channels: Channels,
-    ) -> Result<()>
-        requires { length out.old % channels_number channels ≡ 0 }
-        ensures read { OnOk result
-            (ReadsImage (channels_number file_channels) (channels_number channels)
-            (length out.old / channels_number channels)
+    fn decode_image_in(&mut self, out: &mut [u8], conversion: Conversion) -> Result<()>
+        requires { IsWholeIn conversion (length out.old) }
+        ensures read { OnOk result (ReadsIn conversion (length out.old)
             (ahead self.old) (ahead self.new) out.new) }
-        ensures refused { IfErr result
-            (RefusesImage in_memory (length out.old / channels_number channels)
+        ensures refused { IfErr result (RefusesIn conversion (length out.old) in_memory
             (ahead self.old) (ahead self.new)) };
 
     /// Decodes the image ahead into an empty vector, which then has `size` bytes.
@@ -125,43 +104,33 @@ pub trait Reader: Sized {
         &mut self,
         out: &mut Vec<u8>,
         size: usize,
-        channels: Channels,
-        file_channels: Channels,
+        conversion: Conversion,
     ) -> Result<()>
-        requires whole { size % channels_number channels ≡ 0 }
+        requires whole { IsWholeIn conversion size }
         requires empty { vec_len out.old ≡ 0 }
         requires room { size ≤ vec_capacity out.old }
-        ensures read { OnOk result
-            (ReadsImage (channels_number file_channels) (channels_number channels)
-            (size / channels_number channels) (ahead self.old) (ahead self.new) out.new.items) }
-        ensures refused { IfErr result (RefusesImage in_memory (size / channels_number channels)
+        ensures read { OnOk result (ReadsIn conversion size
+            (ahead self.old) (ahead self.new) out.new.items) }
+        ensures refused { IfErr result (RefusesIn conversion size in_memory
             (ahead self.old) (ahead self.new)) };
 
     /// Decodes the next bytes of an image, while none are kept: into the front of `out`, and
     /// returns how many; the rest of `out`, and more, are kept. With the last ones it takes the end
-    /// marker. After a refusal the error stands in `fault`.
+    /// marker. After a refusal the error stands in `unread`.
     ///
-    /// Only `PixelReader` can call it, and no other type can be a reader, since nobody else has a
-    /// `Pieces`.
+    /// Only `PixelReader` can call it, and no other type can be a reader, since nobody else has an
+    /// `Unread`.
     #[doc(hidden)]
     fn decode_piece(
         &mut self,
-        pieces: &mut Pieces,
+        unread: &mut Unread,
         out: &mut [u8],
-        channels: Channels,
-        file_channels: Channels,
-        fault: &mut Option<Error>,
+        conversion: Conversion,
     ) -> PieceResult<usize>
-        requires none { KeepsNone pieces.old }
-        requires fits { length out.old ≤ bytes_left pieces.old }
-        requires pixels { KeepsPixels (channels_number channels) pieces.old }
-        ensures gives { IfOk result
-            (GivesMore (channels_number file_channels) (channels_number channels)
-            (ahead self.old) (ahead self.new) pieces.old pieces.new out.new) }
-        ensures refused { OnErr result
-            (RefusesMore (channels_number file_channels) (channels_number channels) in_memory
-            (ahead self.old) (ahead self.new) pieces.old fault.new) }
-        ensures enough { IfOk result (λ size. length out.new ≤ size + kept_count pieces.new) }
+        requires { Asks (channels_number conversion.channels) unread.old (length out.old) }
+        ensures step { StepsIn conversion in_memory (ahead self.old) (ahead self.new)
+            unread.old unread.new out.new result }
+        ensures enough { IfOk result (λ size. length out.new ≤ size + kept_count unread.new) }
         ensures kept { IsTrue in_memory → OnErr result (Keeps (ahead self.old) (ahead self.new)) };
 
     /// The bytes of a reader in memory are stated.
@@ -197,31 +166,19 @@ impl<'a> Bytes<'a> {
     }
 }
 
-// `Pieces::decode_more` for a slice, with its channels as constants.
+// `Unread::decode_more` for a slice, with its channels as constants.
 fn piece_of_bytes(
     bytes: &mut Bytes,
-    pieces: &mut Pieces,
+    unread: &mut Unread,
     out: &mut [u8],
-    channels: Channels,
-    file_channels: Channels,
-    fault: &mut Option<Error>,
+    conversion: Conversion,
 ) -> PieceResult<usize>
-    requires none { KeepsNone pieces.old }
-    requires fits { length out.old ≤ bytes_left pieces.old }
-    requires pixels { KeepsPixels (channels_number channels) pieces.old }
-    ensures gives { IfOk result
-        (GivesMore (channels_number file_channels) (channels_number channels)
-        (Some bytes.old) (Some bytes.new) pieces.old pieces.new out.new) }
-    ensures refused { OnErr result
-        (RefusesMore (channels_number file_channels) (channels_number channels) true
-        (Some bytes.old) (Some bytes.new) pieces.old fault.new) }
-    ensures enough { IfOk result (λ size. length out.new ≤ size + kept_count pieces.new) }
+    requires { Asks (channels_number conversion.channels) unread.old (length out.old) }
+    ensures step { StepsIn conversion true (Some bytes.old) (Some bytes.new)
+        unread.old unread.new out.new result }
+    ensures enough { IfOk result (λ size. length out.new ≤ size + kept_count unread.new) }
 {
-    in_channels!(
-        channels,
-        file_channels,
-        Pieces::decode_more[Bytes](pieces, bytes, out, fault)
-    )
+    in_channels!(conversion, Unread::decode_more[Bytes](unread, bytes, out))
 }
 
 impl<'a> Reader for Bytes<'a> {
@@ -237,13 +194,8 @@ impl<'a> Reader for Bytes<'a> {
         Ok(header)
     }
 
-    fn decode_image_in(
-        &mut self,
-        out: &mut [u8],
-        channels: Channels,
-        file_channels: Channels,
-    ) -> Result<()> {
-        self.0 = in_channels!(channels, file_channels, slice_image[](self.0, out))?;
+    fn decode_image_in(&mut self, out: &mut [u8], conversion: Conversion) -> Result<()> {
+        self.0 = in_channels!(conversion, slice_image[](self.0, out))?;
         Ok(())
     }
 
@@ -251,23 +203,20 @@ impl<'a> Reader for Bytes<'a> {
         &mut self,
         out: &mut Vec<u8>,
         size: usize,
-        channels: Channels,
-        file_channels: Channels,
+        conversion: Conversion,
     ) -> Result<()> {
-        self.0 = in_channels!(channels, file_channels, slice_image_to_vec[](self.0, out, size))?;
+        self.0 = in_channels!(conversion, slice_image_to_vec[](self.0, out, size))?;
         Ok(())
     }
 
     fn decode_piece(
         &mut self,
-        pieces: &mut Pieces,
+        unread: &mut Unread,
         out: &mut [u8],
-        channels: Channels,
-        file_channels: Channels,
-        fault: &mut Option<Error>,
+        conversion: Conversion,
     ) -> PieceResult<usize> {
         let before = self.0;
-        match piece_of_bytes(self, pieces, out, channels, file_channels, fault) {
+        match piece_of_bytes(self, unread, out, conversion) {
             Ok(size) => Ok(size),
             Err(refused) => {
                 // Put back as a part of itself, so that `before` is read as address and length, one by
@@ -294,38 +243,26 @@ impl<R: Read> Reader for R {
         Header::decode(&bytes)
     }
 
-    fn decode_image_in(
-        &mut self,
-        out: &mut [u8],
-        channels: Channels,
-        file_channels: Channels,
-    ) -> Result<()> {
-        in_channels!(channels, file_channels, image_to_buf[R](self, out))
+    fn decode_image_in(&mut self, out: &mut [u8], conversion: Conversion) -> Result<()> {
+        in_channels!(conversion, image_to_buf[R](self, out))
     }
 
     fn decode_image_to_vec(
         &mut self,
         out: &mut Vec<u8>,
         size: usize,
-        channels: Channels,
-        file_channels: Channels,
+        conversion: Conversion,
     ) -> Result<()> {
-        in_channels!(channels, file_channels, image_to_vec[R](self, out, size))
+        in_channels!(conversion, image_to_vec[R](self, out, size))
     }
 
     fn decode_piece(
         &mut self,
-        pieces: &mut Pieces,
+        unread: &mut Unread,
         out: &mut [u8],
-        channels: Channels,
-        file_channels: Channels,
-        fault: &mut Option<Error>,
+        conversion: Conversion,
     ) -> PieceResult<usize> {
-        in_channels!(
-            channels,
-            file_channels,
-            Pieces::decode_more[R](pieces, self, out, fault)
-        )
+        in_channels!(conversion, Unread::decode_more[R](unread, self, out))
     }
 }
 
@@ -377,37 +314,28 @@ impl<R: BufRead> Reader for Buffered<R> {
         self.0.decode_header()
     }
 
-    fn decode_image_in(
-        &mut self,
-        out: &mut [u8],
-        channels: Channels,
-        file_channels: Channels,
-    ) -> Result<()> {
-        in_channels!(channels, file_channels, image_to_buf[Buffered<R>](self, out))
+    fn decode_image_in(&mut self, out: &mut [u8], conversion: Conversion) -> Result<()> {
+        in_channels!(conversion, image_to_buf[Buffered<R>](self, out))
     }
 
     fn decode_image_to_vec(
         &mut self,
         out: &mut Vec<u8>,
         size: usize,
-        channels: Channels,
-        file_channels: Channels,
+        conversion: Conversion,
     ) -> Result<()> {
-        in_channels!(channels, file_channels, image_to_vec[Buffered<R>](self, out, size))
+        in_channels!(conversion, image_to_vec[Buffered<R>](self, out, size))
     }
 
     fn decode_piece(
         &mut self,
-        pieces: &mut Pieces,
+        unread: &mut Unread,
         out: &mut [u8],
-        channels: Channels,
-        file_channels: Channels,
-        fault: &mut Option<Error>,
+        conversion: Conversion,
     ) -> PieceResult<usize> {
         in_channels!(
-            channels,
-            file_channels,
-            Pieces::decode_more[Buffered<R>](pieces, self, out, fault)
+            conversion,
+            Unread::decode_more[Buffered<R>](unread, self, out)
         )
     }
 }

@@ -6,11 +6,11 @@ ghost use Rattle.qoi.specs.Qoi.{channels_number, IsValid};
 ghost use Rattle.qoi.specs.declared.error.Error.{Error};
 ghost use Rattle.qoi.specs.pieces.Mark.{mark_of, reader_at, marked_left, MarksGiven, MarksRows};
 ghost use Rattle.qoi.specs.pieces.PixelReader.{pixels_left, HasGiven, HasRows};
-ghost use Rattle.qoi.specs.pieces.ReaderPieces.{KeepsPixels};
+ghost use Rattle.qoi.specs.pieces.Unread.{KeepsPixels};
 
 use crate::decode::Decoder;
 use crate::decode::pixel_reader::PixelReader;
-use crate::decode::pixel_reader::pieces::Pieces;
+use crate::decode::pixel_reader::unread::Unread;
 use crate::decode::reader::Bytes;
 use crate::error::{Error, Result};
 use crate::header::Header;
@@ -33,15 +33,15 @@ pub struct Mark {
     at: usize,
     header: Header,
     channels: Channels,
-    pieces: Pieces,
+    unread: Unread,
     refused: bool,
 }
 
 impl Model for Mark {
-    ghost use Rattle.std.specs.Prelude.{◌≡◌, ◌≤◌, false};
+    ghost use Rattle.std.specs.Prelude.{◌≡◌, ◌≤◌, None, false};
     ghost use Rattle.qoi.specs.Qoi.{channels_number, IsValid};
     ghost use Rattle.qoi.specs.Raw.{byte_count};
-    ghost use Rattle.qoi.specs.pieces.ReaderPieces.{bytes_left, KeepsWithin, AreWhole};
+    ghost use Rattle.qoi.specs.pieces.Unread.{bytes_left, KeepsWithin, AreWhole};
     ghost use Rattle.qoi.specs.pieces.Mark.{MarkState};
 
     ghost Value = { MarkState };
@@ -50,13 +50,14 @@ impl Model for Mark {
       at = m.at;
       header = m.header;
       channels = m.channels;
-      pieces = m.pieces;
+      unread = m.unread;
       refused = m.refused;
     } };
 
-    ghost invariant = { λ m. IsValid m.header × KeepsWithin m.pieces
-        × (bytes_left m.pieces ≤ byte_count m.header (channels_number m.channels))
-        × (m.refused ≡ false → AreWhole (channels_number m.channels) m.pieces) };
+    ghost invariant = { λ m. IsValid m.header × KeepsWithin m.unread
+        × (bytes_left m.unread ≤ byte_count m.header (channels_number m.channels))
+        × (m.refused ≡ false → AreWhole (channels_number m.channels) m.unread)
+        × (m.unread.fault ≡ None) };
 }
 
 impl<'a> PixelReader<Bytes<'a>> {
@@ -65,13 +66,13 @@ impl<'a> PixelReader<Bytes<'a>> {
         ensures state { result ≡ mark_of (length file.now - length self.now.reader) self.now }
         ensures valid { IsValid result.header }
         ensures keeps { result.refused ≡ false
-            → KeepsPixels (channels_number result.channels) result.pieces }
+            → KeepsPixels (channels_number result.channels) result.unread }
     {
         Mark {
             at: file.len().saturating_sub(self.decoder.reader.0.len()),
             header: self.decoder.header,
             channels: self.decoder.channels,
-            pieces: self.pieces.copied(),
+            unread: self.unread.copied(),
             refused: self.refused,
         }
     }
@@ -113,7 +114,7 @@ impl Mark {
     pub fn left(&self) -> usize
         ensures { result ≡ marked_left self.now }
     {
-        self.pieces.left()
+        self.unread.left()
     }
 
     // A reader that goes on over these bytes.
@@ -126,9 +127,8 @@ impl Mark {
                 header: self.header,
                 channels: self.channels,
             },
-            pieces: self.pieces.copied(),
+            unread: self.unread.copied(),
             refused: self.refused,
-            fault: None,
         }
     }
 

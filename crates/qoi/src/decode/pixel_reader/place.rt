@@ -1,6 +1,6 @@
 //! Places in the image of a file, between two chunks.
 ghost use Rattle.std.specs.Prelude.{◌≡◌, ℕ, ◌*◌, ◌<◌, ◌≤◌, ◌+◌, List, length, drop, Ok, false, IsOk, IfOk};
-ghost use Rattle.qoi.specs.Qoi.{Past, channels_number, header_of, pixel_count, pixels_max, IsValid};
+ghost use Rattle.qoi.specs.Qoi.{Past, channels_number, header_of, pixel_count, pixels_max};
 ghost use Rattle.qoi.specs.declared.header.Header.{Header};
 ghost use Rattle.qoi.specs.declared.types.Channels.{Channels};
 ghost use Rattle.qoi.specs.inner.Hashed.{pixel_of_lanes, HoldsSeen};
@@ -11,12 +11,11 @@ ghost use Rattle.qoi.specs.pieces.RowIndex.{StandsAt, ReadsFile, IsPlaceOf, Goes
 use crate::decode::Decoder;
 use crate::decode::hashed::Hashed;
 use crate::decode::pixel_reader::PixelReader;
-use crate::decode::pixel_reader::pieces::Pieces;
 use crate::decode::pixel_reader::room::DECODED_AHEAD;
+use crate::decode::pixel_reader::unread::Unread;
 use crate::decode::reader::Bytes;
 use crate::decode::table::TermTable;
 use crate::error::{Error, Result};
-use crate::header::Header;
 use crate::packed::Packed;
 use crate::types::Channels;
 use std::marker::Model;
@@ -105,23 +104,23 @@ impl Place {
     // The place behind what a reader of the file keeps.
     fn behind(file: &[u8], pixels: &PixelReader<Bytes<'_>>) -> Place
         requires going { pixels.now.refused ≡ false }
-        requires some { 0 < pixels.now.pieces.undecoded }
+        requires some { 0 < pixels.now.unread.undecoded }
         ensures { IsPlaceOf file.now pixels.now result }
     {
         let channels = pixels.decoder.channels.as_u8() as usize;
         Place {
-            table: pixels_of(&pixels.pieces.table),
-            last: packed(pixels.pieces.last),
+            table: pixels_of(&pixels.unread.table),
+            last: packed(pixels.unread.last),
             at: file.len().saturating_sub(pixels.decoder.reader.0.len()),
-            left: pixels.pieces.undecoded / channels,
-            run: pixels.pieces.run / channels,
+            left: pixels.unread.undecoded / channels,
+            run: pixels.unread.run / channels,
         }
     }
 
     /// The place behind what a reader of the file keeps, which isn't the end of the image.
     pub(super) fn of(file: &[u8], pixels: &PixelReader<Bytes<'_>>) -> Place
         requires going { pixels.now.refused ≡ false }
-        requires some { 0 < pixels.now.pieces.undecoded }
+        requires some { 0 < pixels.now.unread.undecoded }
         ensures { (channels : Channels) (h : Header) → ReadsFile channels h file.now pixels.now
             → StandsAt (pixel_count h) file.now result }
     {
@@ -135,19 +134,16 @@ impl Place {
         self.left
     }
 
-    // A reader that goes on there, over the rest of a file.
-    fn over<'a>(&self, rest: &'a [u8], header: Header, channels: Channels) -> PixelReader<Bytes<'a>>
-        requires valid { IsValid header }
-        requires fits { self.now.left ≤ pixel_count header }
-        ensures { GoesOnAt channels header rest.entry.now self.now result }
+    // A reader that goes on there, by a decoder that stands there.
+    fn over<'a>(&self, decoder: Decoder<Bytes<'a>>) -> PixelReader<Bytes<'a>>
+        requires { self.now.left ≤ pixel_count decoder.header }
+        ensures { GoesOnAt decoder.entry.channels decoder.entry.header decoder.entry.reader
+            self.now result }
     {
+        let channels = decoder.channels;
         PixelReader {
-            decoder: Decoder {
-                reader: Bytes(rest),
-                header,
-                channels,
-            },
-            pieces: Pieces {
+            decoder,
+            unread: Unread {
                 table: table_of(&self.table),
                 last: hashed(self.last),
                 bytes: [0; DECODED_AHEAD],
@@ -155,48 +151,45 @@ impl Place {
                 to: 0,
                 run: size_in(channels, self.run),
                 undecoded: size_in(channels, self.left),
+                fault: None,
             },
             refused: false,
-            fault: None,
         }
     }
 
-    // The reader that goes on from this place in a file.
+    // The reader that goes on from this place in a file, by a decoder of it.
     fn goes_on<'a>(
         &self,
         file: &'a [u8],
-        header: Header,
-        channels: Channels,
+        mut decoder: Decoder<Bytes<'a>>,
     ) -> Result<PixelReader<Bytes<'a>>>
-        requires { IsValid header }
-        ensures goes { IfOk result
-            (GoesOnAt channels header (drop self.now.at file.entry.now) self.now) }
+        ensures goes { IfOk result (GoesOnAt decoder.entry.channels decoder.entry.header
+            (drop self.now.at file.entry.now) self.now) }
         ensures accepts { self.now.at ≤ length file.entry.now
-            → self.now.left ≤ pixel_count header → IsOk result }
+            → self.now.left ≤ pixel_count decoder.entry.header → IsOk result }
     {
-        if file.len() < self.at || header.n_pixels() < self.left {
+        if file.len() < self.at || decoder.header.n_pixels() < self.left {
             return Err(Error::UnexpectedBufferEnd);
         }
         let (_, rest) = file.split_at(self.at);
-        Ok(self.over(rest, header, channels))
+        decoder.reader = Bytes(rest);
+        Ok(self.over(decoder))
     }
 
-    /// A reader that goes on there in a file with this header, into these channels.
+    /// A reader that goes on there in a file, by a decoder of it.
     pub(super) fn resume<'a>(
         &self,
         file: &'a [u8],
-        header: Header,
-        channels: Channels,
+        decoder: Decoder<Bytes<'a>>,
     ) -> Result<PixelReader<Bytes<'a>>>
-        requires { IsValid header }
-        ensures file { header_of file.entry.now ≡ Ok header
-            → StandsAt (pixel_count header) file.entry.now self.now
-            → IfOk result (ReadsFile channels header file.entry.now) }
-        ensures accepts { header_of file.entry.now ≡ Ok header
-            → StandsAt (pixel_count header) file.entry.now self.now → IsOk result }
+        ensures file { header_of file.entry.now ≡ Ok decoder.entry.header
+            → StandsAt (pixel_count decoder.entry.header) file.entry.now self.now
+            → IfOk result (ReadsFile decoder.entry.channels decoder.entry.header file.entry.now) }
+        ensures accepts { header_of file.entry.now ≡ Ok decoder.entry.header
+            → StandsAt (pixel_count decoder.entry.header) file.entry.now self.now → IsOk result }
         ensures left { IfOk result (λ p.
-            pixels_left p ≡ self.now.left * channels_number channels) }
+            pixels_left p ≡ self.now.left * channels_number decoder.entry.channels) }
     {
-        self.goes_on(file, header, channels)
+        self.goes_on(file, decoder)
     }
 }

@@ -1,5 +1,5 @@
 //! Rows of an image, read from any of them on.
-ghost use Rattle.std.specs.Prelude.{◌≡◌, ℕ, ◌+◌, ◌-◌, ◌*◌, ◌/◌, ◌<◌, ◌≤◌, List, [], ◌++◌, ◌⊎◌, max, length, drop, Some, Ok, Err, true, false, IsOk, IfOk, IfErr, OnOk, IsErrOf};
+ghost use Rattle.std.specs.Prelude.{◌≡◌, ℕ, ◌+◌, ◌-◌, ◌*◌, ◌/◌, ◌<◌, ◌≤◌, List, [], ◌++◌, ◌⊎◌, max, min, length, drop, Some, Ok, Err, true, false, IsOk, IfOk, IfErr, OnOk, IsErrOf};
 ghost use Rattle.qoi.specs.Decoded.{HasRefusedFile};
 ghost use Rattle.qoi.specs.DecoderState.{DecoderState};
 ghost use Rattle.qoi.specs.Images.{front_image, file_image};
@@ -10,7 +10,7 @@ ghost use Rattle.qoi.specs.declared.error.Error.{Error};
 ghost use Rattle.qoi.specs.declared.header.Header.{Header};
 ghost use Rattle.qoi.specs.declared.types.Channels.{Channels};
 ghost use Rattle.qoi.specs.pieces.PixelReader.{pixels_left, HasGiven, HasRows, RefusesPixels};
-ghost use Rattle.qoi.specs.pieces.RowIndex.{file_decoder, row_size, ArePlaces, ReadsFile, IsRowIndex};
+ghost use Rattle.qoi.specs.pieces.RowIndex.{file_decoder, row_size, ArePlaces, ReadsFile, IsRowIndex, IsDecoderOf};
 
 use crate::decode::Decoder;
 use crate::decode::pixel_reader::PixelReader;
@@ -80,8 +80,7 @@ fn read_to(pixels: &mut PixelReader<Bytes<'_>>, left: usize) -> Result<()>
         → HasGiven d (Some bytes) (Some pixels.old.reader) given pixels.old
         → OnOk result ((more : List ℕ)
         × HasGiven d (Some bytes) (Some pixels.new.reader) (given ++ more) pixels.new) }
-    ensures left { left ≤ pixels_left pixels.old → OnOk result (pixels_left pixels.new ≡ left) }
-    ensures most { OnOk result (pixels_left pixels.new ≤ left) }
+    ensures left { OnOk result (pixels_left pixels.new ≡ min left (pixels_left pixels.old)) }
     ensures refused { (d : DecoderState (List ℕ)) (bytes given : List ℕ)
         → HasGiven d (Some bytes) (Some pixels.old.reader) given pixels.old
         → IfErr result (RefusesPixels true d (Some bytes) (Some pixels.new.reader)) }
@@ -99,8 +98,7 @@ fn skip_to(pixels: &mut PixelReader<Bytes<'_>>, left: usize) -> Result<()>
     ensures file { (channels : Channels) (h : Header) (file : List ℕ)
         → ReadsFile channels h file pixels.old
         → OnOk result (ReadsFile channels h file pixels.new) }
-    ensures left { left ≤ pixels_left pixels.old → OnOk result (pixels_left pixels.new ≡ left) }
-    ensures most { OnOk result (pixels_left pixels.new ≤ left) }
+    ensures left { OnOk result (pixels_left pixels.new ≡ min left (pixels_left pixels.old)) }
     ensures refused { (channels : Channels) (h : Header) (file : List ℕ)
         → ReadsFile channels h file pixels.old → IfErr result (HasRefusedFile file) }
     ensures accepts { (channels : Channels) (h : Header) (file : List ℕ)
@@ -131,7 +129,7 @@ fn keep_place(places: &mut Vec<Place>, file: &[u8], pixels: &PixelReader<Bytes<'
     ensures few { OnOk result (length places.new.items ≤ length places.old.items + 1) }
     ensures refused { IfErr result (λ e. e ≡ Error.OutOfMemory) }
 {
-    if pixels.pieces.undecoded > 0 {
+    if pixels.unread.undecoded > 0 {
         places.push(Place::of(file, pixels))?;
     }
     Ok(())
@@ -176,28 +174,27 @@ impl RowIndex {
     fn above<'a>(
         &self,
         file: &'a [u8],
-        header: Header,
-        channels: Channels,
+        decoder: Decoder<Bytes<'a>>,
         first: u32,
     ) -> Result<PixelReader<Bytes<'a>>>
-        requires valid { IsValid header }
-        requires header { header_of file.now ≡ Ok header }
+        requires { IsDecoderOf file.now decoder }
         ensures file { IsRowIndex file.entry.now self.now
-            → IfOk result (ReadsFile channels header file.entry.now) }
+            → IfOk result (ReadsFile decoder.entry.channels decoder.entry.header file.entry.now) }
         ensures accepts { IsRowIndex file.entry.now self.now → IsOk result }
-        ensures left { IfOk result (λ p. header.width * (header.height - first)
-            * channels_number channels ≤ pixels_left p) }
+        ensures left { IfOk result (λ p. decoder.entry.header.width
+            * (decoder.entry.header.height - first) * channels_number decoder.entry.channels
+            ≤ pixels_left p) }
     {
-        let left = pixels_behind(&header, first);
+        let left = pixels_behind(decoder.header(), first);
         let mut at = self.places.len().min((first / self.every) as usize);
         while at > 0 {
             at -= 1;
             let place = &self.places[at];
             if left <= place.left() {
-                return place.resume(file, header, channels);
+                return place.resume(file, decoder);
             }
         }
-        all_rows(file, channels)
+        Ok(decoder.into_pixels())
     }
 
     /// A reader that stands before row `first` of the image of the file of which the index was made,
@@ -255,11 +252,12 @@ impl RowIndex {
             → IsErrOf result Error.UnexpectedBufferEnd }
         ensures header { (e : Error) → header_of file.entry.now ≡ Err e → result ≡ Err e }
     {
-        let header = Header::decode(file)?;
+        let decoder = Decoder::new(file)?;
+        let header = *decoder.header();
         if first > header.height {
             return Err(Error::UnexpectedBufferEnd);
         }
-        let mut pixels = self.above(file, header, channels, first)?;
+        let mut pixels = self.above(file, decoder.with_channels(channels), first)?;
         skip_to(&mut pixels, bytes_behind(&header, channels, first))?;
         Ok(pixels)
     }

@@ -1,15 +1,11 @@
 //! Vectors that cost what they hold: images of more than one step of 16384 pixels, and headers that
 //! say more than follows them.
-ghost use Rattle.std.specs.Prelude.{◌≡◌, ◌%◌};
-
-use crate::tests::fakes::{ONE_RGB_PIXEL, PIXEL};
+use crate::tests::fakes::PIXEL;
 use crate::tests::library::support::decodings::{CUT, Decoding};
 use crate::tests::library::support::generator::Numbers;
 use crate::tests::library::support::images::row;
-use crate::tests::library::support::{
-    assert_bytes, assert_fails, assert_given, assert_header, assert_number, assert_refused, made,
-};
-use qoi::{Buffered, Bytes, Channels, Header, Reader, Result, Style, encode_to_vec};
+use crate::tests::library::support::{assert_fails, assert_number, assert_refused, made};
+use qoi::{Channels, Header, Result, Style, encode_to_vec};
 use std::alloc::Global;
 use std::io::ErrorKind;
 use std::process::Abort;
@@ -125,40 +121,4 @@ fn headers_take_no_memory(rt: HostRuntime) {
     assert_fails(&rt, buffered.err(), ErrorKind::UnexpectedEof);
     let after = most_memory(&rt).expect(&rt, "refused");
     assert!(rt; before > 0 && after <= before.saturating_add(16 * 1024));
-}
-
-// Reads an image of three channels into a new vector, by the trait alone.
-fn vector_of<R: Reader>(alloc: Global, reader: &mut R, size: usize) -> Result<Vec<u8>>
-    requires { size % 3 ≡ 0 }
-{
-    let mut out = Vec::with_capacity(alloc, size)?;
-    reader.decode_image_to_vec(&mut out, size, Channels::Rgb, Channels::Rgb)?;
-    Ok(out)
-}
-
-// Reads the header and the image of one pixel, an end marker after no pixels, and then bytes that
-// are cut.
-fn assert_reads<R: Reader>(rt: &impl Abort, alloc: Global, reader: &mut R) {
-    let header = reader.decode_header().expect(rt, "refused");
-    assert_header(rt, &header, &Header::default());
-    assert_given(rt, vector_of(alloc, reader, 3), &PIXEL);
-    assert_given(rt, vector_of(alloc, reader, 0), &[]);
-    assert!(rt; vector_of(alloc, reader, 3).is_err());
-}
-
-#[test]
-fn readers_read_into_vectors(rt: HostRuntime) {
-    let alloc = rt.alloc();
-    let mut bytes = [0; 35];
-    bytes[..26].copy_from_slice(&ONE_RGB_PIXEL);
-    bytes[33] = 1;
-    let mut slice = Bytes::new(&bytes);
-    assert_reads(&rt, alloc, &mut slice);
-    assert_bytes(&rt, slice.as_slice(), &[0]);
-    let mut stream = bytes.as_slice();
-    assert_reads(&rt, alloc, &mut stream);
-    assert_bytes(&rt, stream, &[]);
-    let mut buffered = Buffered::new(bytes.as_slice());
-    assert_reads(&rt, alloc, &mut buffered);
-    assert_bytes(&rt, buffered.into_inner(), &[]);
 }

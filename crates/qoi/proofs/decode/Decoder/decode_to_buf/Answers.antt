@@ -21,8 +21,8 @@ refused : (g : Over) (c : After-from_residual g) → RefusesImage g.R.Reader.in_
     (g.R.Reader.ahead c.args.self.now.reader) (g.R.Reader.ahead c.decode_image_in.new.self) c.in_err-decode_image_in.field-0.0
 refused g c =
     let d = c.args.self.now in
-    let channels = ap (λ s. channels_number s.channels) c.self.view_is in
-    let pixels = image_pixels d.header d.channels c.required_buf_len-size.result (channels_number c.self.inside.channels) c.args.buf.now c.required_buf_len-size.ensures.bytes
+    let channels = ap (λ k. channels_number k.channels) c.conversion-conversion.ensures in
+    let pixels = image_pixels d.header d.channels c.required_buf_len-size.result (channels_number c.conversion-conversion.result.channels) c.args.buf.now c.required_buf_len-size.ensures.bytes
     (omega arith) channels in
     let image = c.in_err-decode_image_in.ensures.refused in
     subst (λ old. RefusesImage g.R.Reader.in_memory (pixel_count d.header) old (g.R.Reader.ahead c.decode_image_in.new.self) c.in_err-decode_image_in.field-0.0)
@@ -57,11 +57,11 @@ returns-in_err-decode_image_in-clause-wrong g c start told held room wrong =
 pub returns-clause-decoded : goal.returns-clause-decoded
 returns-clause-decoded g c =
     let d = c.args.self.now in
-    let channels = ap (λ s. channels_number s.channels) c.self.view_is in
-    let file = ap (λ s. channels_number s.header.channels) c.self.view_is in
+    let channels = ap (λ k. channels_number k.channels) c.conversion-conversion.ensures in
+    let file = ap (λ k. channels_number k.file_channels) c.conversion-conversion.ensures in
     let size = c.required_buf_len-size.result in
     let asked = c.required_buf_len-size.ensures.bytes in
-    let pixels = image_pixels d.header d.channels size (channels_number c.self.inside.channels) c.args.buf.now asked (omega arith) channels in
+    let pixels = image_pixels d.header d.channels size (channels_number c.conversion-conversion.result.channels) c.args.buf.now asked (omega arith) channels in
     let out = c.decode_image_in.new.out in
     let same : size ≡ length out = omega (arith, c.decode_image_in.auto.out, length-take-le size c.args.buf.now (omega arith)) in
     let P = λ (old : Option (List ℕ)) (z : List ℕ). ReadsImage (channels_number d.header.channels) (channels_number d.channels) (pixel_count d.header) old

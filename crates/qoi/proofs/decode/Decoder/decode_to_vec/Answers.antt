@@ -17,8 +17,8 @@ refused : (g : Over) (c : After-from_residual-in_err-decode_image_to_vec g) → 
     (g.R.Reader.ahead c.args.self.now.reader) (g.R.Reader.ahead c.decode_image_to_vec.new.self) c.in_err-decode_image_to_vec.field-0.0
 refused g c =
     let d = c.args.self.now in
-    let channels = ap (λ s. channels_number s.channels) c.self.view_is in
-    let pixels = pixels_of_size d.header d.channels c.required_buf_len-size.result (channels_number c.self.inside.channels) c.required_buf_len-size.ensures.bytes channels in
+    let channels = ap (λ k. channels_number k.channels) c.conversion-conversion.ensures in
+    let pixels = pixels_of_size d.header d.channels c.required_buf_len-size.result (channels_number c.conversion-conversion.result.channels) c.required_buf_len-size.ensures.bytes channels in
     let image = c.in_err-decode_image_to_vec.ensures.refused in
     subst (λ old. RefusesImage g.R.Reader.in_memory (pixel_count d.header) old (g.R.Reader.ahead c.decode_image_to_vec.new.self) c.in_err-decode_image_to_vec.field-0.0)
     (ap (λ s. g.R.Reader.ahead s.reader) c.self.view_is) (rw pixels at image)
@@ -34,9 +34,9 @@ returns-clause-decoded g c =
     let d = c.args.self.now in
     let n = pixel_count d.header in
     let k = channels_number d.channels in
-    let channels = ap (λ s. channels_number s.channels) c.self.view_is in
-    let file = ap (λ s. channels_number s.header.channels) c.self.view_is in
-    let pixels = pixels_of_size d.header d.channels c.required_buf_len-size.result (channels_number c.self.inside.channels) c.required_buf_len-size.ensures.bytes channels in
+    let channels = ap (λ k. channels_number k.channels) c.conversion-conversion.ensures in
+    let file = ap (λ k. channels_number k.file_channels) c.conversion-conversion.ensures in
+    let pixels = pixels_of_size d.header d.channels c.required_buf_len-size.result (channels_number c.conversion-conversion.result.channels) c.required_buf_len-size.ensures.bytes channels in
     let out = c.decode_image_to_vec.new.out.items in
     let P = λ (old : Option (List ℕ)). ReadsImage (channels_number d.header.channels) k n old
     (g.R.Reader.ahead c.decode_image_to_vec.new.self) out in

@@ -9,11 +9,11 @@ use Rattle.qoi.specs.declared.types.Channels.{Channels}
 use Rattle.qoi.specs.Images.{front_image}
 use Rattle.qoi.specs.Qoi.{IsValid, channels_number, pixel_count}
 use Rattle.qoi.specs.pieces.PixelReader.{PixelsState, HasGiven, HasRows}
-use Rattle.qoi.specs.pieces.ReaderPieces.{KeepsPixels, GivesPieces}
+use Rattle.qoi.specs.pieces.Unread.{KeepsPixels, IsUnread}
 use Rattle.qoi.specs.inner.Chunks.{RefusesChunks, HasFault}
 use Rattle.qoi.proofs.decoding.Rows.{rows_more, rows_next}
 use Rattle.qoi.proofs.format.RectangleLaws.{picture_row}
-use Rattle.qoi.proofs.decoding.PixelPieces.{byte_bounds, has_given, pieces_of, refuses_pixels}
+use Rattle.qoi.proofs.decoding.PixelPieces.{byte_bounds, has_given, unread_of, refuses_pixels}
 use Rattle.qoi.proofs.decode.pixel_reader.PixelReader.read.Goals as goal
 
 -- what holds of the error in its place, holds of the one that is returned
@@ -35,9 +35,9 @@ returns-in-Ok-clause-read g c d start given h =
     let header = ap (λ s. s.header) c.self.view_is ∙ h.header in
     let chosen = ap (λ s. s.channels) c.self.view_is ∙ h.channels in
     let ahead = ap (λ s. g.R.Reader.ahead s.reader) c.self.view_is in
-    let pieces = ap (λ s. s.pieces) c.self.view_is in
+    let unread = ap (λ s. s.unread) c.self.view_is in
     let going = ap (λ s. s.refused) c.self.view_is ∙ h.going in
-    let after = pieces_of (sym header) (sym chosen) refl refl (c.in-Ok.ensures.gives.read _ start given (pieces_of header chosen ahead pieces h.pieces)) in
+    let after = unread_of (sym header) (sym chosen) refl refl (c.in-Ok.ensures.step.read _ start given (unread_of header chosen ahead unread h.unread)) in
     let out = c.next_piece.new.out in
     let whole = take_all (length out) out (omega arith) in
     let size : c.min-size.result ≡ length out = omega (arith, c.next_piece.auto.out, length-take-le c.min-size.result c.args.buf.now (omega (arith, c.min-size.ensures))) in
@@ -45,9 +45,9 @@ returns-in-Ok-clause-read g c d start given h =
     let valid : IsValid d.header = subst IsValid header c.self.invariant.0 in
     let same = c.next_piece.ensures.unchanged in
     let e = c.next_piece.new.self in
-    let then : PixelsState _ = record { reader = e.reader; header = e.header; channels = e.channels; pieces = c.next_piece.new.pieces; refused = c.self.inside.refused } in
+    let then : PixelsState _ = record { reader = e.reader; header = e.header; channels = e.channels; unread = c.next_piece.new.unread; refused = c.self.inside.refused } in
     subst (λ z. HasGiven d start (g.R.Reader.ahead e.reader) (given ++ z) then) (sym front)
-    (has_given d start _ (given ++ out) then (subst (λ z. GivesPieces (channels_number d.header.channels) (channels_number d.channels) (pixel_count d.header) start (g.R.Reader.ahead e.reader) (given ++ z) then.pieces) whole after) (subst (λ k. KeepsPixels (channels_number k) then.pieces) chosen c.in-Ok.ensures.gives.pixels) (ap (λ s. s.header) same ∙ header) (ap (λ s. s.channels) same ∙ chosen) going (byte_bounds d.header d.channels valid).0)
+    (has_given d start _ (given ++ out) then (subst (λ z. IsUnread (channels_number d.header.channels) (channels_number d.channels) (pixel_count d.header) start (g.R.Reader.ahead e.reader) (given ++ z) then.unread) whole after) (subst (λ k. KeepsPixels (channels_number k) then.unread) chosen c.in-Ok.ensures.step.pixels) (ap (λ s. s.header) same ∙ header) (ap (λ s. s.channels) same ∙ chosen) going (byte_bounds d.header d.channels valid).0)
 
 pub returns-in-Ok-clause-follows : goal.returns-in-Ok-clause-follows
 unfolding HasGiven
@@ -108,9 +108,9 @@ returns-in-Err-clause-refused g c d start given h =
     let header = ap (λ s. s.header) c.self.view_is ∙ h.header in
     let chosen = ap (λ s. s.channels) c.self.view_is ∙ h.channels in
     let ahead = ap (λ s. g.R.Reader.ahead s.reader) c.self.view_is in
-    let pieces = ap (λ s. s.pieces) c.self.view_is in
+    let unread = ap (λ s. s.unread) c.self.view_is in
     let ahead_now = g.R.Reader.ahead c.next_piece.new.self.reader in
-    refuses_pixels g.R.Reader.in_memory d start _ c.fault_of.result
-    (subst (λ k. RefusesChunks g.R.Reader.in_memory (pixel_count k) start ahead_now c.fault_of.result) header
-    (fault_is _ c.take.result c.fault_of.result c.fault_of.ensures (subst (HasFault (RefusesChunks g.R.Reader.in_memory (pixel_count c.self.inside.decoder.header) start ahead_now)) (sym c.take.ensures.value)
-    (c.in-Err.ensures.refused.refused _ start given (pieces_of header chosen ahead pieces h.pieces)))))
+    refuses_pixels g.R.Reader.in_memory d start _ c.refuse.result
+    (subst (λ k. RefusesChunks g.R.Reader.in_memory (pixel_count k) start ahead_now c.refuse.result) header
+    (fault_is _ c.next_piece.new.unread.fault c.refuse.result c.refuse.ensures.error
+    (c.in-Err.ensures.step.refused _ start given (unread_of header chosen ahead unread h.unread))))

@@ -6,7 +6,8 @@ use Rattle.qoi.proofs.decode.pixel_reader.row_index.read_to.Goals as goal
 pub loop-buf-init : goal.loop-buf-init
 loop-buf-init c = record {
   read = λ d bytes given h. ([], subst (λ z. HasGiven d (Some bytes) (Some c.args.pixels.now.reader) z c.args.pixels.now) (sym (append-nil given)) h);
-  left = λ h. h;
+  left = omega arith;
+  within = omega arith;
 }
 
 pub loop-buf-preserved : goal.loop-buf-preserved
@@ -20,5 +21,6 @@ loop-buf-preserved c =
             subst (λ z. HasGiven d (Some bytes) (Some c.read.new.self.reader) z c.read.new.self) (append_assoc given more piece)
                 (c.in_ok-read.ensures.read d (Some bytes) (given ++ more) before),
           );
-      left = λ h. omega (arith, i.left h, c.left.ensures.left, c.left-in-loop-buf.ensures.left, c.min-size.ensures, c.in_ok-read.ensures.size, c.in_ok-read.ensures.left, c.loop-buf-test.true, length-take c.min-size.result c.loop-buf.buf);
+      left = omega (arith, i.left, c.left.ensures.left, c.left-in-loop-buf.ensures.left, c.min-size.ensures, c.in_ok-read.ensures.size, c.in_ok-read.ensures.left, c.loop-buf-test.true, length-take c.min-size.result c.loop-buf.buf);
+      within = omega (arith, i.within, c.in_ok-read.ensures.left);
     }

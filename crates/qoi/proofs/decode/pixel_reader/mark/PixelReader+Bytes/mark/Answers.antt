@@ -2,7 +2,7 @@
 use Rattle.std.proofs.Common.{ap}
 use Rattle.qoi.specs.pieces.Mark.{marked_left}
 use Rattle.qoi.specs.pieces.PixelReader.{pixels_left}
-use Rattle.qoi.specs.pieces.ReaderPieces.{bytes_left}
+use Rattle.qoi.specs.pieces.Unread.{bytes_left}
 use Rattle.qoi.proofs.decoding.Marks.{marks_given, marks_rows, marks_then, marks_rows_then}
 use Rattle.qoi.proofs.decode.pixel_reader.mark.PixelReader+Bytes.mark.Goals as goal
 
@@ -22,4 +22,4 @@ returns-clause-rows_then c d e bytes more stride k made h =
 
 pub returns-clause-left : goal.returns-clause-left
 unfolding marked_left pixels_left
-returns-clause-left c = ap (λ m. bytes_left m.pieces) c.marked.ensures.state
+returns-clause-left c = ap (λ m. bytes_left m.unread) c.marked.ensures.state

@@ -1,23 +1,31 @@
 -- The place is one of the index; and all pixels come after the first row.
-use Rattle.std.proofs.Common.{◌≡◌, ◌-◌, ◌*◌, ap, length, arith}
-use Rattle.qoi.specs.Qoi.{channels_number}
-use Rattle.qoi.proofs.decoding.RowIndexes.{place_found, enough_left}
+use Rattle.std.proofs.Common.{◌≡◌, ◌≤◌, ◌-◌, ◌*◌, ◌∙◌, Ok, ap, subst, length, arith}
+use Rattle.qoi.specs.declared.header.Header.{Header}
+use Rattle.qoi.specs.Qoi.{channels_number, pixel_count}
+use Rattle.qoi.proofs.decoding.RowIndexes.{place_found, enough_left, reads_first, first_left}
 use Rattle.qoi.proofs.decode.pixel_reader.row_index.RowIndex.above.Goals as goal
 
 pub returns-then-left-clause-file : goal.returns-then-left-clause-file
 returns-then-left-clause-file c index =
     let same : c.args.self.now ≡ c.self.inside.places.items = cc c.self.view_is in
-    c.resume.ensures.file c.requires.header (place_found _ _ c.self.inside.places.items c.args.self.now (c.loop-at.at - 1) _ same c.requires.header index
+    c.resume.ensures.file c.requires.0 (place_found _ _ c.self.inside.places.items c.args.self.now (c.loop-at.at - 1) _ same c.requires.0 index
     (omega (arith, c.loop-at.invariant, c.loop-at-test.true, ap length same)) c.index-place.ensures)
 
 pub returns-then-left-clause-accepts : goal.returns-then-left-clause-accepts
 returns-then-left-clause-accepts c index =
     let same : c.args.self.now ≡ c.self.inside.places.items = cc c.self.view_is in
-    c.resume.ensures.accepts c.requires.header (place_found _ _ c.self.inside.places.items c.args.self.now (c.loop-at.at - 1) _ same c.requires.header index
+    c.resume.ensures.accepts c.requires.0 (place_found _ _ c.self.inside.places.items c.args.self.now (c.loop-at.at - 1) _ same c.requires.0 index
     (omega (arith, c.loop-at.invariant, c.loop-at-test.true, ap length same)) c.index-place.ensures)
+
+pub returns-clause-file : goal.returns-clause-file
+returns-clause-file c index = reads_first c.args.decoder c.args.file.now _ c.requires c.into_pixels.ensures.start
 
 pub returns-clause-left : goal.returns-clause-left
 returns-clause-left c =
-    let h = c.args.header in
-    enough_left (h.width * (h.height - c.args.first)) _ (channels_number c.args.channels) _
-    (omega (arith, c.pixels_behind-left.ensures.behind, c.pixels_behind-left.ensures.most)) (c.all_rows.ensures.left h c.requires.header)
+    let d = c.args.decoder in
+    let many = c.pixels_behind-left.result in
+    let behind : many ≡ d.header.width * (d.header.height - c.args.first) =
+    c.pixels_behind-left.ensures.behind ∙ ap (λ (z : Header). z.width * (z.height - c.args.first)) c.header.ensures in
+    let most : many ≤ pixel_count d.header = subst (λ (z : Header). many ≤ pixel_count z) c.header.ensures c.pixels_behind-left.ensures.most in
+    enough_left (d.header.width * (d.header.height - c.args.first)) _ (channels_number d.channels) (Ok c.into_pixels.result)
+    (omega (arith, behind, most)) (first_left d _ c.into_pixels.ensures.start)

@@ -1,5 +1,5 @@
 -- The image is read whole, and the places are places of it.
-use Rattle.std.proofs.Common.{sym, ap, subst, inl, length, arith}
+use Rattle.std.proofs.Common.{sym, ap, subst, inl, inr, length, arith}
 use Rattle.std.proofs.lemmas.Result.{err_from_is_err_and}
 use Rattle.qoi.specs.Qoi.{pixel_count}
 use Rattle.qoi.specs.pieces.RowIndex.{ArePlaces}
@@ -25,7 +25,7 @@ returns-clause-index c =
     let h = c.in_ok-header.header in
     let read = c.in_ok-skip_to-2.ensures.file h.channels h c.args.file.now c.loop-k.invariant.reads in
     row_index h c.args.file.now c.loop-k.places.items (sym c.in_ok-header.ensures.read) c.loop-k.invariant.are
-    (stands_whole h.channels h c.args.file.now c.skip_to-2.new.pixels read (omega (arith, c.in_ok-skip_to-2.ensures.most)))
+    (stands_whole h.channels h c.args.file.now c.skip_to-2.new.pixels read (omega (arith, c.in_ok-skip_to-2.ensures.left)))
 
 pub returns-clause-index_then : goal.returns-clause-index_then
 returns-clause-index_then c more = row_index_then c.args.file.now more c.loop-k.places.items (returns-clause-index c)
@@ -37,3 +37,8 @@ pub returns-in_err-header-clause-refused : goal.returns-in_err-header-clause-ref
 returns-in_err-header-clause-refused c =
     let p = err_from_is_err_and c.from_residual.result c.from_residual.ensures.1 in
     rw (p.1, p.2) (inl (refused_header _ _ (sym c.in_err-header.ensures.read)))
+
+pub returns-in_err-keep_place-clause-refused : goal.returns-in_err-keep_place-clause-refused
+returns-in_err-keep_place-clause-refused c =
+    let p = err_from_is_err_and c.from_residual-in_err-keep_place.result c.from_residual-in_err-keep_place.ensures.1 in
+    rw (p.1, p.2) (inr (c.in_err-keep_place.ensures.refused, c.in_ok-header.header, sym c.in_ok-header.ensures.read))

@@ -1,27 +1,40 @@
 -- The reader stands before the row that many bytes stand behind, and an image of an index isn't refused.
-use Rattle.std.proofs.Common.{◌≡◌, ◌∙◌, ◌-◌, ◌*◌, Some, Ok, drop, sym, subst, arith}
+use Rattle.std.proofs.Common.{◌≡◌, ◌≤◌, ◌∙◌, ◌-◌, ◌*◌, List, ℕ, Some, Ok, drop, ap, subst, arith}
 use Rattle.qoi.specs.declared.header.Header.{Header}
+use Rattle.qoi.specs.DecoderState.{DecoderState}
 use Rattle.qoi.specs.Qoi.{channels_number, header_of, header_size}
 use Rattle.qoi.specs.pieces.PixelReader.{pixels_left, HasRows}
-use Rattle.qoi.specs.pieces.RowIndex.{file_decoder, row_size}
-use Rattle.qoi.proofs.decoding.RowIndexes.{at_row, index_whole}
+use Rattle.qoi.specs.pieces.RowIndex.{file_decoder, row_size, ReadsFile}
+use Rattle.qoi.proofs.decoding.RowIndexes.{at_row, decoder_of, index_whole}
 use Rattle.qoi.proofs.decode.pixel_reader.row_index.RowIndex.rows_in.Goals as goal
+
+pub above-requires : goal.above-requires
+above-requires c = decoder_of _ _ _ _ c.in_ok-decoder.ensures.accepted c.with_channels.ensures
 
 pub returns-in_err-skip_to-clause-accepts : goal.returns-in_err-skip_to-clause-accepts
 returns-in_err-skip_to-clause-accepts c h is index within =
-    let g = c.in_ok-header.header in
-    let own : header_of c.args.file.now ≡ Ok g = sym c.in_ok-header.ensures.read in
-    cc (c.in_err-skip_to.ensures.accepts c.args.channels g c.args.file.now (c.in_ok-pixels.ensures.file index) (index_whole g c.args.file.now c.args.self.now own index))
+    let g = c.in_ok-decoder.decoder.header in
+    let file = c.args.file.now in
+    let own : header_of file ≡ Ok g = c.in_ok-decoder.ensures.accepted.header in
+    let reads : ReadsFile c.args.channels g file c.in_ok-pixels.pixels =
+    subst (λ (z : DecoderState (List ℕ)). ReadsFile z.channels z.header file c.in_ok-pixels.pixels) c.with_channels.ensures (c.in_ok-pixels.ensures.file index) in
+    cc (c.in_err-skip_to.ensures.accepts c.args.channels g file reads (index_whole g file c.args.self.now own index))
 
 pub returns-clause-rows : goal.returns-clause-rows
 returns-clause-rows c h is index =
-    let g = c.in_ok-header.header in
+    let g = c.in_ok-decoder.decoder.header in
     let channels = c.args.channels in
     let file = c.args.file.now in
     let k = c.args.first in
-    let own : header_of file ≡ Ok g = sym c.in_ok-header.ensures.read in
+    let own : header_of file ≡ Ok g = c.in_ok-decoder.ensures.accepted.header in
     let same : g ≡ h = cc (own, is) in
+    let reads : ReadsFile channels g file c.in_ok-pixels.pixels =
+    subst (λ (z : DecoderState (List ℕ)). ReadsFile z.channels z.header file c.in_ok-pixels.pixels) c.with_channels.ensures (c.in_ok-pixels.ensures.file index) in
+    let many : g.width * (g.height - k) * channels_number channels ≤ pixels_left c.in_ok-pixels.pixels =
+    subst (λ (z : DecoderState (List ℕ)). z.header.width * (z.header.height - k) * channels_number z.channels ≤ pixels_left c.in_ok-pixels.pixels) c.with_channels.ensures c.in_ok-pixels.ensures.left in
+    let behind : c.bytes_behind.result ≡ g.width * (g.height - k) * channels_number channels =
+    c.bytes_behind.ensures ∙ ap (λ (z : Header). z.width * (z.height - k) * channels_number channels) c.header.ensures in
     let left : pixels_left c.skip_to.new.pixels ≡ g.width * (g.height - k) * channels_number channels =
-    c.in_ok-skip_to.ensures.left (omega (arith, c.bytes_behind.ensures, c.in_ok-pixels.ensures.left)) ∙ c.bytes_behind.ensures in
+    omega (arith, c.in_ok-skip_to.ensures.left, behind, many) in
     subst (λ (z : Header). HasRows (file_decoder channels z file) (Some (drop header_size file)) (Some c.skip_to.new.pixels.reader) (row_size channels z) k c.skip_to.new.pixels) same
-    (at_row channels g file k c.skip_to.new.pixels (c.in_ok-skip_to.ensures.file channels g file (c.in_ok-pixels.ensures.file index)) (omega (arith, c.if-first-header.false)) left)
+    (at_row channels g file k c.skip_to.new.pixels (c.in_ok-skip_to.ensures.file channels g file reads) (omega (arith, c.if-first-header.false, ap (λ (z : Header). z.height) c.header.ensures)) left)

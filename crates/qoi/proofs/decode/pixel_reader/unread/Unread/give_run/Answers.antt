@@ -1,6 +1,6 @@
 -- Copies are kept, and those that have room are given.
 use Rattle.qoi.proofs.decoding.GivenMore.{gives_after_none, gives_kept}
-use Rattle.qoi.proofs.decode.pixel_reader.pieces.Pieces.give_run.Goals as goal
+use Rattle.qoi.proofs.decode.pixel_reader.unread.Unread.give_run.Goals as goal
 
 pub returns-clause-gives : goal.returns-clause-gives
 returns-clause-gives g c now =

@@ -1,33 +1,33 @@
 -- What was lent is decoded, and at the end of the image the end marker is taken.
-use Rattle.std.proofs.Common.{◌≡◌, ℕ, ◌/◌, ◌%◌, ◌<◌, ◌≤◌, ◌-◌, List, take, drop, take-append-drop, length, Option, arith, sym, ◌∙◌, subst}
+use Rattle.std.proofs.Common.{refl, ◌≡◌, ℕ, ◌/◌, ◌%◌, ◌<◌, ◌≤◌, ◌-◌, List, take, drop, take-append-drop, length, Option, arith, sym, ◌∙◌, subst}
 use Rattle.std.proofs.lemmas.List.{length-take-le}
-use Rattle.qoi.specs.declared.decode.pixel_reader.pieces.Pieces.{Pieces}
+use Rattle.qoi.specs.declared.decode.pixel_reader.unread.Unread.{Unread}
 use Rattle.qoi.specs.Raw.{IsChannels}
 use Rattle.qoi.specs.inner.Chunks.{RefusesChunks, HasFault}
-use Rattle.qoi.specs.pieces.ReaderPieces.{KeepsNothing, GivesPieces}
+use Rattle.qoi.specs.pieces.Unread.{KeepsNothing, IsUnread}
 use Rattle.qoi.proofs.format.WholePixels.{whole_pixels}
 use Rattle.qoi.proofs.decoding.Progress.{none_written}
 use Rattle.qoi.proofs.decoding.GivenMore.{gives_none}
 use Rattle.qoi.proofs.decoding.PieceSteps.{Lent, lent, kept_read, rest_count, rest_read, rest_whole, minus_whole}
-use Rattle.qoi.proofs.decode.pixel_reader.pieces.Pieces.decode_ahead.Goals as goal
+use Rattle.qoi.proofs.decode.pixel_reader.unread.Unread.decode_ahead.Goals as goal
 
 -- the front of all room is lent
-room_lent : {f c n : ℕ} {start old : Option (List ℕ)} {given : List ℕ} (p : Pieces) (room : ℕ) → IsChannels c → GivesPieces f c n start old given p
+room_lent : {f c n : ℕ} {start old : Option (List ℕ)} {given : List ℕ} (p : Unread) (room : ℕ) → IsChannels c → IsUnread f c n start old given p
     → KeepsNothing p → room ≤ length p.bytes → room % c ≡ 0 → room < p.undecoded → Lent f c n (room / c) start old given p (take room p.bytes) 0
 room_lent {c = c} p room is h same within whole long =
     let front = length-take-le room p.bytes within in
     lent (room / c) (take room p.bytes) is h same (omega (arith, long)) (front ∙ whole_pixels c room is whole) (omega (arith, front, long))
 
 -- room for the rest is
-rest_lent : {f c n : ℕ} {start old : Option (List ℕ)} {given : List ℕ} (p : Pieces) → IsChannels c → GivesPieces f c n start old given p
+rest_lent : {f c n : ℕ} {start old : Option (List ℕ)} {given : List ℕ} (p : Unread) → IsChannels c → IsUnread f c n start old given p
     → KeepsNothing p → length p.bytes ≡ 3072 → 0 < p.undecoded → p.undecoded ≤ 3072
     → Lent f c n (p.undecoded / c) start old given p (take p.undecoded p.bytes) 0
 rest_lent {c = c} p is h same size some short =
     let front = length-take-le p.undecoded p.bytes (omega (arith, size, short)) in
     lent (p.undecoded / c) (take p.undecoded p.bytes) is h same some (front ∙ rest_whole is h same.0 some) (omega (arith, front))
 
-pub returns-in-Err-clause-refused : goal.returns-in-Err-clause-refused
-returns-in-Err-clause-refused g c = record {
+pub returns-in-Err-clause-step : goal.returns-in-Err-clause-step
+returns-in-Err-clause-step g c = record {
   refused = λ n start given h.
       let size : length c.args.self.now.bytes ≡ 3072 = omega arith in
       let within : c.args.room ≤ length c.args.self.now.bytes = omega (arith, size, c.requires.room.1) in
@@ -36,8 +36,8 @@ returns-in-Err-clause-refused g c = record {
       (c.in-Err.ensures.refused l.gone _ _ l.before n l.most);
 }
 
-pub returns-then-self-gt-DECODED_AHEAD-clause-gives : goal.returns-then-self-gt-DECODED_AHEAD-clause-gives
-returns-then-self-gt-DECODED_AHEAD-clause-gives g c =
+pub returns-then-self-gt-DECODED_AHEAD-clause-step : goal.returns-then-self-gt-DECODED_AHEAD-clause-step
+returns-then-self-gt-DECODED_AHEAD-clause-step g c =
     let pixels = c.requires.pixels.1 in
     let out = c.front_of_image-front.new.out in
     let now = c.in-Ok.now in
@@ -47,15 +47,15 @@ returns-then-self-gt-DECODED_AHEAD-clause-gives g c =
     gives_none (λ n start given h.
     let l = room_lent c.args.self.now c.args.room c.requires.channels h c.requires.none within c.requires.whole (omega (arith, c.if-self-gt-DECODED_AHEAD.true, c.requires.room.1)) in
     let front = length-take-le c.args.room out (omega (arith, within, c.front_of_image-front.auto.out)) in
-    subst (λ z. GivesPieces g.row.F g.row.N n start (g.R.Chunks.ahead c.front_of_image-front.new.reader) given
-    (record { table = c.front_of_image-front.new.table; last = now.last; bytes = z; from = 0; to = now.at; run = c.args.self.now.run; undecoded = c.args.self.now.undecoded - now.at })) (take-append-drop c.args.room out)
+    subst (λ z. IsUnread g.row.F g.row.N n start (g.R.Chunks.ahead c.front_of_image-front.new.reader) given
+    (record c.args.self.now { table = c.front_of_image-front.new.table; last = now.last; bytes = z; from = 0; to = now.at; undecoded = c.args.self.now.undecoded - now.at })) (take-append-drop c.args.room out)
     (kept_read (take c.args.room out) (drop c.args.room out) now.at c.requires.channels h c.requires.none l (c.in-Ok.ensures.read.goes_on.between l.gone _ _ l.before)
     (omega (arith, front, c.in-Ok.ensures.below)) (omega (arith, front, c.if-self-gt-DECODED_AHEAD.true, c.requires.room.1))))
     ((omega arith, omega (arith, c.in-Ok.ensures.below, c.requires.room.1)), (whole, pixels.1, pixels.2, λ some. absurd (omega (arith, some, c.requires.none))))
-    (omega (arith, c.requires.none, c.in-Ok.ensures.below, c.if-self-gt-DECODED_AHEAD.true, c.requires.room.1))
+    (omega (arith, c.requires.none, c.in-Ok.ensures.below, c.if-self-gt-DECODED_AHEAD.true, c.requires.room.1)) refl
 
-pub returns-in-Err-rest-clause-refused : goal.returns-in-Err-rest-clause-refused
-returns-in-Err-rest-clause-refused g c = record {
+pub returns-in-Err-rest-clause-step : goal.returns-in-Err-rest-clause-step
+returns-in-Err-rest-clause-step g c = record {
   refused = λ n start given h.
       let l = rest_lent c.args.self.now c.requires.channels h c.requires.none (omega arith) c.requires.some (omega (arith, c.if-self-gt-DECODED_AHEAD.false)) in
       let count = rest_count c.requires.channels h c.requires.none l (rest_whole c.requires.channels h c.requires.none.0 c.requires.some) in
@@ -64,8 +64,8 @@ returns-in-Err-rest-clause-refused g c = record {
       (c.in-Err-rest.ensures.refused l.gone _ _ l.before));
 }
 
-pub returns-clause-gives : goal.returns-clause-gives
-returns-clause-gives g c =
+pub returns-clause-step : goal.returns-clause-step
+returns-clause-step g c =
     let pixels = c.requires.pixels.1 in
     let size : length c.args.self.now.bytes ≡ 3072 = omega arith in
     let short : c.args.self.now.undecoded ≤ 3072 = omega (arith, c.if-self-gt-DECODED_AHEAD.false) in
@@ -74,4 +74,4 @@ returns-clause-gives g c =
     rest_read c.rest_of_image-rest.new.out c.requires.channels h c.requires.none l (c.in_default.ensures.read l.gone _ _ l.before)
     (omega (arith, short, size, c.rest_of_image-rest.auto.out)) (rest_whole c.requires.channels h c.requires.none.0 c.requires.some))
     ((omega arith, omega (arith, short, size, c.rest_of_image-rest.auto.out)), (none_written g.row.N c.requires.channels, pixels.1, pixels.2, λ some. absurd (omega (arith, some, c.requires.none))))
-    (omega (arith, c.requires.none))
+    (omega (arith, c.requires.none)) refl

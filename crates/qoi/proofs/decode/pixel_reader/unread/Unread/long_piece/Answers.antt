@@ -1,8 +1,9 @@
 -- What was lent is decoded.
 use Rattle.std.proofs.Common.{◌≡◌, ◌*◌, ◌/◌, ◌≤◌, take, length, arith, rules, refl, sym, subst}
 use Rattle.qoi.specs.inner.Chunks.{RefusesChunks, HasFault}
+use Rattle.qoi.specs.pieces.Unread.{KeepsNothing}
 use Rattle.qoi.proofs.decoding.PieceSteps.{whole_front, front_lent, front_most, long_read, times_fillable, minus_whole}
-use Rattle.qoi.proofs.decode.pixel_reader.pieces.Pieces.long_piece.Goals as goal
+use Rattle.qoi.proofs.decode.pixel_reader.unread.Unread.long_piece.Goals as goal
 
 pub some_chunks-requires : goal.some_chunks-requires
 some_chunks-requires g c = times_fillable _ c.requires.channels (whole_front g.row.N c.args.out.now c.requires.channels)
@@ -11,29 +12,30 @@ pub returns-clause-last : goal.returns-clause-last
 returns-clause-last g c long =
     omega (arith, (front_most g.row.N c.args.out.now c.requires.channels).1, c.some_chunks.auto.out, c.in-Ok.ensures.read.filled refl)
 
-pub returns-in-Err-clause-refused : goal.returns-in-Err-clause-refused
-returns-in-Err-clause-refused g c = record {
+pub returns-in-Err-clause-step : goal.returns-in-Err-clause-step
+returns-in-Err-clause-step g c = record {
   refused = λ n start given h.
-      let l = front_lent c.args.self.now c.args.out.now c.requires.channels h c.requires.none c.requires.fits (omega (arith, c.if-out-least_room.false, c.least_room.ensures.run)) in
+      let l = front_lent c.args.self.now c.args.out.now c.requires.channels h (c.requires.asks.none, c.requires.run) c.requires.asks.fits (omega (arith, c.if-out-least_room.false, c.least_room.ensures.run)) in
       subst (HasFault (RefusesChunks g.R.Chunks.in_memory n start (g.R.Chunks.ahead c.some_chunks.new.self))) (sym c.fail.ensures)
       (c.in-Err.ensures.refused l.gone _ _ l.before n l.most);
 }
 
-pub returns-clause-gives : goal.returns-clause-gives
-returns-clause-gives g c =
+pub returns-clause-step : goal.returns-clause-step
+returns-clause-step g c =
     let out = c.args.out.now in
     let long : 256 ≤ length out = omega (arith, c.if-out-least_room.false, c.least_room.ensures.run) in
     let most = front_most g.row.N out c.requires.channels in
-    let same = c.requires.none in
+    let same : KeepsNothing c.args.self.now = (c.requires.asks.none, c.requires.run) in
     let size : length c.some_chunks.new.out ≡ length (take (length out / g.row.N * g.row.N) out) = c.some_chunks.auto.out in
-    let pixels = c.requires.pixels.1 in
+    let pixels = c.requires.asks.pixels.1 in
     let whole = minus_whole g.row.N c.args.self.now.undecoded c.in-Ok.now.at c.requires.channels pixels.0 c.in-Ok.ensures.read.fillable.whole.1 in
     record {
       read = λ n start given h.
-          let l = front_lent c.args.self.now out c.requires.channels h c.requires.none c.requires.fits (omega (arith, long)) in
+          let l = front_lent c.args.self.now out c.requires.channels h same c.requires.asks.fits (omega (arith, long)) in
           long_read c.some_chunks.new.out _ _ c.requires.channels h same l (c.in-Ok.ensures.read.goes_on.between l.gone _ _ l.before)
-          (c.in-Ok.ensures.read.below refl (omega (arith, most, long))) (omega (arith, size, most.0, c.requires.fits, same));
+          (c.in-Ok.ensures.read.below refl (omega (arith, most, long))) (omega (arith, size, most.0, c.requires.asks.fits, same));
       within = search rules;
-      pixels = (c.requires.pixels.0, (whole, pixels.1, pixels.2, λ some. absurd (omega (arith, some, same))));
+      pixels = (c.requires.asks.pixels.0, (whole, pixels.1, pixels.2, λ some. absurd (omega (arith, some, same))));
       left = search rules;
+      fault = refl;
     }

@@ -1,5 +1,6 @@
-//! The loops over the pieces of an image: what is decoded before a caller asks for it is kept.
-ghost use Rattle.std.specs.Prelude.{◌≡◌, ◌↔◌, ℕ, ◌+◌, ◌-◌, ◌*◌, ◌%◌, ◌^◌, ◌<◌, ◌≤◌, List, [], ◌++◌, length, take, drop, min, Option, Some, IsTrue, IfOk, OnOk, OnErr};
+//! What is unread of an image, and the loops that decode it piece by piece: what is decoded before a
+//! caller asks for it is kept.
+ghost use Rattle.std.specs.Prelude.{◌≡◌, ◌↔◌, ℕ, ◌+◌, ◌-◌, ◌*◌, ◌%◌, ◌^◌, ◌<◌, ◌≤◌, List, [], ◌++◌, length, take, drop, min, Option, Some, IsTrue, IfOk, OnOk, IfSome, None};
 ghost use Rattle.qoi.specs.Raw.{IsChannels};
 ghost use Rattle.qoi.specs.declared.decode.output.TheConstants.{RUN_ROOM};
 ghost use Rattle.qoi.specs.declared.decode.pixel_reader.room.TheConstants.{DECODED_AHEAD, IN_PLACE};
@@ -13,11 +14,11 @@ use crate::decode::pixel_reader::room::{
 use crate::decode::table::TermTable;
 use crate::error::Error;
 
-/// What stands between two pieces of an image: the table, the last pixel, bytes that are stored and
-/// weren't given yet, and how many bytes aren't stored; of those the first `run` are copies of the
-/// last pixel.
+/// What is unread of an image: bytes that are decoded and weren't given yet, and how many others there
+/// are, of which the first `run` are copies of the last pixel. Table and last pixel are those behind
+/// all chunks so far. After a refusal its error stands in `fault`, until it is returned.
 #[derive(Drop)]
-pub struct Pieces {
+pub struct Unread {
     pub(super) table: TermTable,
     pub(super) last: Hashed,
     pub(super) bytes: [u8; DECODED_AHEAD],
@@ -25,40 +26,32 @@ pub struct Pieces {
     pub(super) to: usize,
     pub(super) run: usize,
     pub(super) undecoded: usize,
+    pub(super) fault: Option<Error>,
 }
 
-/// A piece was refused. The error stands in a place of the caller's: a result with the error in it
-/// has 104 bytes, which would be written for each piece.
+/// A piece was refused. The error stands in `fault`: a result with the error in it has 104 bytes,
+/// which would be written for each piece.
 #[derive(Clone, Copy)]
 pub struct Refused;
 
-/// What the loops over pieces return.
+/// What the calls return that decode a piece.
 pub type PieceResult<T> = std::result::Result<T, Refused>;
 
-// Puts the error of a refusal in its place.
-#[cold]
-#[inline(never)]
-pub(super) fn fail(fault: &mut Option<Error>, e: Error) -> Refused
-    ensures { fault.new ≡ Some e }
-{
-    *fault = Some(e);
-    Refused
-}
+impl Unread {
+    ghost use Rattle.qoi.specs.pieces.Unread.{kept_raw, kept_count, bytes_left, KeepsWithin, KeepsNone, KeepsNothing, KeepsPixels, IsUnread, GivesMore, Asks, Steps, Fills};
 
-impl Pieces {
-    ghost use Rattle.qoi.specs.pieces.ReaderPieces.{kept_raw, bytes_left, KeepsWithin, KeepsNothing, KeepsPixels, GivesPieces, GivesMore, RefusesMore};
-
-    /// At the beginning of an image of `size` bytes.
-    pub(super) fn new(size: usize) -> Pieces
+    /// All of an image of `size` bytes.
+    pub(super) fn new(size: usize) -> Unread
         requires { 0 < size }
         ensures start { (f c n : ℕ) (start : Option (List ℕ)) → IsChannels c → size ≡ c * n
-            → GivesPieces f c n start start [] result }
+            → IsUnread f c n start start [] result }
         ensures pixels { (c n : ℕ) → IsChannels c → size ≡ c * n → KeepsPixels c result }
         ensures left { bytes_left result ≡ size }
         ensures within { KeepsWithin result }
         ensures undecoded { (result.undecoded ≡ size) × (result.run ≡ 0) }
+        ensures fault { result.fault ≡ None }
     {
-        Pieces {
+        Unread {
             table: TermTable::new(),
             last: Hashed::start(),
             bytes: [0; DECODED_AHEAD],
@@ -66,14 +59,16 @@ impl Pieces {
             to: 0,
             run: 0,
             undecoded: size,
+            fault: None,
         }
     }
 
-    /// A copy.
-    pub(super) fn copied(&self) -> Pieces
+    /// A copy, while no error stands in its place.
+    pub(super) fn copied(&self) -> Unread
+        requires { self.now.fault ≡ None }
         ensures { result ≡ self.now }
     {
-        Pieces {
+        Unread {
             table: self.table.copied(),
             last: self.last,
             bytes: self.bytes,
@@ -81,6 +76,7 @@ impl Pieces {
             to: self.to,
             run: self.run,
             undecoded: self.undecoded,
+            fault: None,
         }
     }
 
@@ -94,24 +90,41 @@ impl Pieces {
         self.to - self.from + self.undecoded
     }
 
-    /// Drops what is kept: no more of the image is given, and as many bytes are left of it as
-    /// before the piece that was refused.
+    // Puts the error of a refusal in its place.
     #[cold]
-    pub(super) fn refuse(&mut self, left: usize)
+    #[inline(never)]
+    fn fail(&mut self, e: Error) -> Refused
+        ensures { self.new.fault ≡ Some e }
+    {
+        self.fault = Some(e);
+        Refused
+    }
+
+    /// Drops what is kept: no more of the image is given, and as many bytes are left of it as
+    /// before the piece that was refused. Returns the error of the refusal.
+    #[cold]
+    #[inline(never)]
+    pub(super) fn refuse(&mut self, left: usize) -> Error
         ensures left { bytes_left self.new ≡ left }
         ensures within { KeepsWithin self.new }
+        ensures error { IfSome self.old.fault (λ e. result ≡ e) }
+        ensures none { self.new.fault ≡ None }
     {
         self.from = 0;
         self.to = 0;
         self.run = 0;
         self.undecoded = left;
+        match self.fault.take() {
+            Some(e) => e,
+            None => Error::UnexpectedBufferEnd,
+        }
     }
 
     /// Gives kept bytes into the front of `out`, and returns how many.
     #[inline]
     pub(super) fn give(&mut self, out: &mut [u8]) -> usize
         requires { KeepsWithin self.old }
-        ensures size { result ≡ min (length out.old) (self.old.to - self.old.from) }
+        ensures size { result ≡ min (length out.old) (kept_count self.old) }
         ensures given { out.new ≡ take result (kept_raw self.old) ++ drop result out.old }
         ensures state { self.new ≡ record self.old { from = self.old.from + result } }
     {
@@ -142,18 +155,14 @@ impl Pieces {
         &mut self,
         reader: &mut R,
         out: &mut [u8],
-        fault: &mut Option<Error>,
     ) -> PieceResult<usize>
         requires channels { IsChannels N }
-        requires none { self.old.from ≡ self.old.to }
+        requires asks { Asks N self.old (length out.old) }
         requires room { IN_PLACE ≤ length out.old }
         requires fits { length out.old + RUN_ROOM ≤ self.old.undecoded }
-        requires pixels { KeepsPixels N self.old }
-        ensures gives { IfOk result (GivesMore F N (R.ahead reader.old) (R.ahead reader.new)
-            self.old self.new out.new) }
-        ensures refused { OnErr result (RefusesMore F N R.in_memory
-            (R.ahead reader.old) (R.ahead reader.new) self.old fault.new) }
-        ensures none { OnOk result (self.new.from ≡ self.new.to) }
+        ensures step { Steps F N R.in_memory (R.ahead reader.old) (R.ahead reader.new)
+            self.old self.new out.new result }
+        ensures none { OnOk result (KeepsNone self.new) }
     {
         let size = out.len() / N * N;
         store_run::<N, F>(out, 0, self.last, self.run / N);
@@ -164,7 +173,7 @@ impl Pieces {
             self.run,
         ) {
             Ok(placed) => placed,
-            Err(e) => return Err(fail(fault, e)),
+            Err(e) => return Err(self.fail(e)),
         };
         self.last = placed.last;
         self.run = placed.run;
@@ -177,7 +186,7 @@ impl Pieces {
     #[inline(never)]
     fn keep_run<const N: usize, const F: usize>(&mut self)
         requires channels { IsChannels N }
-        requires none { self.old.from ≡ self.old.to }
+        requires none { KeepsNone self.old }
         requires some { 0 < self.old.run }
         requires pixels { KeepsPixels N self.old }
         ensures gives { (now : Option (List ℕ)) → GivesMore F N now now self.old self.new [] 0 }
@@ -196,7 +205,7 @@ impl Pieces {
     #[inline(always)]
     fn give_run<const N: usize, const F: usize>(&mut self, out: &mut [u8]) -> usize
         requires channels { IsChannels N }
-        requires none { self.old.from ≡ self.old.to }
+        requires none { KeepsNone self.old }
         requires pixels { KeepsPixels N self.old }
         ensures gives { (now : Option (List ℕ)) → GivesMore F N now now
             self.old self.new out.new result }
@@ -217,22 +226,17 @@ impl Pieces {
         &mut self,
         reader: &mut R,
         out: &mut [u8],
-        fault: &mut Option<Error>,
     ) -> PieceResult<usize>
         requires channels { IsChannels N }
-        requires none { self.old.from ≡ self.old.to }
-        requires fits { length out.old ≤ bytes_left self.old }
-        requires pixels { KeepsPixels N self.old }
-        ensures gives { IfOk result (GivesMore F N (R.ahead reader.old) (R.ahead reader.new)
-            self.old self.new out.new) }
-        ensures refused { OnErr result (RefusesMore F N R.in_memory
-            (R.ahead reader.old) (R.ahead reader.new) self.old fault.new) }
+        requires asks { Asks N self.old (length out.old) }
+        ensures step { Steps F N R.in_memory (R.ahead reader.old) (R.ahead reader.new)
+            self.old self.new out.new result }
         ensures none { IfOk result (λ size. size < length out.new → KeepsNothing self.new) }
     {
         if !self.goes_in_place(out.len()) {
             return Ok(self.give_run::<N, F>(out));
         }
-        let placed = self.piece_in_place::<R, N, F>(reader, out, fault)?;
+        let placed = self.piece_in_place::<R, N, F>(reader, out)?;
         if placed == out.len() {
             return Ok(placed);
         }
@@ -247,16 +251,12 @@ impl Pieces {
         reader: &mut R,
         out: &mut [u8],
         done: usize,
-        fault: &mut Option<Error>,
     ) -> PieceResult<usize>
         requires channels { IsChannels N }
-        requires none { KeepsNothing self.old }
-        requires fits { length out.old ≤ bytes_left self.old }
-        requires pixels { KeepsPixels N self.old }
-        ensures gives { IfOk result (GivesMore F N (R.ahead reader.old) (R.ahead reader.new)
-            self.old self.new out.new) }
-        ensures refused { OnErr result (RefusesMore F N R.in_memory
-            (R.ahead reader.old) (R.ahead reader.new) self.old fault.new) }
+        requires asks { Asks N self.old (length out.old) }
+        requires run { self.old.run ≡ 0 }
+        ensures step { Steps F N R.in_memory (R.ahead reader.old) (R.ahead reader.new)
+            self.old self.new out.new result }
         ensures few { IfOk result (λ size. length out.new < size + IN_PLACE) }
         ensures last { IfOk result (λ size. 0 < done + size
             → length out.new < size + (RUN_ROOM + 3)) }
@@ -268,7 +268,7 @@ impl Pieces {
         let size = out.len() / N * N;
         let now = match reader.some_chunks(&mut self.table, self.last, &mut out[..size], 0) {
             Ok(now) => now,
-            Err(e) => return Err(fail(fault, e)),
+            Err(e) => return Err(self.fail(e)),
         };
         self.last = now.last;
         self.undecoded -= now.at;
@@ -281,7 +281,6 @@ impl Pieces {
         &mut self,
         reader: &mut R,
         room: usize,
-        fault: &mut Option<Error>,
     ) -> PieceResult<()>
         requires channels { IsChannels N }
         requires room { (0 < room) × (room ≤ DECODED_AHEAD) }
@@ -289,12 +288,10 @@ impl Pieces {
         requires none { KeepsNothing self.old }
         requires some { 0 < self.old.undecoded }
         requires pixels { KeepsPixels N self.old }
-        ensures gives { OnOk result (GivesMore F N (R.ahead reader.old) (R.ahead reader.new)
-            self.old self.new [] 0) }
-        ensures refused { OnErr result (RefusesMore F N R.in_memory
-            (R.ahead reader.old) (R.ahead reader.new) self.old fault.new) }
+        ensures step { Fills F N R.in_memory (R.ahead reader.old) (R.ahead reader.new)
+            self.old self.new [] result }
         ensures enough { OnOk result
-            (min self.old.undecoded (room - RUN_ROOM) ≤ self.new.to - self.new.from) }
+            (min self.old.undecoded (room - RUN_ROOM) ≤ kept_count self.new) }
     {
         self.from = 0;
         if DECODED_AHEAD < self.undecoded {
@@ -307,7 +304,7 @@ impl Pieces {
             );
             let now = match front {
                 Ok(now) => now,
-                Err(e) => return Err(fail(fault, e)),
+                Err(e) => return Err(self.fail(e)),
             };
             self.last = now.last;
             self.to = now.at;
@@ -323,7 +320,7 @@ impl Pieces {
             size,
         );
         if let Err(e) = rest {
-            return Err(fail(fault, e));
+            return Err(self.fail(e));
         }
         self.to = size;
         self.undecoded = 0;
@@ -336,30 +333,24 @@ impl Pieces {
         &mut self,
         reader: &mut R,
         out: &mut [u8],
-        fault: &mut Option<Error>,
     ) -> PieceResult<usize>
         requires channels { IsChannels N }
-        requires none { self.old.from ≡ self.old.to }
-        requires fits { length out.old ≤ bytes_left self.old }
-        requires pixels { KeepsPixels N self.old }
-        ensures gives { IfOk result (GivesMore F N (R.ahead reader.old) (R.ahead reader.new)
-            self.old self.new out.new) }
-        ensures refused { OnErr result (RefusesMore F N R.in_memory
-            (R.ahead reader.old) (R.ahead reader.new) self.old fault.new) }
-        ensures enough { IfOk result (λ size.
-            length out.new ≤ size + (self.new.to - self.new.from)) }
+        requires asks { Asks N self.old (length out.old) }
+        ensures step { Steps F N R.in_memory (R.ahead reader.old) (R.ahead reader.new)
+            self.old self.new out.new result }
+        ensures enough { IfOk result (λ size. length out.new ≤ size + kept_count self.new) }
     {
-        let done = self.piece_front::<R, N, F>(reader, out, fault)?;
+        let done = self.piece_front::<R, N, F>(reader, out)?;
         if done == out.len() {
             return Ok(done);
         }
-        let more = self.long_piece::<R, N, F>(reader, &mut out[done..], done, fault)?;
+        let more = self.long_piece::<R, N, F>(reader, &mut out[done..], done)?;
         let size = done + more;
         if size == out.len() {
             return Ok(size);
         }
         let room = kept_room(out.len(), size);
-        self.decode_ahead::<R, N, F>(reader, room, fault)?;
+        self.decode_ahead::<R, N, F>(reader, room)?;
         Ok(size)
     }
 }
