@@ -8,7 +8,7 @@ use mir.Val.{bool_byte}
 use Rattle.qoi.specs.declared.decode.fast.Progress.{Progress}
 use Rattle.qoi.specs.Qoi.{Past}
 use Rattle.qoi.specs.Raw.{IsChannels}
-use Rattle.qoi.specs.inner.Filling.{upto, filling, taken_further, HasWritten, HasFilled, HasAhead, DecodesChunk, DecoderBetween, IsFrontAfter, Fast, fast, FastStep, FastChunks, IsPlainSize}
+use Rattle.qoi.specs.inner.Filling.{upto, reached, filling, taken_further, HasWritten, HasFilled, HasAhead, DecodesChunk, DecoderBetween, IsFrontAfter, Fast, fast, FastStep, FastChunks, IsPlainSize}
 use Rattle.qoi.specs.inner.Hashed.{pixel_of_lanes, HoldsSeen}
 use Rattle.qoi.proofs.format.WholePixels.{by_channels}
 use Rattle.qoi.proofs.decoding.FilledBuffer.{filled_copies}
@@ -69,8 +69,8 @@ pub fast_step : {f c input room : ℕ} {bytes table table' out out' : List ℕ} 
     → HasWritten f c (upto out now.at) (upto out' (now.at + c * count)) (replicate count (pixel_of_lanes new.last))
     → new.next ≡ get_or bytes new.taken 0 → new.next < 256 → (k : ℕ) → new.taken ≡ now.taken + k → 0 < k → k ≤ input
     → (now.next ≡ get_or (drop now.taken bytes) 0 0
-    → PutsCopies f c (pixel_of_lanes new.last) count (filling table now.last out now.at) (filling table' new.last out' (now.at + c * count))
-    → DecodesChunk f c (take k (drop now.taken bytes)) (filling table now.last out now.at) (filling table' new.last out' (now.at + c * count)))
+    → PutsCopies f c (pixel_of_lanes new.last) count (filling table (reached now.last now.at) out) (filling table' (reached new.last (now.at + c * count)) out')
+    → DecodesChunk f c (take k (drop now.taken bytes)) (filling table (reached now.last now.at) out) (filling table' (reached new.last (now.at + c * count)) out'))
     → FastStep f c input room bytes (fast now table out) (fast new table' out')
 fast_step {f} {c} {bytes = bytes} {table} {table'} {out} {out'} now new count is whole inside fits size end few put written next byte k taken some most decodes =
     let copies = λ (m : ℕ) (past : Past) (s : HasFilled f c m (upto out now.at) past). filled_copies f c m out out' now.at count (pixel_of_lanes new.last) past is inside fits size written s in
@@ -80,8 +80,8 @@ fast_step {f} {c} {bytes = bytes} {table} {table'} {out} {out'} now new count is
           let first : now.next ≡ get_or (drop now.taken bytes) 0 0 = h.next_is ∙ ap (λ i. get_or bytes i 0) (omega arith) ∙ sym (get_or-drop now.taken bytes 0 0) in
           let decoded = decodes first (record { last_is = refl; table = put; filled = copies }) in
           record {
-            between = subst (λ at. DecoderBetween f c gone n (IsFrontAfter front bytes new.taken) (filling table' new.last out' at)) (sym end)
-                (goes_on {old = filling table now.last out now.at} {new = filling table' new.last out' (now.at + c * count)} is h.between inside decoded
+            between = subst (λ at. DecoderBetween f c gone n (IsFrontAfter front bytes new.taken) (filling table' (reached new.last at) out')) (sym end)
+                (goes_on {old = filling table (reached now.last now.at) out} {new = filling table' (reached new.last (now.at + c * count)) out'} is h.between inside decoded
                 (λ before is_front. ap (λ z. z ++ take k (drop now.taken bytes)) is_front ∙ append_assoc front (take now.taken bytes) (take k (drop now.taken bytes))
                 ∙ ap (λ z. front ++ z) (sym (take-add now.taken k bytes) ∙ ap (λ m. take m bytes) (sym taken)))
                 (rw size fits) ends_whole);

@@ -10,7 +10,7 @@ use Rattle.qoi.specs.Raw.{IsChannels}
 use Rattle.qoi.specs.Verdicts.{IsPartOfChunk, AreCut, EndsBefore}
 use Rattle.qoi.specs.declared.error.Error.TheVariants.{IoError}
 use Rattle.qoi.specs.inner.Hashed.{pixel_of_lanes, HoldsSeen}
-use Rattle.qoi.specs.inner.Filling.{Filling, filling, IsFillable, DecoderBetween}
+use Rattle.qoi.specs.inner.Filling.{Filling, reached, filling, IsFillable, DecoderBetween}
 use Rattle.qoi.specs.inner.Chunks.{TakesMore, RefusesFilling}
 use Rattle.qoi.proofs.format.WholePixels.{by_channels, whole_pixels}
 use Rattle.qoi.proofs.decoding.LeastBytes.{pixels_most}
@@ -28,8 +28,8 @@ more_pixels c m n size more is = by_channels (λ k. size ≡ k * m → size + mo
 
 -- a buffer that isn't full may have bytes more
 grows : {f c : ℕ} {gone : Past} {m : ℕ} {Taken : List ℕ → Type 0} {table : List ℕ} {last : ℕ} {out : List ℕ} {at : ℕ} → IsChannels c
-    → DecoderBetween f c gone m Taken (filling table last out at) → at < length out → (n : ℕ) (more : List ℕ) → length out + length more ≡ c * n
-    → DecoderBetween f c gone n Taken (filling table last (out ++ more) at)
+    → DecoderBetween f c gone m Taken (filling table (reached last at) out) → at < length out → (n : ℕ) (more : List ℕ) → length out + length more ≡ c * n
+    → DecoderBetween f c gone n Taken (filling table (reached last at) (out ++ more))
 grows {c = c} {gone = gone} {m = m} {out = out} {at = at} is s inside n more size =
     let past = s.recent in
     let below : length past < m = fewer is s.filled inside in
@@ -56,7 +56,7 @@ grows {c = c} {gone = gone} {m = m} {out = out} {at = at} is s inside n more siz
 -- what stands between two chunks, however many bytes the buffer gets
 abbrev pub Growing : ℕ → ℕ → (List ℕ → Type 0) → List ℕ → ℕ → List ℕ → ℕ → Type 0
 Growing f c Taken table last out at = (n : ℕ) (more : List ℕ) → length out + length more ≡ c * n
-    → DecoderBetween f c [] n Taken (filling table last (out ++ more) at)
+    → DecoderBetween f c [] n Taken (filling table (reached last at) (out ++ more))
 
 -- before the first chunk
 pub growing_start : (f c : ℕ) (Taken : List ℕ → Type 0) (table : List ℕ) (last : ℕ) (out : List ℕ) → IsChannels c → length out ≡ 0
@@ -64,16 +64,16 @@ pub growing_start : (f c : ℕ) (Taken : List ℕ → Type 0) (table : List ℕ)
 growing_start f c Taken table last [] is empty blank opaque none n more size =
     let many : length more / c ≡ n = by_channels (λ k. 0 + length more ≡ k * n → length more / k ≡ n) is (λ e. omega arith) (λ e. omega arith) size in
     let whole : length more % c ≡ 0 = by_channels (λ k. 0 + length more ≡ k * n → length more % k ≡ 0) is (λ e. omega arith) (λ e. omega arith) size in
-    subst (λ k. DecoderBetween f c [] k Taken (filling table last more 0)) many (start_between f c Taken table last more is whole blank opaque none)
+    subst (λ k. DecoderBetween f c [] k Taken (filling table (reached last 0) more)) many (start_between f c Taken table last more is whole blank opaque none)
 growing_start f c Taken table last (x ∷ out) is empty blank opaque none n more size = absurd (omega arith)
 
 -- with zeros up to a size
 pub grown : {f c : ℕ} {Taken : List ℕ → Type 0} {table : List ℕ} {last : ℕ} {at : ℕ} (old new : List ℕ) (len size : ℕ) → IsChannels c → Growing f c Taken table last old at
-    → len ≡ length old → len ≤ size → size % c ≡ 0 → new ≡ old ++ replicate (size - len) 0 → DecoderBetween f c [] (size / c) Taken (filling table last new at)
+    → len ≡ length old → len ≤ size → size % c ≡ 0 → new ≡ old ++ replicate (size - len) 0 → DecoderBetween f c [] (size / c) Taken (filling table (reached last at) new)
 grown {f} {c} {Taken} {table} {last} {at} old new len size is g len_is within whole new_is =
     let zeros : List ℕ = replicate (size - len) 0 in
     let all : length old + length zeros ≡ c * (size / c) = omega (arith, len_is, within, length-replicate {A = ℕ} (size - len) 0) ∙ whole_pixels c size is whole in
-    subst (λ z. DecoderBetween f c [] (size / c) Taken (filling table last z at)) (sym new_is) (g (size / c) zeros all)
+    subst (λ z. DecoderBetween f c [] (size / c) Taken (filling table (reached last at) z)) (sym new_is) (g (size / c) zeros all)
 
 -- a vector that lent itself whole holds what was written
 pub lent_back : (len : ℕ) (buf items : List ℕ) → len ≡ length buf → take len (buf ++ drop (length buf) items) ≡ buf
@@ -81,7 +81,7 @@ lent_back len buf items size = ap (λ k. take k (buf ++ drop (length buf) items)
 
 -- after a step that left room
 pub growing_on : {f c m : ℕ} {Taken : List ℕ → Type 0} {table : List ℕ} {last : ℕ} {at : ℕ} (out items : List ℕ) → IsChannels c
-    → DecoderBetween f c [] m Taken (filling table last out at) → at < length out → items ≡ out → Growing f c Taken table last items at
+    → DecoderBetween f c [] m Taken (filling table (reached last at) out) → at < length out → items ≡ out → Growing f c Taken table last items at
 growing_on {f} {c} {m} {Taken} {table} {last} {at} out items is s inside same = subst (λ z. Growing f c Taken table last z at) (sym same) (grows is s inside)
 
 -- what stands between two chunks can be filled
@@ -94,7 +94,7 @@ between_fillable {c = c} {n = n} {now = now} is s =
 -- if there is room and fewer bytes are left than an end marker has, the bytes are cut for an image
 -- of any more pixels
 pub few_left_more : {f c : ℕ} {gone : Past} {n : ℕ} {table : List ℕ} {last : ℕ} {out : List ℕ} {at : ℕ} (start : Option (List ℕ)) (rest : List ℕ) → IsChannels c
-    → DecoderBetween f c gone n (Consumes start (Some rest)) (filling table last out at) → at < length out → AreBytes rest → length rest < 8
+    → DecoderBetween f c gone n (Consumes start (Some rest)) (filling table (reached last at) out) → at < length out → AreBytes rest → length rest < 8
     → (k : ℕ) → length gone + n ≤ k → IfSome start (AreCut k)
 few_left_more {f} {c} {gone} {n} {table} {last} {out} {at} start rest is s inside fits few k more =
     let m = k - length gone in

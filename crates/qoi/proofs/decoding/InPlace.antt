@@ -9,7 +9,7 @@ use Rattle.qoi.specs.declared.decode.in_place.InPlace.{InPlace}
 use Rattle.qoi.specs.Qoi.{Past, RgbaPixel, bytes_of, chunk_bytes, then_chunk, previous}
 use Rattle.qoi.specs.Raw.{IsChannels, output}
 use Rattle.qoi.specs.inner.Hashed.{pixel_of_lanes, HoldsSeen}
-use Rattle.qoi.specs.inner.Filling.{upto, Filling, filling, HasWritten, DecoderBetween, IsFrontAfter}
+use Rattle.qoi.specs.inner.Filling.{upto, Filling, reached, filling, HasWritten, DecoderBetween, IsFrontAfter}
 use Rattle.qoi.specs.pieces.InPlace.{TakesPiece}
 use Rattle.qoi.specs.pieces.ReaderPieces.{copies, DecoderAfter}
 use Rattle.qoi.proofs.format.Appended.{are_chunks_append, chunk_bytes-last}
@@ -22,7 +22,7 @@ use Rattle.qoi.proofs.decoding.PieceSteps.{closes, no_copies, output_copies}
 
 -- chunks that end before the output leave nothing of a run
 pub piece_stops : {f c n : ℕ} {gone : Past} {Taken : List ℕ → Type 0} {table : List ℕ} {last at : ℕ} (out : List ℕ) (taken : ℕ) → IsChannels c → at < length out
-    → DecoderBetween f c gone n Taken (filling table last out at) → TakesPiece f c gone Taken table out (record { last = last; taken = taken; at = at; run = 0 })
+    → DecoderBetween f c gone n Taken (filling table (reached last at) out) → TakesPiece f c gone Taken table out (record { taken = taken; reached = reached last at; run = 0 })
 piece_stops {f} {c} {gone = gone} {Taken} {table} {last} {at = at} out taken is inside h =
     let (all, after, e) = closes (output f c (reverse gone)) out at is h inside refl in
     record { all = all; after = subst (DecoderAfter Taken table last) (sym (no_copies c 0 last all is refl)) after; bytes_are = e }
@@ -68,10 +68,10 @@ next_taken before bytes taken count inside is =
 
 -- A run fills the output, and goes on past its end.
 pub piece_ends : {f c n : ℕ} {gone : Past} {Taken Taken' : List ℕ → Type 0} {table table' : List ℕ} {last at : ℕ} (k count : ℕ) (out out' : List ℕ) (now : InPlace)
-    → IsChannels c → at < length out → DecoderBetween f c gone n Taken (filling table last out at) → 0 < count → count ≤ 62
+    → IsChannels c → at < length out → DecoderBetween f c gone n Taken (filling table (reached last at) out) → 0 < count → count ≤ 62
     → ((past : Past) → HoldsSeen table past → HoldsSeen table' (pixel_of_lanes last ∷ past))
     → ((before : List ℕ) → Taken before → Taken' (before ++ bytes_of (Run count)))
-    → HasWritten f c (upto out at) (upto out' (at + c * k)) (replicate k (pixel_of_lanes last)) → now.at ≡ at + c * k → now.last ≡ last
+    → HasWritten f c (upto out at) (upto out' (at + c * k)) (replicate k (pixel_of_lanes last)) → now.reached.at ≡ at + c * k → now.reached.last ≡ last
     → (rest : ℕ) → rest ≡ c * k → rest ≤ c * count → now.run ≡ c * count - rest → TakesPiece f c gone Taken' table' out' now
 piece_ends {f} {c} {n} {gone} {Taken} {Taken'} {table} {table'} {last} {at} k count out out' now is inside h some most put takes filled end same rest few fits left =
     let p = pixel_of_lanes last in

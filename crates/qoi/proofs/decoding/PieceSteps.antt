@@ -13,7 +13,7 @@ use Rattle.qoi.specs.declared.decode.pixel_reader.pieces.Pieces.{Pieces}
 use Rattle.qoi.specs.Qoi.{Past, RgbaPixel, Each, AreChunks, chunk_bytes, end_marker, pixel_after, times, then_chunk, then_chunks}
 use Rattle.qoi.specs.Raw.{IsChannels, pixel_bytes, output}
 use Rattle.qoi.specs.Decoding.{TakesImagePixels, ReadsImage}
-use Rattle.qoi.specs.inner.Filling.{HasSeen, HasWritten, IsFillable, upto, filling, DecoderBetween}
+use Rattle.qoi.specs.inner.Filling.{HasSeen, HasWritten, IsFillable, upto, reached, filling, DecoderBetween}
 use Rattle.qoi.specs.inner.Hashed.{pixel_of_lanes}
 use Rattle.qoi.specs.pieces.InPlace.{TakesPiece, IsInPlace}
 use Rattle.qoi.specs.pieces.ReaderPieces.{kept_raw, bytes_left, copies, KeepsWithin, KeepsNothing, AreWhole, DecoderAfter, GivesPieces}
@@ -40,7 +40,7 @@ stay_within m past (c ∷ cs) are most =
 
 -- pixels that are gone, and an empty output
 pub opens : {f c : ℕ} {gone : Past} {Taken : List ℕ → Type 0} {table : List ℕ} {last : ℕ} (n : ℕ) (out : List ℕ) → IsChannels c
-    → DecoderAfter Taken table last gone → length out ≡ c * n → DecoderBetween f c gone n Taken (filling table last out 0)
+    → DecoderAfter Taken table last gone → length out ≡ c * n → DecoderBetween f c gone n Taken (filling table (reached last 0) out)
 opens {f} {c} {gone} {Taken} {table} {last} n out is s size = record {
   cs = s.cs;
   chunks = s.chunks;
@@ -49,7 +49,7 @@ opens {f} {c} {gone} {Taken} {table} {last} n out is s size = record {
   stays_below = stay_within (length gone + n) [] s.cs s.chunks (omega (arith, ap length s.pixels));
   taken = s.taken;
   filled = record { room = size; at_is = none; same = refl };
-  has_seen = subst (HasSeen (filling table last out 0)) (sym s.pixels) (record { table_is = s.table_is; last_is = s.last_is });
+  has_seen = subst (HasSeen (filling table (reached last 0) out)) (sym s.pixels) (record { table_is = s.table_is; last_is = s.last_is });
   within = omega arith;
   whole = none_written c is;
 }
@@ -62,7 +62,7 @@ abbrev pub Closed : (f c : ℕ) (gone : Past) (Taken : List ℕ → Type 0) (tab
 Closed f c gone Taken table last given out at = (all : Past) × DecoderAfter Taken table last all × (given ++ take at out ≡ output f c (reverse all))
 
 pub closes : {f c : ℕ} {gone : Past} {m : ℕ} {Taken : List ℕ → Type 0} {table : List ℕ} {last : ℕ} (given out : List ℕ) (at : ℕ) → IsChannels c
-    → DecoderBetween f c gone m Taken (filling table last out at) → at < length out → given ≡ output f c (reverse gone)
+    → DecoderBetween f c gone m Taken (filling table (reached last at) out) → at < length out → given ≡ output f c (reverse gone)
     → Closed f c gone Taken table last given out at
 closes {f} {c} {gone} {m} {Taken} {table} {last} given out at is s inside so_far =
     let recent = s.recent in
@@ -70,7 +70,7 @@ closes {f} {c} {gone} {m} {Taken} {table} {last} given out at is s inside so_far
     let many : length (output f c (reverse recent)) ≡ at =
     length-output f c (reverse recent) is ∙ ap (λ k. c * k) (length-reverse recent ∙ omega (arith, few)) ∙ sym s.filled.at_is in
     let front : take at out ≡ output f c (reverse recent) = s.filled.same ∙ take_whole at (output f c (reverse recent)) many in
-    let seen = subst (HasSeen (filling table last out at)) s.pixels s.has_seen in (
+    let seen = subst (HasSeen (filling table (reached last at) out)) s.pixels s.has_seen in (
       recent ++ gone,
       record { cs = s.cs; chunks = s.chunks; pixels = s.pixels; taken = s.taken; table_is = seen.table_is; last_is = seen.last_is },
       ap (λ z. z ++ take at out) so_far ∙ ap (λ z. output f c (reverse gone) ++ z) front
@@ -156,7 +156,7 @@ whole_times c size is = by_channels (λ k. size / k * k ≡ k * (size / k)) is (
 -- an output that is lent with nothing kept, and `at` bytes of a run at its front
 pub record Lent (f c n m : ℕ) (start old : Option (List ℕ)) (given : List ℕ) (p : Pieces) (out : List ℕ) (at : ℕ) : Type 0 where
   pub gone : Past
-  pub before : DecoderBetween f c gone m (Consumes start old) (filling p.table p.last out at)
+  pub before : DecoderBetween f c gone m (Consumes start old) (filling p.table (reached p.last at) out)
   pub so_far : given ≡ output f c (reverse gone)
   pub most : length gone + m ≤ n
 
@@ -176,7 +176,7 @@ lent {f} {c} {n} {start} {old} {given} {p} m out is h none some size fits =
 begun : {f c : ℕ} {gone : Past} {Taken : List ℕ → Type 0} {table : List ℕ} {last : ℕ} (m run : ℕ) (before out : List ℕ) → IsChannels c
     → DecoderAfter Taken table last (copies c run last ++ gone) → length out ≡ c * m → run % c ≡ 0 → run ≤ length out
     → HasWritten f c (upto before 0) (upto out (0 + c * (run / c))) (replicate (run / c) (pixel_of_lanes last))
-    → DecoderBetween f c gone m Taken (filling table last out run)
+    → DecoderBetween f c gone m Taken (filling table (reached last run) out)
 begun {f} {c} {gone} {Taken} {table} {last} m run before out is s size whole fits written =
     let recent = copies c run last in
     let many : run ≡ c * (run / c) = whole_pixels c run is whole in
@@ -196,7 +196,7 @@ begun {f} {c} {gone} {Taken} {table} {last} m run before out is s size whole fit
         at_is = many ∙ ap (λ k. c * k) (sym (least m (run / c) few) ∙ ap (λ k. min m k) (sym count));
         same = bytes ∙ sym (take_all run (output f c recent) (omega (arith, long))) ∙ ap (λ z. take run (output f c z)) (sym (reverse-replicate (run / c) (pixel_of_lanes last)));
       };
-      has_seen = subst (HasSeen (filling table last out run)) (sym s.pixels) (record { table_is = s.table_is; last_is = s.last_is });
+      has_seen = subst (HasSeen (filling table (reached last run) out)) (sym s.pixels) (record { table_is = s.table_is; last_is = s.last_is });
       within = fits;
       whole = whole;
     }
@@ -283,7 +283,7 @@ moved_size g k l u a t e le same = omega arith
 -- chunks were decoded into what was lent
 pub long_read : {f c n m : ℕ} {start old new : Option (List ℕ)} {given : List ℕ} {p : Pieces} {out : List ℕ} {table : List ℕ} {last : ℕ}
     (now rest : List ℕ) (at : ℕ) → IsChannels c → GivesPieces f c n start old given p → KeepsNothing p → (l : Lent f c n m start old given p out 0)
-    → DecoderBetween f c l.gone m (Consumes start new) (filling table last now at) → at < length now → length now ≤ p.undecoded
+    → DecoderBetween f c l.gone m (Consumes start new) (filling table (reached last at) now) → at < length now → length now ≤ p.undecoded
     → GivesPieces f c n start new (given ++ take at (now ++ rest)) (record { table = table; last = last; bytes = p.bytes; from = p.from; to = p.to; run = p.run; undecoded = p.undecoded - at })
 long_read {f} {c} {n} {m} {start} {old} {new} {given} {p} {out} {table} {last} now rest at is h same l after inside fits =
     let (all, stands, e) = closes given now at is after inside l.so_far in
@@ -307,13 +307,13 @@ placed_most c before out is =
 pub piece_read : {f c n m : ℕ} {start old new : Option (List ℕ)} {given : List ℕ} {p : Pieces} {out : List ℕ} {table : List ℕ}
     (now rest : List ℕ) (placed : InPlace) → IsChannels c → GivesPieces f c n start old given p → p.from ≡ p.to → (l : Lent f c n m start old given p out p.run)
     → TakesPiece f c l.gone (Consumes start new) table now placed → IsInPlace c (length now) placed → length now + 256 ≤ p.undecoded
-    → GivesPieces f c n start new (given ++ take placed.at (now ++ rest))
-    (record { table = table; last = placed.last; bytes = p.bytes; from = p.from; to = p.to; run = placed.run; undecoded = p.undecoded - placed.at })
+    → GivesPieces f c n start new (given ++ take placed.reached.at (now ++ rest))
+    (record { table = table; last = placed.reached.last; bytes = p.bytes; from = p.from; to = p.to; run = placed.run; undecoded = p.undecoded - placed.reached.at })
 piece_read {f} {c} {n} {m} {start} {old} {new} {given} {p} {out} {table} now rest placed is h same l t sizes fits =
-    let at = placed.at in
+    let at = placed.reached.at in
     let inside = sizes.within in
     let front : take at (now ++ rest) ≡ take at now = take-append-le at now rest inside in
-    let then : Pieces = record { table = table; last = placed.last; bytes = p.bytes; from = p.from; to = p.to; run = placed.run; undecoded = p.undecoded - at } in
+    let then : Pieces = record { table = table; last = placed.reached.last; bytes = p.bytes; from = p.from; to = p.to; run = placed.run; undecoded = p.undecoded - at } in
     let more = given ++ take at (now ++ rest) in
     let size : length more ≡ length given + at = length-append given (take at (now ++ rest)) ∙ ap (λ k. length given + k) (ap length front ∙ length-take-le at now inside) in
     record {
@@ -325,7 +325,7 @@ piece_read {f} {c} {n} {m} {start} {old} {new} {given} {p} {out} {table} now res
 -- chunks were decoded into the front of what is kept
 pub kept_read : {f c n m : ℕ} {start old new : Option (List ℕ)} {given : List ℕ} {p : Pieces} {out : List ℕ} {table : List ℕ} {last : ℕ}
     (now rest : List ℕ) (at : ℕ) → IsChannels c → GivesPieces f c n start old given p → KeepsNothing p → (l : Lent f c n m start old given p out 0)
-    → DecoderBetween f c l.gone m (Consumes start new) (filling table last now at) → at < length now → length now < p.undecoded
+    → DecoderBetween f c l.gone m (Consumes start new) (filling table (reached last at) now) → at < length now → length now < p.undecoded
     → GivesPieces f c n start new given (record { table = table; last = last; bytes = now ++ rest; from = 0; to = at; run = p.run; undecoded = p.undecoded - at })
 kept_read {f} {c} {n} {m} {start} {old} {new} {given} {p} {out} {table} {last} now rest at is h same l after inside fits =
     let (all, stands, e) = closes given now at is after inside l.so_far in

@@ -2,6 +2,7 @@
 use Rattle.std.specs.Prelude.{◌≡◌, ℕ, ◌-◌, ◌*◌, ◌/◌, ◌%◌, ◌+◌, ◌<◌, ◌≤◌, List, [], ◌++◌, length, take, reverse, replicate, min, slice_index, ◌⊎◌}
 use Rattle.qoi.specs.declared.chunk.Chunk.{Chunk}
 use Rattle.qoi.specs.declared.decode.fast.Progress.{Progress}
+use Rattle.qoi.specs.declared.decode.reached.Reached.{Reached}
 use Rattle.qoi.specs.Qoi.{RgbaPixel, Past, luma_tag, run_tag, rgb_tag, rgba_tag, previous, IsChunk, AreChunks, bytes_of, chunk_bytes, times, then_chunk, then_chunks, StayBelow}
 use Rattle.qoi.specs.inner.Hashed.{pixel_of_lanes, HoldsSeen}
 use Rattle.qoi.specs.Raw.{IsChannels, output}
@@ -44,9 +45,13 @@ pub record Filling : Type 0 where
   pub last : ℕ
   pub buffer : Buffer
 
--- the table, the last pixel, the output, and how many bytes of it are written
-abbrev pub filling : List ℕ → ℕ → List ℕ → ℕ → Filling
-filling table last out at = record { table = table; last = last; buffer = upto out at }
+-- the last pixel, and how many bytes of the output are written
+abbrev pub reached : ℕ → ℕ → Reached
+reached last at = record { last = last; at = at }
+
+-- the table, what was reached, and the output
+abbrev pub filling : List ℕ → Reached → List ℕ → Filling
+filling table now out = record { table = table; last = now.last; buffer = upto out now.at }
 
 -- the table of all of these pixels, and the last of them
 pub record HasSeen (s : Filling) (past : Past) : Type 0 where
@@ -99,7 +104,7 @@ taken_further count p = record { last = p.last; taken = p.taken + count; at = p.
 
 -- `DecoderBetween` for the fast loop over these bytes, which also has the byte that comes next
 pub record FastBetween (file_channels channels : ℕ) (gone : Past) (n : ℕ) (before bytes : List ℕ) (now : Progress) (table out : List ℕ) : Type 0 where
-  pub between : DecoderBetween file_channels channels gone n (IsFrontAfter before bytes now.taken) (filling table now.last out now.at)
+  pub between : DecoderBetween file_channels channels gone n (IsFrontAfter before bytes now.taken) (filling table (reached now.last now.at) out)
   pub next_is : now.next ≡ slice_index bytes now.taken
 
 -- the fast loop may read so many bytes ahead, and write so many

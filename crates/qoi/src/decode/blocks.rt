@@ -5,8 +5,7 @@ ghost use Rattle.std.specs.Prelude.{◌+◌, ◌*◌, ◌<◌, ◌≤◌, length
 ghost use Rattle.qoi.specs.declared.decode.fast.TheConstants.{INPUT_ROOM, OUTPUT_ROOM};
 
 use crate::decode::fast::{INPUT_ROOM, OUTPUT_ROOM, Progress};
-use crate::decode::hashed::Hashed;
-use crate::decode::one_chunk::Decoded;
+use crate::decode::reached::{Decoded, Reached};
 use crate::decode::table::TermTable;
 
 // How many bytes of input the first block has, and a later one.
@@ -97,49 +96,52 @@ impl Progress {
         requires input { INPUT_ROOM ≤ length bytes.now }
         requires room { 16 * ROW + 16 ≤ length out.old }
         requires within { from.taken < length bytes.now }
-        requires fillable { IsFillable N (upto out.old from.at) }
+        requires fillable { IsFillable N (upto out.old from.reached.at) }
         ensures between { TakesOn F N bytes.now from.taken result.taken
-            (filling table.old from.last out.old from.at)
-            (filling table.new result.last out.new result.at) }
+            (filling table.old from.reached out.old) (filling table.new result.reached out.new) }
         ensures within { result.taken < length bytes.now }
-        ensures written { from.at ≤ result.at }
-        ensures below { from.at < length out.old → result.at < length out.new }
-        ensures fillable { IsFillable N (upto out.new result.at) }
+        ensures written { from.reached.at ≤ result.reached.at }
+        ensures below { from.reached.at < length out.old → result.reached.at < length out.new }
+        ensures fillable { IsFillable N (upto out.new result.reached.at) }
     {
+        let old = from.reached;
         let now = Progress {
-            last: from.last,
+            last: old.last,
             taken: from.taken,
-            at: from.at,
+            at: old.at,
             next: bytes[from.taken],
         };
         let now = now.chunks_in_room::<N, F, ROW>(table, bytes, out);
         Decoded {
             taken: now.taken,
-            last: now.last,
-            at: now.at,
+            reached: Reached {
+                last: now.last,
+                at: now.at,
+            },
         }
     }
 
-    /// Decodes chunks from the front of the bytes, after the pixel `last` and the first `at` bytes
-    /// of `out`, while there is room ahead, and returns where it stopped. The caller goes on
-    /// chunk by chunk.
+    /// Decodes chunks from the front of the bytes, after what others reached, while there is room
+    /// ahead, and returns where it stopped. The caller goes on chunk by chunk.
     #[inline(always)]
     pub(super) fn fast_chunks<const N: usize, const F: usize>(
         table: &mut TermTable,
-        last: Hashed,
+        from: Reached,
         bytes: &[u8],
         out: &mut [u8],
-        at: usize,
     ) -> Decoded
-        requires { IsFillable N (upto out.old at) }
+        requires { IsFillable N (upto out.old from.at) }
         ensures between { TakesFront F N bytes.now result.taken
-            (filling table.old last out.old at) (filling table.new result.last out.new result.at) }
+            (filling table.old from out.old) (filling table.new result.reached out.new) }
         ensures within { result.taken ≤ length bytes.now }
-        ensures written { at ≤ result.at }
-        ensures below { at < length out.old → result.at < length out.new }
-        ensures fillable { IsFillable N (upto out.new result.at) }
+        ensures written { from.at ≤ result.reached.at }
+        ensures below { from.at < length out.old → result.reached.at < length out.new }
+        ensures fillable { IsFillable N (upto out.new result.reached.at) }
     {
-        let none = Decoded { taken: 0, last, at };
+        let none = Decoded {
+            taken: 0,
+            reached: from,
+        };
         if bytes.len() < INPUT_ROOM || out.len() < OUTPUT_ROOM {
             return none;
         }

@@ -17,7 +17,7 @@ pixels_of c k size is e = ap (λ z. z / c) e ∙ by_channels (λ d. d * k / d �
 
 pub returns-then-room-ge-VECTOR-clause-filled : goal.returns-then-room-ge-VECTOR-clause-filled
 returns-then-room-ge-VECTOR-clause-filled g c n past h =
-    let at = c.args.at in
+    let at = c.args.from.at in
     let count = c.args.count in
     let few = in_vector g.row.N count c.args.size c.requires.channels c.requires.size c.if-size-le-VECTOR.true in
     let fits = block_fits g.row.N at count (length c.args.out.now) c.requires.channels few (omega (arith, c.if-room-ge-VECTOR.true, c.requires.inside)) in
@@ -25,14 +25,14 @@ returns-then-room-ge-VECTOR-clause-filled g c n past h =
 
 pub returns-then-room-ge-RUN_ROOM-clause-filled : goal.returns-then-room-ge-RUN_ROOM-clause-filled
 returns-then-room-ge-RUN_ROOM-clause-filled g c n past h =
-    let at = c.args.at in
+    let at = c.args.from.at in
     let count = c.args.count in
     let fits = run_fits g.row.N at count (length c.args.out.now) c.requires.channels c.requires.some.1 (omega (arith, c.if-room-ge-RUN_ROOM.true, c.requires.inside)) in
     rw c.requires.size (filled_copies g.row.F g.row.N n c.args.out.now c.store_run.new.out at count _ past c.requires.channels c.requires.inside fits c.store_run.auto.out c.store_run.ensures h)
 
 pub returns-clause-filled : goal.returns-clause-filled
 returns-clause-filled g c n past h =
-    let at = c.args.at in
+    let at = c.args.from.at in
     let size = length c.args.out.now in
     let all = c.min-all.result in
     let is = c.requires.channels in
@@ -41,7 +41,7 @@ returns-clause-filled g c n past h =
     let few : c.known_room-room.result < 256 = elim c.if-size-le-VECTOR.branch [ then-size-le-VECTOR+else-room-ge-VECTOR w ↦ omega arith | else-size-le-VECTOR+else-room-ge-RUN_ROOM w ↦ omega arith ] in
     let left = c.known_room-room.ensures.all few in
     let ends = copies_end g.row.N at c.args.count size is c.requires.whole.0 c.requires.whole.1 within in
-    filled_end g.row.F g.row.N n c.store_pixels.new.out _ all c.args.count (pixel_of_lanes c.args.px) past is (omega (arith, c.min-all.ensures, quot))
+    filled_end g.row.F g.row.N n c.store_pixels.new.out _ all c.args.count (pixel_of_lanes c.args.from.last) past is (omega (arith, c.min-all.ensures, quot))
     (rw (c.min-all.ensures, quot, left, c.store_pixels.auto.out) ends)
     (filled_copies g.row.F g.row.N n c.args.out.now c.store_pixels.new.out at all _ past is c.requires.inside
     (rw (c.min-all.ensures, quot, left) (copies_fit g.row.N at c.args.count size is within)) c.store_pixels.auto.out c.store_pixels.ensures h)

@@ -28,10 +28,10 @@ loop-out-preserved g c =
     let decoded = c.decode_chunk-decoded.result in
     let taken = decoded.taken in
     let back = c.split_at.ensures.back in
-    let inside : c.loop-out.at < length c.loop-out.out = elim c.if-this-ne0.branch [ then-this-ne0 w ↦ omega arith | else-this-ne0 w ↦ omega arith ] in
+    let inside : c.loop-out.now.at < length c.loop-out.out = elim c.if-this-ne0.branch [ then-this-ne0 w ↦ omega arith | else-this-ne0 w ↦ omega arith ] in
     let took : Consumes (Some rest) (Some (drop taken rest)) (take taken rest) = sym (take-append-drop taken rest) in
-    let old = filling c.args.table.now c.args.last c.args.out.now c.args.at in
-    let new = filling c.decode_chunk-decoded.new.table decoded.last c.decode_chunk-decoded.new.out decoded.at in
+    let old = filling c.args.table.now c.args.from c.args.out.now in
+    let new = filling c.decode_chunk-decoded.new.table decoded.reached c.decode_chunk-decoded.new.out in
     let fillable : IsFillable g.row.N new.buffer = record {
       three_or_four = c.requires.three_or_four;
       within = c.decode_chunk-decoded.ensures.within.1;
@@ -47,5 +47,5 @@ loop-out-preserved g c =
 
 pub returns-then-rest-lt-QOI_PADDING_SIZE-clause-refused : goal.returns-then-rest-lt-QOI_PADDING_SIZE-clause-refused
 returns-then-rest-lt-QOI_PADDING_SIZE-clause-refused g c gone n start h =
-    let inside : c.loop-out.at < length c.loop-out.out = elim c.if-this-ne0.branch [ then-this-ne0 w ↦ omega arith | else-this-ne0 w ↦ omega arith ] in
+    let inside : c.loop-out.now.at < length c.loop-out.out = elim c.if-this-ne0.branch [ then-this-ne0 w ↦ omega arith | else-this-ne0 w ↦ omega arith ] in
     few_left_more start c.loop-out.rest.now c.requires.three_or_four (c.loop-out.invariant.goes_on.between gone n start h) inside c.loop-out.invariant.fits c.if-rest-lt-QOI_PADDING_SIZE.true

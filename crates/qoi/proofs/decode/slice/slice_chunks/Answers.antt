@@ -11,7 +11,7 @@ use Rattle.qoi.proofs.decode.slice.slice_chunks.Goals as goal
 
 -- after the fast loop
 after : (g : Over) (c : After-split_at g) → TakesMore g.row.F g.row.N (Some c.args.data.now) (Some c.split_at.result.1.now)
-    (filling c.args.table.now c.args.last c.args.out.now c.args.at) (filling c.fast_chunks-now.new.table c.fast_chunks-now.result.last c.fast_chunks-now.new.out c.fast_chunks-now.result.at)
+    (filling c.args.table.now c.args.from c.args.out.now) (filling c.fast_chunks-now.new.table c.fast_chunks-now.result.reached c.fast_chunks-now.new.out)
 after g c =
     let bytes = c.args.data.now in
     let size = c.fast_chunks-now.result.taken in
