@@ -1,7 +1,8 @@
 -- A buffer that is filled with pixels, and the state of a decoder between two chunks.
-use Rattle.std.specs.Prelude.{◌≡◌, ℕ, ◌-◌, ◌*◌, ◌/◌, ◌%◌, ◌+◌, ◌<◌, ◌≤◌, List, [], ◌++◌, length, take, reverse, replicate, min, slice_index, ◌⊎◌}
+use Rattle.std.specs.Prelude.{◌≡◌, ℕ, ◌-◌, ◌*◌, ◌/◌, ◌%◌, ◌+◌, ◌<◌, ◌≤◌, List, [], ◌++◌, length, take, reverse, replicate, min, slice_index, ◌⊎◌, Bool, IsTrue}
 use Rattle.qoi.specs.declared.chunk.Chunk.{Chunk}
 use Rattle.qoi.specs.declared.decode.fast.Progress.{Progress}
+use Rattle.qoi.specs.declared.decode.output.TheConstants.{RUN_ROOM}
 use Rattle.qoi.specs.declared.decode.reached.Reached.{Reached}
 use Rattle.qoi.specs.Qoi.{RgbaPixel, Past, luma_tag, run_tag, rgb_tag, rgba_tag, previous, IsChunk, AreChunks, bytes_of, chunk_bytes, times, then_chunk, then_chunks, StayBelow}
 use Rattle.qoi.specs.inner.Hashed.{pixel_of_lanes, HoldsSeen}
@@ -37,6 +38,24 @@ pub record IsFillable (channels : ℕ) (b : Buffer) : Type 0 where
   pub three_or_four : IsChannels channels
   pub within : b.at ≤ length b.out
   pub whole : IsWholePixels channels (length b.out) b.at
+
+-- it isn't full and, if `runs_fit`, has room for the vectors of any run
+pub record HasRoom (channels : ℕ) (runs_fit : Bool) (b : Buffer) : Type 0 where
+  pub fillable : IsFillable channels b
+  pub inside : b.at < length b.out
+  pub vectors : IsTrue runs_fit → b.at + RUN_ROOM ≤ length b.out
+
+-- it can be filled further and, if it wasn't full, still isn't
+pub record StaysFillable (channels : ℕ) (old new : Buffer) : Type 0 where
+  pub fillable : IsFillable channels new
+  pub on : old.at ≤ new.at
+  pub below : old.at < length old.out → new.at < length new.out
+
+-- a chunk's pixels were written, and don't fill the buffer if it had room for the vectors of any run
+pub record FillsMore (channels : ℕ) (old new : Buffer) : Type 0 where
+  pub fillable : IsFillable channels new
+  pub on : old.at < new.at
+  pub below : old.at + RUN_ROOM ≤ length old.out → new.at < length new.out
 
 -- what a decoder has between two chunks: the numbers in the table, that of the last pixel, and the
 -- output

@@ -23,7 +23,7 @@ const LONG_PLAIN_ROW: usize = 144;
 const SHORT_BLOCK: usize = 8;
 
 impl Progress {
-    ghost use Rattle.qoi.specs.inner.Filling.{IsFillable, upto, filling, TakesOn, TakesFront, IsRow, HasAhead, fast, FastChunks};
+    ghost use Rattle.qoi.specs.inner.Filling.{upto, IsFillable, StaysFillable, filling, TakesOn, TakesFront, IsRow, HasAhead, fast, FastChunks};
 
     // Decodes blocks of chunks and rows of full or of plain ones while there is room ahead.
     #[inline(always)]
@@ -100,9 +100,8 @@ impl Progress {
         ensures between { TakesOn F N bytes.now from.taken result.taken
             (filling table.old from.reached out.old) (filling table.new result.reached out.new) }
         ensures within { result.taken < length bytes.now }
-        ensures written { from.reached.at ≤ result.reached.at }
-        ensures below { from.reached.at < length out.old → result.reached.at < length out.new }
-        ensures fillable { IsFillable N (upto out.new result.reached.at) }
+        ensures on { StaysFillable N
+            (upto out.old from.reached.at) (upto out.new result.reached.at) }
     {
         let old = from.reached;
         let now = Progress {
@@ -134,9 +133,7 @@ impl Progress {
         ensures between { TakesFront F N bytes.now result.taken
             (filling table.old from out.old) (filling table.new result.reached out.new) }
         ensures within { result.taken ≤ length bytes.now }
-        ensures written { from.at ≤ result.reached.at }
-        ensures below { from.at < length out.old → result.reached.at < length out.new }
-        ensures fillable { IsFillable N (upto out.new result.reached.at) }
+        ensures on { StaysFillable N (upto out.old from.at) (upto out.new result.reached.at) }
     {
         let none = Decoded {
             taken: 0,

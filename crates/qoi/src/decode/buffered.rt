@@ -3,7 +3,7 @@ ghost use Rattle.std.specs.Prelude.{◌≡◌, ◌%◌, ◌<◌, ◌≤◌, [], 
 ghost use Rattle.std.specs.Io.KnownBytes.{Consumes};
 ghost use Rattle.qoi.specs.declared.error.Error.{Error};
 ghost use Rattle.qoi.specs.inner.Chunks.{TakesMore, TakesChunks, RefusesFilling};
-ghost use Rattle.qoi.specs.inner.Filling.{IsFillable, upto, filling};
+ghost use Rattle.qoi.specs.inner.Filling.{upto, IsFillable, HasRoom, StaysFillable, filling};
 ghost use Rattle.qoi.specs.pieces.InPlace.{TakesInPlace, IsInPlace};
 ghost use Rattle.qoi.specs.declared.decode.output.TheConstants.{RUN_ROOM};
 
@@ -33,9 +33,7 @@ fn chunks_in_buffer<R: BufRead, const N: usize, const F: usize>(
     ensures between { IfOk result (λ now. TakesMore F N
         (R.remaining reader.old) (R.remaining reader.new)
         (filling table.old from out.old) (filling table.new now out.new)) }
-    ensures on { IfOk result (λ now. from.at ≤ now.at) }
-    ensures below { from.at < length out.old → IfOk result (λ now. now.at < length out.new) }
-    ensures fillable { IfOk result (λ now. IsFillable N (upto out.new now.at)) }
+    ensures on { IfOk result (λ now. StaysFillable N (upto out.old from.at) (upto out.new now.at)) }
     ensures failed { OnErr result
         (Consumes (R.remaining reader.old) (R.remaining reader.new) []) }
     ensures unfilled { OnErr result (from.at < length out.old) }
@@ -58,8 +56,7 @@ fn place_from_buffer<R: BufRead, const N: usize, const F: usize>(
     from: Reached,
     out: &mut [u8],
 ) -> io::Result<InPlace>
-    requires fillable { IsFillable N (upto out.old from.at) }
-    requires below { from.at < length out.old }
+    requires { HasRoom N false (upto out.old from.at) }
     ensures takes { IfOk result (λ now. TakesInPlace F N
         (R.remaining reader.old) (R.remaining reader.new)
         (filling table.old from out.old) table.new out.new now) }

@@ -1,13 +1,13 @@
 //! What each kind of reader does with chunks (`Chunks`, of `slice`, `stream` and `buffered`), and the
 //! loops over it: into a buffer, and into a vector that grows.
-ghost use Rattle.std.specs.Prelude.{◌≡◌, ℕ, ◌+◌, ◌-◌, ◌*◌, ◌/◌, ◌%◌, ◌<◌, ◌≤◌, List, ◌++◌, length, replicate, Option, Bool, true, IfSome, IfOk, IfErr, OnOk};
+ghost use Rattle.std.specs.Prelude.{◌≡◌, ℕ, ◌+◌, ◌-◌, ◌*◌, ◌/◌, ◌%◌, ◌<◌, ◌≤◌, List, ◌++◌, length, replicate, Option, Bool, true, false, IfSome, IfOk, IfErr, OnOk};
 ghost use Rattle.std.specs.Vec.{vec_len, vec_capacity};
 ghost use Rattle.std.specs.Io.KnownBytes.{Consumes};
 ghost use Rattle.qoi.specs.Qoi.{end_marker, run_max};
 ghost use Rattle.qoi.specs.Raw.{IsChannels};
 ghost use Rattle.qoi.specs.Decoding.{TakesImagePixels, ReadsImage};
 ghost use Rattle.qoi.specs.inner.Chunks.{RefusesChunks, RefusesAfter, TakesChunks, FillsOutput, RefusesFilling};
-ghost use Rattle.qoi.specs.inner.Filling.{IsFillable, upto, filling};
+ghost use Rattle.qoi.specs.inner.Filling.{upto, IsFillable, HasRoom, filling};
 ghost use Rattle.qoi.specs.pieces.InPlace.{TakesInPlace, IsInPlace};
 ghost use Rattle.qoi.specs.declared.decode.chunks.TheConstants.{GROWTH};
 ghost use Rattle.qoi.specs.declared.decode.output.TheConstants.{RUN_ROOM};
@@ -62,8 +62,7 @@ pub(super) trait Chunks<const N: usize, const F: usize>: Sized {
         from: Reached,
         out: &mut [u8],
     ) -> Result<InPlace>
-        requires fillable { IsFillable N (upto out.old from.at) }
-        requires below { from.at < length out.old }
+        requires { HasRoom N false (upto out.old from.at) }
         ensures takes { IfOk result (λ now. TakesInPlace F N (ahead self.old) (ahead self.new)
             (filling table.old from out.old) table.new out.new now) }
         ensures sizes { IfOk result (IsInPlace N (length out.new)) }

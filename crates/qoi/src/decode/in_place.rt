@@ -1,9 +1,9 @@
 //! A piece of an image that is decoded in place: by the fast loop, and near its end chunk by chunk, up
 //! to a run that goes on past it.
-ghost use Rattle.std.specs.Prelude.{◌≡◌, ◌↔◌, IsTrue, ◌-◌, ◌*◌, ◌<◌, ◌≤◌, ℕ, List, length};
+ghost use Rattle.std.specs.Prelude.{◌≡◌, ◌↔◌, IsTrue, false, ◌-◌, ◌*◌, ◌<◌, ◌≤◌, ℕ, List, length};
 ghost use Rattle.qoi.specs.Qoi.{Past, run_tag, rgb_tag};
 ghost use Rattle.qoi.specs.Raw.{IsChannels};
-ghost use Rattle.qoi.specs.inner.Filling.{IsFillable, upto, filling, DecoderBetween, IsFrontAfter};
+ghost use Rattle.qoi.specs.inner.Filling.{upto, HasRoom, filling, DecoderBetween, IsFrontAfter};
 ghost use Rattle.qoi.specs.pieces.InPlace.{in_place_at, TakesPiece, IsInPlace};
 
 use crate::consts::{QOI_OP_RGB, QOI_OP_RUN};
@@ -56,8 +56,7 @@ fn last_run<const N: usize, const F: usize>(
     out: &mut [u8],
 ) -> InPlace
     requires ahead { from.taken < length bytes.now }
-    requires fillable { IsFillable N (upto out.old from.reached.at) }
-    requires below { from.reached.at < length out.old }
+    requires room { HasRoom N false (upto out.old from.reached.at) }
     ensures takes { (gone : Past) (n : ℕ) (before : List ℕ)
         → DecoderBetween F N gone n (IsFrontAfter before bytes.now from.taken)
         (filling table.old from.reached out.old)
@@ -93,8 +92,7 @@ pub(super) fn chunks_in_place<const N: usize, const F: usize>(
     bytes: &[u8],
     out: &mut [u8],
 ) -> InPlace
-    requires fillable { IsFillable N (upto out.old from.at) }
-    requires below { from.at < length out.old }
+    requires { HasRoom N false (upto out.old from.at) }
     ensures takes { (gone : Past) (n : ℕ) (before : List ℕ)
         → DecoderBetween F N gone n (IsFrontAfter before bytes.now 0)
         (filling table.old from out.old)

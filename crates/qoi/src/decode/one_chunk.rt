@@ -3,7 +3,7 @@ ghost use Rattle.std.specs.Prelude.{◌≡◌, IsTrue, ◌+◌, ◌%◌, ◌-◌
 ghost use Rattle.qoi.specs.Qoi.{run_tag, rgb_tag};
 ghost use Rattle.qoi.specs.declared.decode.output.TheConstants.{RUN_ROOM};
 ghost use Rattle.qoi.specs.Raw.{IsChannels};
-ghost use Rattle.qoi.specs.inner.Filling.{IsWholePixels, DecodesChunk, filling};
+ghost use Rattle.qoi.specs.inner.Filling.{upto, HasRoom, FillsMore, DecodesChunk, filling};
 
 use crate::consts::{QOI_OP_RGB, QOI_OP_RGBA, QOI_OP_RUN};
 use crate::decode::deltas::{advance, is_luma};
@@ -33,17 +33,12 @@ pub(super) fn decode_chunk<const N: usize, const F: usize, const RUN_FITS: bool,
     bytes: &[u8],
     out: &mut [u8],
 ) -> Decoded
-    requires channels { IsChannels N }
+    requires room { HasRoom N RUN_FITS (upto out.old from.at) }
     requires long { 8 ≤ length bytes.now }
-    requires whole { IsWholePixels N (length out.old) from.at }
-    requires inside { from.at < length out.old }
-    requires room { IsTrue RUN_FITS → from.at + RUN_ROOM ≤ length out.old }
     ensures taken { result.taken ≤ length bytes.now }
     ensures decodes { DecodesChunk F N (take result.taken bytes.now)
         (filling table.old from out.old) (filling table.new result.reached out.new) }
-    ensures whole { result.reached.at % N ≡ 0 }
-    ensures within { (from.at < result.reached.at) × (result.reached.at ≤ length out.new) }
-    ensures below { from.at + RUN_ROOM ≤ length out.old → result.reached.at < length out.new }
+    ensures more { FillsMore N (upto out.old from.at) (upto out.new result.reached.at) }
 {
     let Reached { last, at } = from;
     let b1 = bytes[0];

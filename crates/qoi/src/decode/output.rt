@@ -3,7 +3,7 @@ ghost use Rattle.std.specs.Prelude.{◌≡◌, IsTrue, ◌+◌, ◌*◌, ◌/◌
 ghost use Rattle.qoi.specs.Qoi.{Past, run_max};
 ghost use Rattle.qoi.specs.declared.decode.output.TheConstants.{VECTOR, RUN_ROOM};
 ghost use Rattle.qoi.specs.Raw.{IsChannels};
-ghost use Rattle.qoi.specs.inner.Filling.{upto, HasWritten, HasFilled, IsWholePixels};
+ghost use Rattle.qoi.specs.inner.Filling.{upto, HasWritten, HasFilled, HasRoom};
 ghost use Rattle.qoi.specs.inner.Hashed.{pixel_of_lanes};
 
 use crate::decode::hashed::Hashed;
@@ -221,14 +221,12 @@ pub(super) fn fill<const N: usize, const F: usize, const RUN_FITS: bool>(
     count: usize,
     size: usize,
 ) -> usize
-    requires channels { IsChannels N }
+    requires room { HasRoom N RUN_FITS (upto out.old from.at) }
     requires size { size ≡ N * count }
-    requires whole { IsWholePixels N (length out.old) from.at }
-    requires inside { from.at < length out.old }
-    requires room { IsTrue RUN_FITS → from.at + RUN_ROOM ≤ length out.old }
     requires some { (0 < count) × (count ≤ run_max) }
     ensures filled { (n : ℕ) (past : Past) → HasFilled F N n (upto out.old from.at) past
-        → HasFilled F N n (upto out.new result) (replicate count (pixel_of_lanes from.last) ++ past) }
+        → HasFilled F N n (upto out.new result)
+        (replicate count (pixel_of_lanes from.last) ++ past) }
     ensures whole { result % N ≡ 0 }
     ensures within { (from.at < result) × (result ≤ length out.new) }
     ensures below { from.at + RUN_ROOM ≤ length out.old → result < length out.new }

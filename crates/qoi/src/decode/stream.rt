@@ -8,7 +8,7 @@ ghost use Rattle.qoi.specs.declared.decode.output.TheConstants.{RUN_ROOM};
 ghost use Rattle.qoi.specs.Verdicts.{IsPartOfChunk};
 ghost use Rattle.qoi.specs.Decoding.{TakesBytes, RefusesTakenMarker};
 ghost use Rattle.qoi.specs.inner.Chunks.{TakesChunks, RefusesFilling};
-ghost use Rattle.qoi.specs.inner.Filling.{IsFillable, IsWholePixels, DecodesChunk, upto, filling};
+ghost use Rattle.qoi.specs.inner.Filling.{upto, IsFillable, HasRoom, FillsMore, DecodesChunk, filling};
 
 use crate::consts::{QOI_OP_RGB, QOI_PADDING, QOI_PADDING_SIZE};
 use crate::decode::chunks::Chunks;
@@ -98,17 +98,11 @@ pub(super) fn next_chunk<R: Read, const N: usize, const F: usize, const RUN_FITS
     from: Reached,
     out: &mut [u8],
 ) -> io::Result<Reached>
-    requires channels { IsChannels N }
-    requires whole { IsWholePixels N (length out.old) from.at }
-    requires inside { from.at < length out.old }
-    requires room { IsTrue RUN_FITS → from.at + RUN_ROOM ≤ length out.old }
+    requires { HasRoom N RUN_FITS (upto out.old from.at) }
     ensures read { IfOk result (λ now.
         TakesBytes (R.remaining reader.old) (R.remaining reader.new) (λ taken.
         DecodesChunk F N taken (filling table.old from out.old) (filling table.new now out.new))) }
-    ensures whole { IfOk result (λ now. now.at % N ≡ 0) }
-    ensures within { IfOk result (λ now. (from.at < now.at) × (now.at ≤ length out.new)) }
-    ensures below { from.at + RUN_ROOM ≤ length out.old
-        → IfOk result (λ now. now.at < length out.new) }
+    ensures more { IfOk result (λ now. FillsMore N (upto out.old from.at) (upto out.new now.at)) }
     ensures failed { OnErr result (TakesBytes (R.remaining reader.old) (R.remaining reader.new)
         IsPartOfChunk) }
 {

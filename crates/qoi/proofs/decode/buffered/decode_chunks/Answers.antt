@@ -1,7 +1,7 @@
 -- A chunk more is taken, and then those in the reader's buffer.
-use Rattle.std.proofs.Common.{[], ◌%◌, ◌<◌, length, arith, ap, ◌∙◌}
+use Rattle.std.proofs.Common.{[], ◌<◌, length, arith, rules}
 use Rattle.qoi.proofs.Results.{if_err}
-use Rattle.qoi.specs.inner.Filling.{filling, IsFillable}
+use Rattle.qoi.specs.inner.Filling.{filling}
 use Rattle.qoi.specs.inner.Chunks.{TakesMore}
 use Rattle.qoi.proofs.format.PartOfChunk.{part_empty}
 use Rattle.qoi.proofs.decoding.Progress.{takes_chunk}
@@ -13,16 +13,8 @@ use Rattle.qoi.proofs.decode.buffered.decode_chunks.Goals as goal
 pub loop-out-init : goal.loop-out-init
 loop-out-init g c = record { fillable = c.requires; below = λ room inside. inside; goes_on = record { between = λ gone n start h. h } }
 
-pub next_chunk-requires-clause-whole : goal.next_chunk-requires-clause-whole
-next_chunk-requires-clause-whole g c = c.loop-out.invariant.fillable.whole
-
--- the output after a chunk
-fillable : (g : Over) (c : In_ok-next g) → IsFillable g.row.N (filling c.next_chunk.new.table c.in_ok-next.next c.next_chunk.new.out).buffer
-fillable g c = record {
-  three_or_four = c.requires.three_or_four;
-  within = c.in_ok-next.ensures.within.1;
-  whole = (ap (λ k. k % g.row.N) c.next_chunk.auto.out ∙ c.loop-out.invariant.fillable.whole.0, c.in_ok-next.ensures.whole);
-}
+pub next_chunk-requires : goal.next_chunk-requires
+next_chunk-requires g c = record { fillable = c.loop-out.invariant.fillable; inside = search rules; vectors = search rules }
 
 -- a chunk more was taken
 more : (g : Over) (c : In_ok-next g) → TakesMore g.row.F g.row.N (g.R.Read.remaining c.args.reader.now) (g.R.Read.remaining c.next_chunk.new.reader)
@@ -30,10 +22,10 @@ more : (g : Over) (c : In_ok-next g) → TakesMore g.row.F g.row.N (g.R.Read.rem
 more g c =
     let inside : c.loop-out.now.at < length c.loop-out.out = elim c.if-this-ne0.branch [ then-this-ne0 w ↦ omega arith | else-this-ne0 w ↦ omega arith ] in
     let (taken, took, decoded) = c.in_ok-next.ensures.read in
-    takes_chunk c.requires.three_or_four c.loop-out.invariant.goes_on inside decoded took (fillable g c)
+    takes_chunk c.requires.three_or_four c.loop-out.invariant.goes_on inside decoded took c.in_ok-next.ensures.more.fillable
 
 pub chunks_in_buffer-requires : goal.chunks_in_buffer-requires
-chunks_in_buffer-requires g c = fillable g (goal.at.chunks_in_buffer-requires g c).In_ok-next
+chunks_in_buffer-requires g c = c.in_ok-next.ensures.more.fillable
 
 pub returns-in_err-next-clause-refused : goal.returns-in_err-next-clause-refused
 returns-in_err-next-clause-refused g c =
@@ -50,7 +42,7 @@ pub loop-out-preserved : goal.loop-out-preserved
 loop-out-preserved g c =
     let now = more g (goal.at.loop-out-preserved g c).In_ok-next in
     record {
-      fillable = c.in_ok-now.ensures.fillable;
-      below = λ room _. c.in_ok-now.ensures.below (c.in_ok-next.ensures.below (omega arith));
+      fillable = c.in_ok-now.ensures.on.fillable;
+      below = λ room _. c.in_ok-now.ensures.on.below (c.in_ok-next.ensures.more.below (omega arith));
       goes_on = record { between = λ gone n start h. c.in_ok-now.ensures.between.between gone n start (now.between gone n start h) };
     }

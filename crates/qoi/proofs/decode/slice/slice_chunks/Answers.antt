@@ -20,7 +20,7 @@ after g c =
     front_taken bytes size c.fast_chunks-now.ensures.between took
 
 pub careful_chunks-requires-2 : goal.careful_chunks-requires-2
-careful_chunks-requires-2 g c = (omega arith, c.fast_chunks-now.ensures.fillable)
+careful_chunks-requires-2 g c = (omega arith, c.fast_chunks-now.ensures.on.fillable)
 
 pub returns-clause-read : goal.returns-clause-read
 returns-clause-read g c =
@@ -28,7 +28,7 @@ returns-clause-read g c =
     if_some_of c.careful_chunks-2.result (λ left r. record {
       goes_on = record { between = λ gone n start h. r.goes_on.between gone n start (so_far.between gone n start h) };
       fillable = r.fillable;
-      below = λ fits inside. r.below fits (c.fast_chunks-now.ensures.below inside);
+      below = λ fits inside. r.below fits (c.fast_chunks-now.ensures.on.below inside);
       filled = r.filled;
       full = r.full;
     }) c.careful_chunks-2.ensures.read
