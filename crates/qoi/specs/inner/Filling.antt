@@ -158,6 +158,10 @@ pub record IsPlainSize (channels b size : ℕ) : Type 0 where
   pub rgb : b ≡ rgb_tag → size ≡ 4
   pub rgba : b ≡ rgba_tag → size ≡ 5
 
+-- the first byte of such a chunk that has bytes
+abbrev pub IsPlainTag : ℕ → ℕ → Type 0
+IsPlainTag channels b = (b < luma_tag) ⊎ ((run_tag ≤ b) × (b ≤ run_tag - 1 + 16 / channels)) ⊎ (rgb_tag ≤ b)
+
 -- in a row of RGB chunks the pixel has the alpha of the one before the row
 abbrev pub KeepsAlpha : ℕ → ℕ → ℕ → Type 0
 KeepsAlpha tag before now = tag ≡ rgb_tag → (pixel_of_lanes now).a ≡ (pixel_of_lanes before).a

@@ -43,7 +43,7 @@ impl Progress {
         let far = bytes.len() - INPUT_ROOM;
         let mut near = far.min(now.taken + FIRST_BLOCK);
         while now.taken <= far {
-            let block = now.chunks_until::<N, F, 8>(table, bytes, out, near);
+            let block = now.chunks_until::<N, F, 8>(table, &bytes[..near + INPUT_ROOM], out);
             now = block;
             if block.taken <= near || far < block.taken {
                 break;
@@ -79,8 +79,7 @@ impl Progress {
         if ROW == 8 {
             return self.blocks_of_chunks::<N, F>(table, bytes, out);
         }
-        let far = bytes.len() - INPUT_ROOM;
-        self.chunks_until::<N, F, ROW>(table, bytes, out, far)
+        self.chunks_until::<N, F, ROW>(table, bytes, out)
     }
 
     /// Decodes chunks while input and output have room ahead for `ROW` short ones and a full one,
