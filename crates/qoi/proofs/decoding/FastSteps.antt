@@ -1,5 +1,5 @@
 -- A chunk more, while there is room ahead.
-use Rattle.std.proofs.Common.{◌≡◌, ◌⊎◌, ℕ, ◌+◌, ◌-◌, ◌*◌, ◌/◌, ◌%◌, ◌<◌, ◌≤◌, inl, inr, List, ◌++◌, length, take, drop, get_or, replicate, Bool, true, false, cond, nat_eq, arith, refl, sym, ap, ◌∙◌, subst, ◌∷◌, append_assoc}
+use Rattle.std.proofs.Common.{◌≡◌, ◌⊎◌, ℕ, ◌+◌, ◌-◌, ◌*◌, ◌/◌, ◌%◌, ◌<◌, ◌≤◌, inl, inr, List, ◌++◌, length, take, drop, get_or, replicate, Bool, true, false, cond, nat_eq, eqb, not, IsTrue, arith, refl, sym, ap, ◌∙◌, subst, ◌∷◌, append_assoc}
 use Rattle.std.proofs.lemmas.Bool.{cases_lt}
 use Rattle.std.proofs.lemmas.Bool.Decides.{nat_tests}
 use Rattle.std.proofs.lemmas.List.{get_or-drop, get_or-take, take-take, length-take-le}
@@ -8,7 +8,7 @@ use mir.Val.{bool_byte}
 use Rattle.qoi.specs.declared.decode.fast.Progress.{Progress}
 use Rattle.qoi.specs.Qoi.{Past}
 use Rattle.qoi.specs.Raw.{IsChannels}
-use Rattle.qoi.specs.inner.Filling.{upto, reached, filling, taken_further, HasWritten, HasFilled, HasAhead, DecodesChunk, DecoderBetween, IsFrontAfter, Fast, fast, FastStep, FastBetween, FastChunks, IsPlainSize, IsPlainTag}
+use Rattle.qoi.specs.inner.Filling.{upto, reached, filling, taken_further, HasWritten, HasFilled, HasAhead, DecodesChunk, DecoderBetween, IsFrontAfter, Fast, fast, FastStep, FastBetween, FastChunks, IsPlainTag}
 use Rattle.qoi.specs.inner.Hashed.{pixel_of_lanes, HoldsSeen}
 use Rattle.qoi.proofs.format.WholePixels.{by_channels}
 use Rattle.qoi.proofs.decoding.FilledBuffer.{filled_copies}
@@ -180,10 +180,17 @@ step_at_first {f} {c} {i} {r} {k} {t} {bytes} {table} {out} {new} p step taken w
     let same : p.taken + 0 ≡ p.taken = omega arith in
     step_within (subst (λ n. FastStep f c i r bytes (fast (to n) table out) new) same step) taken written
 
--- a plain chunk has bytes, and no other one
-pub plain_tag : (c b size : ℕ) → IsPlainSize c b size → b < 256 → (0 < size → IsPlainTag c b) × (IsPlainTag c b → 0 < size)
-plain_tag c b size is byte = (
-  λ some. elim (cases_lt b 128) [
+-- an entry of a table, by the first byte b: zero for chunks that aren't plain
+pub record IsPlainEntry (c b x : ℕ) : Type 0 where
+  pub early : b < 128 → 0 < x
+  pub luma : 128 ≤ b → b < 192 → x ≡ 0
+  pub run : 192 ≤ b → b ≤ 191 + 16 / c → 0 < x
+  pub long : 191 + 16 / c < b → b < 254 → x ≡ 0
+  pub full : 254 ≤ b → 0 < x
+
+pub plain_tag : {c b x : ℕ} → IsPlainEntry c b x → (IsTrue (not (eqb x 0)) → IsPlainTag c b) × (IsPlainTag c b → IsTrue (not (eqb x 0)))
+plain_tag {c} {b} {x} is = (
+  λ tested. let some : 0 < x = grind (arith, nat_tests) in elim (cases_lt b 128) [
     | inl early ↦ inl early
     | inr other ↦ elim (cases_lt b 192) [
       | inl luma ↦ absurd (omega (arith, some, is.luma other luma))
@@ -193,13 +200,9 @@ plain_tag c b size is byte = (
       ]
     ]
   ],
-  λ plain. elim plain [
-    | inl early ↦ omega (arith, is.one early)
-    | inr other ↦ elim other [
-      | inl run ↦ omega (arith, is.run run.0 run.1)
-      | inr full ↦ elim (cases_lt b 255) [ inl less ↦ omega (arith, is.rgb (omega (arith, full, less))) | inr more ↦ omega (arith, is.rgba (omega (arith, more, byte))) ]
-    ]
-  ],
+  λ plain.
+      let some : 0 < x = elim plain [ inl early ↦ is.early early | inr other ↦ elim other [ inl run ↦ is.run run.0 run.1 | inr full ↦ is.full full ] ] in
+      grind (arith, nat_tests),
 )
 
 -- a plain chunk that isn't a full one is no luma, and a vector holds its pixels

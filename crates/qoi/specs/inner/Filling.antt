@@ -148,17 +148,7 @@ fast now table out = record { now = now; table = table; out = out }
 abbrev pub IsFullTag : ℕ → Type 0
 IsFullTag b = (b ≡ rgb_tag) ⊎ (b ≡ rgba_tag)
 
--- how many bytes the chunk with the first byte b has: 0 stands for a luma, and for a run that a vector
--- of sixteen bytes doesn't hold
-pub record IsPlainSize (channels b size : ℕ) : Type 0 where
-  pub one : b < luma_tag → size ≡ 1
-  pub luma : luma_tag ≤ b → b < run_tag → size ≡ 0
-  pub run : run_tag ≤ b → b ≤ run_tag - 1 + 16 / channels → size ≡ 1
-  pub long : run_tag - 1 + 16 / channels < b → b < rgb_tag → size ≡ 0
-  pub rgb : b ≡ rgb_tag → size ≡ 4
-  pub rgba : b ≡ rgba_tag → size ≡ 5
-
--- the first byte of such a chunk that has bytes
+-- the first byte of a chunk that is no luma, and no run that a vector of sixteen bytes doesn't hold
 abbrev pub IsPlainTag : ℕ → ℕ → Type 0
 IsPlainTag channels b = (b < luma_tag) ⊎ ((run_tag ≤ b) × (b ≤ run_tag - 1 + 16 / channels)) ⊎ (rgb_tag ≤ b)
 

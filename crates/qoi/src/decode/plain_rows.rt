@@ -1,15 +1,13 @@
 //! Rows of plain chunks, as palettes have them, by a loop of their own: index positions,
 //! differences, short runs, RGB and RGBA chunks in any order, without a jump between them.
-ghost use Rattle.std.specs.Prelude.{◌≡◌, ◌↔◌, IsTrue, ◌+◌, ◌<◌, ◌≤◌, ◌^◌, length};
+ghost use Rattle.std.specs.Prelude.{◌≡◌, ◌+◌, ◌<◌, ◌≤◌, ◌^◌, length};
 ghost use Rattle.qoi.specs.Qoi.{rgb_tag, rgba_tag};
-ghost use Rattle.qoi.specs.Raw.{IsChannels};
-ghost use Rattle.qoi.specs.inner.Filling.{IsPlainTag};
 ghost use Rattle.qoi.specs.declared.decode.fast.TheConstants.{OUTPUT_ROOM};
 
 use crate::decode::deltas::advance;
 use crate::decode::fast::{OUTPUT_ROOM, Progress};
 use crate::decode::output::store_vector;
-use crate::decode::plain_tables::plain_size;
+use crate::decode::plain_tables::is_plain;
 use crate::decode::table::TermTable;
 
 // Bytes of eight RGBA chunks and of the byte after them.
@@ -33,17 +31,8 @@ fn byte_count(b1: usize) -> usize
     1 + 3 * usize::from(b1 >= 0xfe) + usize::from(b1 == 0xff)
 }
 
-// Whether a chunk with this first byte is plain.
-#[inline(always)]
-fn is_plain<const N: usize>(b1: u8) -> bool
-    requires { IsChannels N }
-    ensures { IsTrue result ↔ IsPlainTag N b1 }
-{
-    plain_size::<N>(b1 as usize) != 0
-}
-
 impl Progress {
-    ghost use Rattle.qoi.specs.inner.Filling.{HasAhead, fast, FastStep, FastChunks};
+    ghost use Rattle.qoi.specs.inner.Filling.{HasAhead, fast, FastStep, FastChunks, IsPlainTag};
 
     // Decodes a plain chunk without a jump. Where the next one stands, `byte_count` says.
     #[inline(always)]
