@@ -10,6 +10,7 @@ use Rattle.std.proofs.lemmas.Grind.{flat_map-append}
 use Rattle.qoi.specs.declared.chunk.Chunk.{Chunk}
 use Rattle.qoi.specs.declared.decode.in_place.InPlace.{InPlace}
 use Rattle.qoi.specs.declared.decode.pixel_reader.pieces.Pieces.{Pieces}
+use Rattle.qoi.specs.declared.decode.reached.Reached.{Reached}
 use Rattle.qoi.specs.Qoi.{Past, RgbaPixel, Each, AreChunks, chunk_bytes, end_marker, pixel_after, times, then_chunk, then_chunks}
 use Rattle.qoi.specs.Raw.{IsChannels, pixel_bytes, output}
 use Rattle.qoi.specs.Decoding.{TakesImagePixels, ReadsImage}
@@ -58,19 +59,20 @@ opens {f} {c} {gone} {Taken} {table} {last} n out is s size = record {
     none = by_channels (λ k. 0 ≡ k * min n 0) is (omega arith) (omega arith)
 
 -- what stands after an output that isn't full
-abbrev pub Closed : (f c : ℕ) (gone : Past) (Taken : List ℕ → Type 0) (table : List ℕ) (last : ℕ) (given out : List ℕ) (at : ℕ) → Type 0
-Closed f c gone Taken table last given out at = (all : Past) × DecoderAfter Taken table last all × (given ++ take at out ≡ output f c (reverse all))
+abbrev pub Closed : (f c : ℕ) (gone : Past) (Taken : List ℕ → Type 0) (table : List ℕ) (now : Reached) (given out : List ℕ) → Type 0
+Closed f c gone Taken table now given out = (all : Past) × DecoderAfter Taken table now.last all × (given ++ take now.at out ≡ output f c (reverse all))
 
-pub closes : {f c : ℕ} {gone : Past} {m : ℕ} {Taken : List ℕ → Type 0} {table : List ℕ} {last : ℕ} (given out : List ℕ) (at : ℕ) → IsChannels c
-    → DecoderBetween f c gone m Taken (filling table (reached last at) out) → at < length out → given ≡ output f c (reverse gone)
-    → Closed f c gone Taken table last given out at
-closes {f} {c} {gone} {m} {Taken} {table} {last} given out at is s inside so_far =
+pub closes : {f c : ℕ} {gone : Past} {m : ℕ} {Taken : List ℕ → Type 0} {table : List ℕ} {now : Reached} (given out : List ℕ) → IsChannels c
+    → DecoderBetween f c gone m Taken (filling table now out) → now.at < length out → given ≡ output f c (reverse gone)
+    → Closed f c gone Taken table now given out
+closes {f} {c} {gone} {m} {Taken} {table} {now} given out is s inside so_far =
+    let at = now.at in
     let recent = s.recent in
     let few : length recent < m = fewer is s.filled inside in
     let many : length (output f c (reverse recent)) ≡ at =
     length-output f c (reverse recent) is ∙ ap (λ k. c * k) (length-reverse recent ∙ omega (arith, few)) ∙ sym s.filled.at_is in
     let front : take at out ≡ output f c (reverse recent) = s.filled.same ∙ take_whole at (output f c (reverse recent)) many in
-    let seen = subst (HasSeen (filling table (reached last at) out)) s.pixels s.has_seen in (
+    let seen = subst (HasSeen (filling table now out)) s.pixels s.has_seen in (
       recent ++ gone,
       record { cs = s.cs; chunks = s.chunks; pixels = s.pixels; taken = s.taken; table_is = seen.table_is; last_is = seen.last_is },
       ap (λ z. z ++ take at out) so_far ∙ ap (λ z. output f c (reverse gone) ++ z) front
@@ -281,12 +283,14 @@ pub moved_size : (g k l u a t : ℕ) → g + (l + u) ≡ t → a ≤ u → k ≡
 moved_size g k l u a t e le same = omega arith
 
 -- chunks were decoded into what was lent
-pub long_read : {f c n m : ℕ} {start old new : Option (List ℕ)} {given : List ℕ} {p : Pieces} {out : List ℕ} {table : List ℕ} {last : ℕ}
-    (now rest : List ℕ) (at : ℕ) → IsChannels c → GivesPieces f c n start old given p → KeepsNothing p → (l : Lent f c n m start old given p out 0)
-    → DecoderBetween f c l.gone m (Consumes start new) (filling table (reached last at) now) → at < length now → length now ≤ p.undecoded
-    → GivesPieces f c n start new (given ++ take at (now ++ rest)) (record { table = table; last = last; bytes = p.bytes; from = p.from; to = p.to; run = p.run; undecoded = p.undecoded - at })
-long_read {f} {c} {n} {m} {start} {old} {new} {given} {p} {out} {table} {last} now rest at is h same l after inside fits =
-    let (all, stands, e) = closes given now at is after inside l.so_far in
+pub long_read : {f c n m : ℕ} {start old new : Option (List ℕ)} {given : List ℕ} {p : Pieces} {out : List ℕ} {table : List ℕ} {to : Reached}
+    (now rest : List ℕ) → IsChannels c → GivesPieces f c n start old given p → KeepsNothing p → (l : Lent f c n m start old given p out 0)
+    → DecoderBetween f c l.gone m (Consumes start new) (filling table to now) → to.at < length now → length now ≤ p.undecoded
+    → GivesPieces f c n start new (given ++ take to.at (now ++ rest)) (record { table = table; last = to.last; bytes = p.bytes; from = p.from; to = p.to; run = p.run; undecoded = p.undecoded - to.at })
+long_read {f} {c} {n} {m} {start} {old} {new} {given} {p} {out} {table} {to} now rest is h same l after inside fits =
+    let at = to.at in
+    let last = to.last in
+    let (all, stands, e) = closes given now is after inside l.so_far in
     let front : take at (now ++ rest) ≡ take at now = take-append-le at now rest (omega (arith, inside)) in
     let then : Pieces = record { table = table; last = last; bytes = p.bytes; from = p.from; to = p.to; run = p.run; undecoded = p.undecoded - at } in
     let more = given ++ take at (now ++ rest) in
@@ -323,12 +327,14 @@ piece_read {f} {c} {n} {m} {start} {old} {new} {given} {p} {out} {table} now res
     }
 
 -- chunks were decoded into the front of what is kept
-pub kept_read : {f c n m : ℕ} {start old new : Option (List ℕ)} {given : List ℕ} {p : Pieces} {out : List ℕ} {table : List ℕ} {last : ℕ}
-    (now rest : List ℕ) (at : ℕ) → IsChannels c → GivesPieces f c n start old given p → KeepsNothing p → (l : Lent f c n m start old given p out 0)
-    → DecoderBetween f c l.gone m (Consumes start new) (filling table (reached last at) now) → at < length now → length now < p.undecoded
-    → GivesPieces f c n start new given (record { table = table; last = last; bytes = now ++ rest; from = 0; to = at; run = p.run; undecoded = p.undecoded - at })
-kept_read {f} {c} {n} {m} {start} {old} {new} {given} {p} {out} {table} {last} now rest at is h same l after inside fits =
-    let (all, stands, e) = closes given now at is after inside l.so_far in
+pub kept_read : {f c n m : ℕ} {start old new : Option (List ℕ)} {given : List ℕ} {p : Pieces} {out : List ℕ} {table : List ℕ} {to : Reached}
+    (now rest : List ℕ) → IsChannels c → GivesPieces f c n start old given p → KeepsNothing p → (l : Lent f c n m start old given p out 0)
+    → DecoderBetween f c l.gone m (Consumes start new) (filling table to now) → to.at < length now → length now < p.undecoded
+    → GivesPieces f c n start new given (record { table = table; last = to.last; bytes = now ++ rest; from = 0; to = to.at; run = p.run; undecoded = p.undecoded - to.at })
+kept_read {f} {c} {n} {m} {start} {old} {new} {given} {p} {out} {table} {to} now rest is h same l after inside fits =
+    let at = to.at in
+    let last = to.last in
+    let (all, stands, e) = closes given now is after inside l.so_far in
     record {
       size = kept_size (length given) (p.to - p.from) p.undecoded at (c * n) (omega (arith, same)) h.size (omega (arith, inside, fits));
       goes_on = λ some. (all, subst (DecoderAfter (Consumes start new) table last) (sym (no_copies c p.run last all is same.1)) stands, ap (λ k. given ++ take k (now ++ rest)) (none_off at) ∙ ap (λ z. given ++ z) (take-append-le at now rest (omega (arith, inside))) ∙ e);

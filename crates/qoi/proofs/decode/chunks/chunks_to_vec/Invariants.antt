@@ -11,7 +11,7 @@ invariant-loop-out g l = record {
   room : l.fn.size ≤ vec_capacity l.out;
   within : l.now.at ≤ vec_len l.out;
   filled : vec_len l.out ≤ l.now.at + 256;
-  growing : Growing g.row.F g.row.N (Consumes (g.R.Chunks.ahead l.initial.reader) (g.R.Chunks.ahead l.reader)) l.table l.now.last l.out.items l.now.at;
+  growing : Growing g.row.F g.row.N (Consumes (g.R.Chunks.ahead l.initial.reader) (g.R.Chunks.ahead l.reader)) l.table l.now l.out.items;
 }
 
 abbrev pub decreases-loop-out : goal.decreases-loop-out

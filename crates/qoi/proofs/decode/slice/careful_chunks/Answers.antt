@@ -1,5 +1,5 @@
 -- A chunk more is taken, or the bytes are cut.
-use Rattle.std.proofs.Common.{rules, ◌%◌, ◌<◌, Some, take, drop, length, sym, ap, ◌∙◌, subst, arith, take-append-drop}
+use Rattle.std.proofs.Common.{rules, ◌<◌, Some, take, drop, length, sym, subst, arith, take-append-drop}
 use Rattle.std.specs.Io.KnownBytes.{Consumes}
 use Rattle.qoi.specs.Qoi.{AreBytes}
 use Rattle.qoi.specs.inner.Filling.{filling}

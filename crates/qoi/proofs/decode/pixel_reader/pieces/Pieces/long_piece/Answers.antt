@@ -31,7 +31,7 @@ returns-clause-gives g c =
     record {
       read = λ n start given h.
           let l = front_lent c.args.self.now out c.requires.channels h c.requires.none c.requires.fits (omega (arith, long)) in
-          long_read c.some_chunks.new.out _ _ c.requires.channels h same l (c.in-Ok.ensures.read.goes_on.between l.gone _ _ l.before)
+          long_read c.some_chunks.new.out _ c.requires.channels h same l (c.in-Ok.ensures.read.goes_on.between l.gone _ _ l.before)
           (c.in-Ok.ensures.read.below refl (omega (arith, most, long))) (omega (arith, size, most.0, c.requires.fits, same));
       within = search rules;
       pixels = (c.requires.pixels.0, (whole, pixels.1, pixels.2, λ some. absurd (omega (arith, some, same))));
