@@ -75,16 +75,15 @@ pub piece_ends : {f c n : ℕ} {gone : Past} {Taken Taken' : List ℕ → Type 0
     → HasWritten f c (upto out from.at) (upto out' (from.at + c * k)) (replicate k (pixel_of_lanes from.last)) → now.reached.at ≡ from.at + c * k → now.reached.last ≡ from.last
     → (rest : ℕ) → rest ≡ c * k → rest ≤ c * count → now.run ≡ c * count - rest → TakesPiece f c gone Taken' table' out' now
 piece_ends {f} {c} {n} {gone} {Taken} {Taken'} {table} {table'} {from} k count out out' now is inside h some most put takes filled end same rest few fits left =
-    let last = from.last in
-    let p = pixel_of_lanes last in
+    let p = pixel_of_lanes from.last in
     let before = output f c (reverse gone) in
     let (all, after, e) = closes before out is h inside refl in
-    let parts : copies c now.run last ++ (replicate k p ++ all) ≡ replicate count p ++ all =
-    sym (append_assoc (copies c now.run last) (replicate k p) all) ∙ ap (λ z. z ++ all) (parts_of_run c k count now.run rest p is few fits left) in
+    let parts : copies c now.run from.last ++ (replicate k p ++ all) ≡ replicate count p ++ all =
+    sym (append_assoc (copies c now.run from.last) (replicate k p) all) ∙ ap (λ z. z ++ all) (parts_of_run c k count now.run rest p is few fits left) in
     record {
       all = replicate k p ++ all;
       after = subst (λ l. DecoderAfter Taken' table' l (copies c now.run l ++ (replicate k p ++ all))) (sym same)
-          (subst (DecoderAfter Taken' table' last) (sym parts) (then_run count some most after put takes));
+          (subst (DecoderAfter Taken' table' from.last) (sym parts) (then_run count some most after put takes));
       bytes_are = ap (λ i. before ++ take i out') end ∙ ap (λ z. before ++ z) filled.same ∙ sym (append_assoc before (take from.at out) (output f c (replicate k p)))
           ∙ ap (λ z. z ++ output f c (replicate k p)) e ∙ sym (output_copies f c k p all);
     }

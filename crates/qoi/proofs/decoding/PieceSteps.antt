@@ -66,16 +66,15 @@ pub closes : {f c : ℕ} {gone : Past} {m : ℕ} {Taken : List ℕ → Type 0} {
     → DecoderBetween f c gone m Taken (filling table now out) → now.at < length out → given ≡ output f c (reverse gone)
     → Closed f c gone Taken table now given out
 closes {f} {c} {gone} {m} {Taken} {table} {now} given out is s inside so_far =
-    let at = now.at in
     let recent = s.recent in
     let few : length recent < m = fewer is s.filled inside in
-    let many : length (output f c (reverse recent)) ≡ at =
+    let many : length (output f c (reverse recent)) ≡ now.at =
     length-output f c (reverse recent) is ∙ ap (λ k. c * k) (length-reverse recent ∙ omega (arith, few)) ∙ sym s.filled.at_is in
-    let front : take at out ≡ output f c (reverse recent) = s.filled.same ∙ take_whole at (output f c (reverse recent)) many in
+    let front : take now.at out ≡ output f c (reverse recent) = s.filled.same ∙ take_whole now.at (output f c (reverse recent)) many in
     let seen = subst (HasSeen (filling table now out)) s.pixels s.has_seen in (
       recent ++ gone,
       record { cs = s.cs; chunks = s.chunks; pixels = s.pixels; taken = s.taken; table_is = seen.table_is; last_is = seen.last_is },
-      ap (λ z. z ++ take at out) so_far ∙ ap (λ z. output f c (reverse gone) ++ z) front
+      ap (λ z. z ++ take now.at out) so_far ∙ ap (λ z. output f c (reverse gone) ++ z) front
           ∙ sym (flat_map-append (pixel_bytes f c) (reverse gone) (reverse recent)) ∙ sym (ap (output f c) (reverse-append recent gone)),
     )
 
@@ -288,17 +287,15 @@ pub long_read : {f c n m : ℕ} {start old new : Option (List ℕ)} {given : Lis
     → DecoderBetween f c l.gone m (Consumes start new) (filling table to now) → to.at < length now → length now ≤ p.undecoded
     → GivesPieces f c n start new (given ++ take to.at (now ++ rest)) (record { table = table; last = to.last; bytes = p.bytes; from = p.from; to = p.to; run = p.run; undecoded = p.undecoded - to.at })
 long_read {f} {c} {n} {m} {start} {old} {new} {given} {p} {out} {table} {to} now rest is h same l after inside fits =
-    let at = to.at in
-    let last = to.last in
     let (all, stands, e) = closes given now is after inside l.so_far in
-    let front : take at (now ++ rest) ≡ take at now = take-append-le at now rest (omega (arith, inside)) in
-    let then : Pieces = record { table = table; last = last; bytes = p.bytes; from = p.from; to = p.to; run = p.run; undecoded = p.undecoded - at } in
-    let more = given ++ take at (now ++ rest) in
-    let size : length more ≡ length given + at =
-    length-append given (take at (now ++ rest)) ∙ ap (λ k. length given + k) (ap length front ∙ length-take-le at now (omega (arith, inside))) in
+    let front : take to.at (now ++ rest) ≡ take to.at now = take-append-le to.at now rest (omega (arith, inside)) in
+    let then : Pieces = record { table = table; last = to.last; bytes = p.bytes; from = p.from; to = p.to; run = p.run; undecoded = p.undecoded - to.at } in
+    let more = given ++ take to.at (now ++ rest) in
+    let size : length more ≡ length given + to.at =
+    length-append given (take to.at (now ++ rest)) ∙ ap (λ k. length given + k) (ap length front ∙ length-take-le to.at now (omega (arith, inside))) in
     record {
-      size = ap (λ k. k + (p.to - p.from + (p.undecoded - at))) size ∙ moved_size (length given) at (p.to - p.from) p.undecoded at (c * n) h.size (omega (arith, inside, fits)) refl;
-      goes_on = λ some. (all, subst (DecoderAfter (Consumes start new) table last) (sym (no_copies c p.run last all is same.1)) stands, none_kept then more same.0 ∙ ap (λ z. given ++ z) front ∙ e);
+      size = ap (λ k. k + (p.to - p.from + (p.undecoded - to.at))) size ∙ moved_size (length given) to.at (p.to - p.from) p.undecoded to.at (c * n) h.size (omega (arith, inside, fits)) refl;
+      goes_on = λ some. (all, subst (DecoderAfter (Consumes start new) table to.last) (sym (no_copies c p.run to.last all is same.1)) stands, none_kept then more same.0 ∙ ap (λ z. given ++ z) front ∙ e);
       ends = λ none. absurd (omega (arith, none, inside, fits));
     }
 
@@ -332,12 +329,10 @@ pub kept_read : {f c n m : ℕ} {start old new : Option (List ℕ)} {given : Lis
     → DecoderBetween f c l.gone m (Consumes start new) (filling table to now) → to.at < length now → length now < p.undecoded
     → GivesPieces f c n start new given (record { table = table; last = to.last; bytes = now ++ rest; from = 0; to = to.at; run = p.run; undecoded = p.undecoded - to.at })
 kept_read {f} {c} {n} {m} {start} {old} {new} {given} {p} {out} {table} {to} now rest is h same l after inside fits =
-    let at = to.at in
-    let last = to.last in
     let (all, stands, e) = closes given now is after inside l.so_far in
     record {
-      size = kept_size (length given) (p.to - p.from) p.undecoded at (c * n) (omega (arith, same)) h.size (omega (arith, inside, fits));
-      goes_on = λ some. (all, subst (DecoderAfter (Consumes start new) table last) (sym (no_copies c p.run last all is same.1)) stands, ap (λ k. given ++ take k (now ++ rest)) (none_off at) ∙ ap (λ z. given ++ z) (take-append-le at now rest (omega (arith, inside))) ∙ e);
+      size = kept_size (length given) (p.to - p.from) p.undecoded to.at (c * n) (omega (arith, same)) h.size (omega (arith, inside, fits));
+      goes_on = λ some. (all, subst (DecoderAfter (Consumes start new) table to.last) (sym (no_copies c p.run to.last all is same.1)) stands, ap (λ k. given ++ take k (now ++ rest)) (none_off to.at) ∙ ap (λ z. given ++ z) (take-append-le to.at now rest (omega (arith, inside))) ∙ e);
       ends = λ none. absurd (omega (arith, none, inside, fits));
     }
 

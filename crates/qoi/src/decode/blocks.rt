@@ -110,12 +110,10 @@ impl Progress {
             next: bytes[from.taken],
         };
         let now = now.chunks_in_room::<N, F, ROW>(table, bytes, out);
+        let (last, at) = (now.last, now.at);
         Decoded {
             taken: now.taken,
-            reached: Reached {
-                last: now.last,
-                at: now.at,
-            },
+            reached: Reached { last, at },
         }
     }
 

@@ -73,12 +73,10 @@ fn last_run<const N: usize, const F: usize>(
     }
     table.put(now.last);
     store_exactly::<N, F>(out, now.at, now.last, rest / N);
+    let (last, at) = (now.last, out.len());
     InPlace {
         taken: from.taken + 1,
-        reached: Reached {
-            last: now.last,
-            at: out.len(),
-        },
+        reached: Reached { last, at },
         run: advance::<N>(b1 as usize) - rest,
     }
 }
