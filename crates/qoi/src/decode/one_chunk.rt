@@ -1,8 +1,6 @@
 //! How one chunk is decoded. What its bytes do to the last pixel stands in `hashed` and `deltas`.
-ghost use Rattle.std.specs.Prelude.{◌≡◌, IsTrue, ◌+◌, ◌%◌, ◌-◌, ◌<◌, ◌≤◌, length, take};
+ghost use Rattle.std.specs.Prelude.{◌≡◌, ◌+◌, ◌-◌, ◌<◌, ◌≤◌, length, take};
 ghost use Rattle.qoi.specs.Qoi.{run_tag, rgb_tag};
-ghost use Rattle.qoi.specs.declared.decode.output.TheConstants.{RUN_ROOM};
-ghost use Rattle.qoi.specs.Raw.{IsChannels};
 ghost use Rattle.qoi.specs.inner.Filling.{upto, HasRoom, FillsMore, DecodesChunk, filling};
 
 use crate::consts::{QOI_OP_RGB, QOI_OP_RGBA, QOI_OP_RUN};
