@@ -1,11 +1,10 @@
 //! Decoding an image from a reader with a buffer of its own.
-ghost use Rattle.std.specs.Prelude.{◌≡◌, ◌%◌, ◌<◌, [], length, false, IfOk, IfErr, OnErr};
+ghost use Rattle.std.specs.Prelude.{◌<◌, [], length, false, IfOk, IfErr, OnErr};
 ghost use Rattle.std.specs.Io.KnownBytes.{Consumes};
 ghost use Rattle.qoi.specs.declared.error.Error.{Error};
 ghost use Rattle.qoi.specs.inner.Chunks.{TakesMore, TakesChunks, RefusesFilling};
 ghost use Rattle.qoi.specs.inner.Filling.{upto, IsFillable, HasRoom, StaysFillable, filling};
 ghost use Rattle.qoi.specs.pieces.InPlace.{TakesInPlace, IsInPlace};
-ghost use Rattle.qoi.specs.declared.decode.output.TheConstants.{RUN_ROOM};
 
 use crate::decode::chunks::Chunks;
 use crate::decode::fast::{OUTPUT_ROOM, Progress};

@@ -1,5 +1,5 @@
 //! Rows of RGB or of RGBA chunks, as noise has them, by a loop of their own.
-ghost use Rattle.std.specs.Prelude.{◌≡◌, ◌+◌, ◌<◌, ◌≤◌, length};
+ghost use Rattle.std.specs.Prelude.{◌≡◌, ◌<◌, ◌≤◌, length};
 ghost use Rattle.qoi.specs.declared.decode.fast.TheConstants.{INPUT_ROOM, OUTPUT_ROOM};
 
 use crate::consts::{QOI_OP_RGB, QOI_OP_RGBA};

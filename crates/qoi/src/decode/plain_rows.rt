@@ -1,6 +1,6 @@
 //! Rows of plain chunks, as palettes have them, by a loop of their own: index positions,
 //! differences, short runs, RGB and RGBA chunks in any order, without a jump between them.
-ghost use Rattle.std.specs.Prelude.{◌≡◌, ◌+◌, ◌<◌, ◌≤◌, ◌^◌, length};
+ghost use Rattle.std.specs.Prelude.{◌≡◌, ◌<◌, ◌≤◌, length};
 ghost use Rattle.qoi.specs.Qoi.{rgb_tag, rgba_tag};
 ghost use Rattle.qoi.specs.declared.decode.fast.TheConstants.{OUTPUT_ROOM};
 

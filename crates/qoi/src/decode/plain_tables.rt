@@ -1,6 +1,6 @@
 //! What the loop over plain chunks does by the first byte of one, in tables: so it has no jump
 //! between index positions, differences, short runs, RGB and RGBA chunks.
-ghost use Rattle.std.specs.Prelude.{◌≡◌, ◌↔◌, IsTrue, ◌-◌, ◌*◌, ◌<◌, ◌≤◌, ◌^◌};
+ghost use Rattle.std.specs.Prelude.{◌≡◌, ◌↔◌, IsTrue, ◌-◌, ◌<◌, ◌≤◌, ◌^◌};
 ghost use Rattle.qoi.specs.Qoi.{diff_tag, rgb_tag, rgba_tag};
 ghost use Rattle.qoi.specs.Raw.{IsChannels};
 ghost use Rattle.qoi.specs.inner.Hashed.{lane_mask, alpha_mask, top_mask};
