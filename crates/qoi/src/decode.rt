@@ -24,6 +24,7 @@ mod output;
 mod pixel_reader;
 mod plain_rows;
 mod plain_tables;
+mod reached;
 mod reader;
 mod slice;
 mod stream;

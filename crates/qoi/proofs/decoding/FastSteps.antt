@@ -1,19 +1,19 @@
 -- A chunk more, while there is room ahead.
-use Rattle.std.proofs.Common.{◌≡◌, ◌⊎◌, ℕ, ◌+◌, ◌-◌, ◌*◌, ◌/◌, ◌%◌, ◌<◌, ◌≤◌, inl, inr, List, ◌++◌, length, take, drop, get_or, replicate, Bool, true, false, cond, nat_eq, arith, refl, sym, ap, ◌∙◌, subst, ◌∷◌, append_assoc}
+use Rattle.std.proofs.Common.{◌≡◌, ◌⊎◌, ℕ, ◌+◌, ◌-◌, ◌*◌, ◌/◌, ◌%◌, ◌<◌, ◌≤◌, inl, inr, List, ◌++◌, length, take, drop, get_or, replicate, Bool, true, false, cond, nat_eq, eqb, not, IsTrue, arith, refl, sym, ap, ◌∙◌, subst, ◌∷◌, append_assoc}
 use Rattle.std.proofs.lemmas.Bool.{cases_lt}
 use Rattle.std.proofs.lemmas.Bool.Decides.{nat_tests}
-use Rattle.std.proofs.lemmas.List.{get_or-drop}
+use Rattle.std.proofs.lemmas.List.{get_or-drop, get_or-take, take-take, length-take-le}
 use Rattle.std.proofs.Math.Seq.{take-add}
 use mir.Val.{bool_byte}
 use Rattle.qoi.specs.declared.decode.fast.Progress.{Progress}
 use Rattle.qoi.specs.Qoi.{Past}
 use Rattle.qoi.specs.Raw.{IsChannels}
-use Rattle.qoi.specs.inner.Filling.{upto, filling, taken_further, HasWritten, HasFilled, HasAhead, DecodesChunk, DecoderBetween, IsFrontAfter, Fast, fast, FastStep, FastChunks, IsPlainSize}
+use Rattle.qoi.specs.inner.Filling.{upto, reached, filling, taken_further, HasWritten, HasFilled, HasAhead, DecodesChunk, DecoderBetween, IsFrontAfter, Fast, fast, FastStep, FastBetween, FastChunks, IsPlainTag}
 use Rattle.qoi.specs.inner.Hashed.{pixel_of_lanes, HoldsSeen}
 use Rattle.qoi.proofs.format.WholePixels.{by_channels}
 use Rattle.qoi.proofs.decoding.FilledBuffer.{filled_copies}
 use Rattle.qoi.proofs.decoding.FirstChunk.{PutsCopies, HasSize}
-use Rattle.qoi.proofs.decoding.Progress.{goes_on}
+use Rattle.qoi.proofs.decoding.Progress.{goes_on, taken_as}
 
 -- how many pixels a short chunk has, by its first byte and its number of output bytes
 pub record ShortCount (c b size : ℕ) : Type 0 where
@@ -69,8 +69,8 @@ pub fast_step : {f c input room : ℕ} {bytes table table' out out' : List ℕ} 
     → HasWritten f c (upto out now.at) (upto out' (now.at + c * count)) (replicate count (pixel_of_lanes new.last))
     → new.next ≡ get_or bytes new.taken 0 → new.next < 256 → (k : ℕ) → new.taken ≡ now.taken + k → 0 < k → k ≤ input
     → (now.next ≡ get_or (drop now.taken bytes) 0 0
-    → PutsCopies f c (pixel_of_lanes new.last) count (filling table now.last out now.at) (filling table' new.last out' (now.at + c * count))
-    → DecodesChunk f c (take k (drop now.taken bytes)) (filling table now.last out now.at) (filling table' new.last out' (now.at + c * count)))
+    → PutsCopies f c (pixel_of_lanes new.last) count (filling table (reached now.last now.at) out) (filling table' (reached new.last (now.at + c * count)) out')
+    → DecodesChunk f c (take k (drop now.taken bytes)) (filling table (reached now.last now.at) out) (filling table' (reached new.last (now.at + c * count)) out'))
     → FastStep f c input room bytes (fast now table out) (fast new table' out')
 fast_step {f} {c} {bytes = bytes} {table} {table'} {out} {out'} now new count is whole inside fits size end few put written next byte k taken some most decodes =
     let copies = λ (m : ℕ) (past : Past) (s : HasFilled f c m (upto out now.at) past). filled_copies f c m out out' now.at count (pixel_of_lanes new.last) past is inside fits size written s in
@@ -80,8 +80,8 @@ fast_step {f} {c} {bytes = bytes} {table} {table'} {out} {out'} now new count is
           let first : now.next ≡ get_or (drop now.taken bytes) 0 0 = h.next_is ∙ ap (λ i. get_or bytes i 0) (omega arith) ∙ sym (get_or-drop now.taken bytes 0 0) in
           let decoded = decodes first (record { last_is = refl; table = put; filled = copies }) in
           record {
-            between = subst (λ at. DecoderBetween f c gone n (IsFrontAfter front bytes new.taken) (filling table' new.last out' at)) (sym end)
-                (goes_on {old = filling table now.last out now.at} {new = filling table' new.last out' (now.at + c * count)} is h.between inside decoded
+            between = subst (λ at. DecoderBetween f c gone n (IsFrontAfter front bytes new.taken) (filling table' (reached new.last at) out')) (sym end)
+                (goes_on {old = filling table (reached now.last now.at) out} {new = filling table' (reached new.last (now.at + c * count)) out'} is h.between inside decoded
                 (λ before is_front. ap (λ z. z ++ take k (drop now.taken bytes)) is_front ∙ append_assoc front (take now.taken bytes) (take k (drop now.taken bytes))
                 ∙ ap (λ z. front ++ z) (sym (take-add now.taken k bytes) ∙ ap (λ m. take m bytes) (sym taken)))
                 (rw size fits) ends_whole);
@@ -128,6 +128,27 @@ chunks_then a b = record {
   byte = b.byte;
 }
 
+-- the same between chunks of other bytes that begin so
+same_front : {f c : ℕ} {gone : Past} {n : ℕ} {front bytes other table out : List ℕ} {now : Progress} → take now.taken bytes ≡ take now.taken other
+    → get_or bytes now.taken 0 ≡ get_or other now.taken 0 → FastBetween f c gone n front bytes now table out → FastBetween f c gone n front other now table out
+same_front {front = front} taken next h = record { between = taken_as h.between (h.between.taken ∙ ap (λ z. front ++ z) taken); next_is = h.next_is ∙ next }
+
+-- chunks of the front of the bytes are chunks of all of them
+pub front_chunks : {f c : ℕ} {bytes : List ℕ} {old new : Fast} (k : ℕ) → k ≤ length bytes → FastChunks f c (take k bytes) old new → FastChunks f c bytes old new
+front_chunks {bytes = bytes} {old} {new} k within s =
+    let last : new.now.taken < k = omega (arith, s.taken, length-take-le k bytes within) in
+    let first : old.now.taken < k = omega (arith, s.taken, last) in
+    record {
+      between = λ gone n front h.
+          same_front (take-take new.now.taken k bytes (omega (arith, last))) (get_or-take k bytes new.now.taken 0 last)
+          (s.between gone n front (same_front (sym (take-take old.now.taken k bytes (omega (arith, first)))) (sym (get_or-take k bytes old.now.taken 0 first)) h));
+      taken = (s.taken.0, omega (arith, last, within));
+      written = s.written;
+      below = s.below;
+      whole = s.whole;
+      byte = s.byte;
+    }
+
 -- two steps are one
 pub step_then : {f c i j k r s t : ℕ} {bytes : List ℕ} {old middle new : Fast} → FastStep f c i r bytes old middle → FastStep f c j s bytes middle new → i + j ≤ k → r + s ≤ t
     → FastStep f c k t bytes old new
@@ -159,17 +180,36 @@ step_at_first {f} {c} {i} {r} {k} {t} {bytes} {table} {out} {new} p step taken w
     let same : p.taken + 0 ≡ p.taken = omega arith in
     step_within (subst (λ n. FastStep f c i r bytes (fast (to n) table out) new) same step) taken written
 
--- a plain chunk that isn't a full one has a byte, and a vector holds its pixels
-pub plain_short : (c b size : ℕ) → IsPlainSize c b size → 0 < size → b < 254 → (size ≡ 1) × (b ≤ 191 + 16 / c) × ((b < 128) ⊎ (192 ≤ b))
-plain_short c b size is some low = elim (cases_lt b 128) [
-  | inl early ↦ (is.one early, omega (arith, early), inl early)
-  | inr other ↦ elim (cases_lt b 192) [
-    | inl luma ↦ absurd (omega (arith, some, is.luma other luma))
-    | inr run ↦ elim (cases_lt (191 + 16 / c) b) [
-      | inl long ↦ absurd (omega (arith, some, is.long long low))
-      | inr fits ↦ (is.run run fits, fits, inr run)
+-- an entry of a table, by the first byte b: zero for chunks that aren't plain
+pub record IsPlainEntry (c b x : ℕ) : Type 0 where
+  pub early : b < 128 → 0 < x
+  pub luma : 128 ≤ b → b < 192 → x ≡ 0
+  pub run : 192 ≤ b → b ≤ 191 + 16 / c → 0 < x
+  pub long : 191 + 16 / c < b → b < 254 → x ≡ 0
+  pub full : 254 ≤ b → 0 < x
+
+pub plain_tag : {c b x : ℕ} → IsPlainEntry c b x → (IsTrue (not (eqb x 0)) → IsPlainTag c b) × (IsPlainTag c b → IsTrue (not (eqb x 0)))
+plain_tag {c} {b} {x} is = (
+  λ tested. let some : 0 < x = grind (arith, nat_tests) in elim (cases_lt b 128) [
+    | inl early ↦ inl early
+    | inr other ↦ elim (cases_lt b 192) [
+      | inl luma ↦ absurd (omega (arith, some, is.luma other luma))
+      | inr run ↦ elim (cases_lt b 254) [
+        | inl low ↦ elim (cases_lt (191 + 16 / c) b) [ inl long ↦ absurd (omega (arith, some, is.long long low)) | inr fits ↦ inr (inl (run, fits)) ]
+        | inr full ↦ inr (inr full)
+      ]
     ]
-  ]
+  ],
+  λ plain.
+      let some : 0 < x = elim plain [ inl early ↦ is.early early | inr other ↦ elim other [ inl run ↦ is.run run.0 run.1 | inr full ↦ is.full full ] ] in
+      grind (arith, nat_tests),
+)
+
+-- a plain chunk that isn't a full one is no luma, and a vector holds its pixels
+pub plain_short : (c b : ℕ) → IsPlainTag c b → b < 254 → (b ≤ 191 + 16 / c) × ((b < 128) ⊎ (192 ≤ b))
+plain_short c b is low = elim is [
+  | inl early ↦ (omega (arith, early), inl early)
+  | inr other ↦ elim other [ inl run ↦ (run.1, inr run.0) | inr full ↦ absurd (omega (arith, full, low)) ]
 ]
 
 -- it has no second byte

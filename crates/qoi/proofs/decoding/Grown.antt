@@ -5,12 +5,13 @@ use Rattle.std.proofs.lemmas.List.{length-replicate, take-append-le}
 use lib.Seq.{take-append_seam}
 use Rattle.qoi.specs.declared.chunk.Chunk.{Chunk}
 use Rattle.qoi.specs.declared.decode.chunks.TheConstants.{GROWTH}
+use Rattle.qoi.specs.declared.decode.reached.Reached.{Reached}
 use Rattle.qoi.specs.Qoi.{Past, AreBytes, Each, chunk_bytes, start, then_chunk, then_chunks}
 use Rattle.qoi.specs.Raw.{IsChannels}
 use Rattle.qoi.specs.Verdicts.{IsPartOfChunk, AreCut, EndsBefore}
 use Rattle.qoi.specs.declared.error.Error.TheVariants.{IoError}
 use Rattle.qoi.specs.inner.Hashed.{pixel_of_lanes, HoldsSeen}
-use Rattle.qoi.specs.inner.Filling.{Filling, filling, IsFillable, DecoderBetween}
+use Rattle.qoi.specs.inner.Filling.{Filling, reached, filling, IsFillable, DecoderBetween}
 use Rattle.qoi.specs.inner.Chunks.{TakesMore, RefusesFilling}
 use Rattle.qoi.proofs.format.WholePixels.{by_channels, whole_pixels}
 use Rattle.qoi.proofs.decoding.LeastBytes.{pixels_most}
@@ -27,10 +28,10 @@ more_pixels : (c m n size more : ℕ) → IsChannels c → size ≡ c * m → si
 more_pixels c m n size more is = by_channels (λ k. size ≡ k * m → size + more ≡ k * n → m ≤ n) is (λ a b. omega arith) (λ a b. omega arith)
 
 -- a buffer that isn't full may have bytes more
-grows : {f c : ℕ} {gone : Past} {m : ℕ} {Taken : List ℕ → Type 0} {table : List ℕ} {last : ℕ} {out : List ℕ} {at : ℕ} → IsChannels c
-    → DecoderBetween f c gone m Taken (filling table last out at) → at < length out → (n : ℕ) (more : List ℕ) → length out + length more ≡ c * n
-    → DecoderBetween f c gone n Taken (filling table last (out ++ more) at)
-grows {c = c} {gone = gone} {m = m} {out = out} {at = at} is s inside n more size =
+grows : {f c : ℕ} {gone : Past} {m : ℕ} {Taken : List ℕ → Type 0} {table out : List ℕ} {now : Reached} → IsChannels c
+    → DecoderBetween f c gone m Taken (filling table now out) → now.at < length out → (n : ℕ) (more : List ℕ) → length out + length more ≡ c * n
+    → DecoderBetween f c gone n Taken (filling table now (out ++ more))
+grows {c = c} {gone = gone} {m = m} {out = out} {now = now} is s inside n more size =
     let past = s.recent in
     let below : length past < m = fewer is s.filled inside in
     let most : m ≤ n = more_pixels c m n (length out) (length more) is s.filled.room size in
@@ -46,7 +47,7 @@ grows {c = c} {gone = gone} {m = m} {out = out} {at = at} is s inside n more siz
       filled = record {
         room = size_is ∙ size;
         at_is = s.filled.at_is ∙ ap (λ k. c * k) same;
-        same = take-append-le at out more (omega (arith, inside)) ∙ s.filled.same;
+        same = take-append-le now.at out more (omega (arith, inside)) ∙ s.filled.same;
       };
       has_seen = record { table_is = s.has_seen.table_is; last_is = s.has_seen.last_is };
       within = omega (arith, inside, size_is);
@@ -54,35 +55,35 @@ grows {c = c} {gone = gone} {m = m} {out = out} {at = at} is s inside n more siz
     }
 
 -- what stands between two chunks, however many bytes the buffer gets
-abbrev pub Growing : ℕ → ℕ → (List ℕ → Type 0) → List ℕ → ℕ → List ℕ → ℕ → Type 0
-Growing f c Taken table last out at = (n : ℕ) (more : List ℕ) → length out + length more ≡ c * n
-    → DecoderBetween f c [] n Taken (filling table last (out ++ more) at)
+abbrev pub Growing : ℕ → ℕ → (List ℕ → Type 0) → List ℕ → Reached → List ℕ → Type 0
+Growing f c Taken table now out = (n : ℕ) (more : List ℕ) → length out + length more ≡ c * n
+    → DecoderBetween f c [] n Taken (filling table now (out ++ more))
 
 -- before the first chunk
 pub growing_start : (f c : ℕ) (Taken : List ℕ → Type 0) (table : List ℕ) (last : ℕ) (out : List ℕ) → IsChannels c → length out ≡ 0
-    → HoldsSeen table [] → pixel_of_lanes last ≡ start → Taken [] → Growing f c Taken table last out 0
+    → HoldsSeen table [] → pixel_of_lanes last ≡ start → Taken [] → Growing f c Taken table (reached last 0) out
 growing_start f c Taken table last [] is empty blank opaque none n more size =
     let many : length more / c ≡ n = by_channels (λ k. 0 + length more ≡ k * n → length more / k ≡ n) is (λ e. omega arith) (λ e. omega arith) size in
     let whole : length more % c ≡ 0 = by_channels (λ k. 0 + length more ≡ k * n → length more % k ≡ 0) is (λ e. omega arith) (λ e. omega arith) size in
-    subst (λ k. DecoderBetween f c [] k Taken (filling table last more 0)) many (start_between f c Taken table last more is whole blank opaque none)
+    subst (λ k. DecoderBetween f c [] k Taken (filling table (reached last 0) more)) many (start_between f c Taken table last more is whole blank opaque none)
 growing_start f c Taken table last (x ∷ out) is empty blank opaque none n more size = absurd (omega arith)
 
 -- with zeros up to a size
-pub grown : {f c : ℕ} {Taken : List ℕ → Type 0} {table : List ℕ} {last : ℕ} {at : ℕ} (old new : List ℕ) (len size : ℕ) → IsChannels c → Growing f c Taken table last old at
-    → len ≡ length old → len ≤ size → size % c ≡ 0 → new ≡ old ++ replicate (size - len) 0 → DecoderBetween f c [] (size / c) Taken (filling table last new at)
-grown {f} {c} {Taken} {table} {last} {at} old new len size is g len_is within whole new_is =
+pub grown : {f c : ℕ} {Taken : List ℕ → Type 0} {table : List ℕ} {now : Reached} (old new : List ℕ) (len size : ℕ) → IsChannels c → Growing f c Taken table now old
+    → len ≡ length old → len ≤ size → size % c ≡ 0 → new ≡ old ++ replicate (size - len) 0 → DecoderBetween f c [] (size / c) Taken (filling table now new)
+grown {f} {c} {Taken} {table} {now} old new len size is g len_is within whole new_is =
     let zeros : List ℕ = replicate (size - len) 0 in
     let all : length old + length zeros ≡ c * (size / c) = omega (arith, len_is, within, length-replicate {A = ℕ} (size - len) 0) ∙ whole_pixels c size is whole in
-    subst (λ z. DecoderBetween f c [] (size / c) Taken (filling table last z at)) (sym new_is) (g (size / c) zeros all)
+    subst (λ z. DecoderBetween f c [] (size / c) Taken (filling table now z)) (sym new_is) (g (size / c) zeros all)
 
 -- a vector that lent itself whole holds what was written
 pub lent_back : (len : ℕ) (buf items : List ℕ) → len ≡ length buf → take len (buf ++ drop (length buf) items) ≡ buf
 lent_back len buf items size = ap (λ k. take k (buf ++ drop (length buf) items)) size ∙ take-append_seam buf (drop (length buf) items)
 
 -- after a step that left room
-pub growing_on : {f c m : ℕ} {Taken : List ℕ → Type 0} {table : List ℕ} {last : ℕ} {at : ℕ} (out items : List ℕ) → IsChannels c
-    → DecoderBetween f c [] m Taken (filling table last out at) → at < length out → items ≡ out → Growing f c Taken table last items at
-growing_on {f} {c} {m} {Taken} {table} {last} {at} out items is s inside same = subst (λ z. Growing f c Taken table last z at) (sym same) (grows is s inside)
+pub growing_on : {f c m : ℕ} {Taken : List ℕ → Type 0} {table : List ℕ} {now : Reached} (out items : List ℕ) → IsChannels c
+    → DecoderBetween f c [] m Taken (filling table now out) → now.at < length out → items ≡ out → Growing f c Taken table now items
+growing_on {f} {c} {m} {Taken} {table} {now} out items is s inside same = subst (Growing f c Taken table now) (sym same) (grows is s inside)
 
 -- what stands between two chunks can be filled
 pub between_fillable : {f c : ℕ} {gone : Past} {n : ℕ} {Taken : List ℕ → Type 0} {now : Filling} → IsChannels c → DecoderBetween f c gone n Taken now → IsFillable c now.buffer
@@ -93,10 +94,10 @@ between_fillable {c = c} {n = n} {now = now} is s =
 
 -- if there is room and fewer bytes are left than an end marker has, the bytes are cut for an image
 -- of any more pixels
-pub few_left_more : {f c : ℕ} {gone : Past} {n : ℕ} {table : List ℕ} {last : ℕ} {out : List ℕ} {at : ℕ} (start : Option (List ℕ)) (rest : List ℕ) → IsChannels c
-    → DecoderBetween f c gone n (Consumes start (Some rest)) (filling table last out at) → at < length out → AreBytes rest → length rest < 8
+pub few_left_more : {f c : ℕ} {gone : Past} {n : ℕ} {table out : List ℕ} {now : Reached} (start : Option (List ℕ)) (rest : List ℕ) → IsChannels c
+    → DecoderBetween f c gone n (Consumes start (Some rest)) (filling table now out) → now.at < length out → AreBytes rest → length rest < 8
     → (k : ℕ) → length gone + n ≤ k → IfSome start (AreCut k)
-few_left_more {f} {c} {gone} {n} {table} {last} {out} {at} start rest is s inside fits few k more =
+few_left_more {f} {c} {gone} {n} {table} {out} {now} start rest is s inside fits few k more =
     let m = k - length gone in
     let zeros : List ℕ = replicate (c * m - length out) 0 in
     let least : length out ≤ c * m = by_channels (λ j. length out ≡ j * n → length out ≤ j * m) is (λ e. omega (arith, more)) (λ e. omega (arith, more)) s.filled.room in

@@ -6,6 +6,7 @@ use Rattle.std.proofs.lemmas.List.{get_or-drop, length-drop, replicate-append-re
 use Rattle.std.proofs.Math.Seq.{take-add}
 use Rattle.qoi.specs.declared.chunk.Chunk.TheVariants.{Run}
 use Rattle.qoi.specs.declared.decode.in_place.InPlace.{InPlace}
+use Rattle.qoi.specs.declared.decode.reached.Reached.{Reached}
 use Rattle.qoi.specs.Qoi.{Past, RgbaPixel, bytes_of, chunk_bytes, then_chunk, previous}
 use Rattle.qoi.specs.Raw.{IsChannels, output}
 use Rattle.qoi.specs.inner.Hashed.{pixel_of_lanes, HoldsSeen}
@@ -21,11 +22,11 @@ use Rattle.qoi.proofs.decoding.Progress.{front_of_none}
 use Rattle.qoi.proofs.decoding.PieceSteps.{closes, no_copies, output_copies}
 
 -- chunks that end before the output leave nothing of a run
-pub piece_stops : {f c n : ℕ} {gone : Past} {Taken : List ℕ → Type 0} {table : List ℕ} {last at : ℕ} (out : List ℕ) (taken : ℕ) → IsChannels c → at < length out
-    → DecoderBetween f c gone n Taken (filling table last out at) → TakesPiece f c gone Taken table out (record { last = last; taken = taken; at = at; run = 0 })
-piece_stops {f} {c} {gone = gone} {Taken} {table} {last} {at = at} out taken is inside h =
-    let (all, after, e) = closes (output f c (reverse gone)) out at is h inside refl in
-    record { all = all; after = subst (DecoderAfter Taken table last) (sym (no_copies c 0 last all is refl)) after; bytes_are = e }
+pub piece_stops : {f c n : ℕ} {gone : Past} {Taken : List ℕ → Type 0} {table : List ℕ} {now : Reached} (out : List ℕ) (taken : ℕ) → IsChannels c → now.at < length out
+    → DecoderBetween f c gone n Taken (filling table now out) → TakesPiece f c gone Taken table out (record { taken = taken; reached = now; run = 0 })
+piece_stops {f} {c} {gone = gone} {Taken} {table} {now} out taken is inside h =
+    let (all, after, e) = closes (output f c (reverse gone)) out is h inside refl in
+    record { all = all; after = subst (DecoderAfter Taken table now.last) (sym (no_copies c 0 now.last all is refl)) after; bytes_are = e }
 
 -- a run more
 then_run : {Taken Taken' : List ℕ → Type 0} {table table' : List ℕ} {last : ℕ} {all : Past} (count : ℕ) → 0 < count → count ≤ 62 → DecoderAfter Taken table last all
@@ -67,23 +68,23 @@ next_taken before bytes taken count inside is =
     ∙ ap (λ z. before ++ z) (ap (λ z. take taken bytes ++ z) (sym first) ∙ sym (take-add taken 1 bytes))
 
 -- A run fills the output, and goes on past its end.
-pub piece_ends : {f c n : ℕ} {gone : Past} {Taken Taken' : List ℕ → Type 0} {table table' : List ℕ} {last at : ℕ} (k count : ℕ) (out out' : List ℕ) (now : InPlace)
-    → IsChannels c → at < length out → DecoderBetween f c gone n Taken (filling table last out at) → 0 < count → count ≤ 62
-    → ((past : Past) → HoldsSeen table past → HoldsSeen table' (pixel_of_lanes last ∷ past))
+pub piece_ends : {f c n : ℕ} {gone : Past} {Taken Taken' : List ℕ → Type 0} {table table' : List ℕ} {from : Reached} (k count : ℕ) (out out' : List ℕ) (now : InPlace)
+    → IsChannels c → from.at < length out → DecoderBetween f c gone n Taken (filling table from out) → 0 < count → count ≤ 62
+    → ((past : Past) → HoldsSeen table past → HoldsSeen table' (pixel_of_lanes from.last ∷ past))
     → ((before : List ℕ) → Taken before → Taken' (before ++ bytes_of (Run count)))
-    → HasWritten f c (upto out at) (upto out' (at + c * k)) (replicate k (pixel_of_lanes last)) → now.at ≡ at + c * k → now.last ≡ last
+    → HasWritten f c (upto out from.at) (upto out' (from.at + c * k)) (replicate k (pixel_of_lanes from.last)) → now.reached.at ≡ from.at + c * k → now.reached.last ≡ from.last
     → (rest : ℕ) → rest ≡ c * k → rest ≤ c * count → now.run ≡ c * count - rest → TakesPiece f c gone Taken' table' out' now
-piece_ends {f} {c} {n} {gone} {Taken} {Taken'} {table} {table'} {last} {at} k count out out' now is inside h some most put takes filled end same rest few fits left =
-    let p = pixel_of_lanes last in
+piece_ends {f} {c} {n} {gone} {Taken} {Taken'} {table} {table'} {from} k count out out' now is inside h some most put takes filled end same rest few fits left =
+    let p = pixel_of_lanes from.last in
     let before = output f c (reverse gone) in
-    let (all, after, e) = closes before out at is h inside refl in
-    let parts : copies c now.run last ++ (replicate k p ++ all) ≡ replicate count p ++ all =
-    sym (append_assoc (copies c now.run last) (replicate k p) all) ∙ ap (λ z. z ++ all) (parts_of_run c k count now.run rest p is few fits left) in
+    let (all, after, e) = closes before out is h inside refl in
+    let parts : copies c now.run from.last ++ (replicate k p ++ all) ≡ replicate count p ++ all =
+    sym (append_assoc (copies c now.run from.last) (replicate k p) all) ∙ ap (λ z. z ++ all) (parts_of_run c k count now.run rest p is few fits left) in
     record {
       all = replicate k p ++ all;
       after = subst (λ l. DecoderAfter Taken' table' l (copies c now.run l ++ (replicate k p ++ all))) (sym same)
-          (subst (DecoderAfter Taken' table' last) (sym parts) (then_run count some most after put takes));
-      bytes_are = ap (λ i. before ++ take i out') end ∙ ap (λ z. before ++ z) filled.same ∙ sym (append_assoc before (take at out) (output f c (replicate k p)))
+          (subst (DecoderAfter Taken' table' from.last) (sym parts) (then_run count some most after put takes));
+      bytes_are = ap (λ i. before ++ take i out') end ∙ ap (λ z. before ++ z) filled.same ∙ sym (append_assoc before (take from.at out) (output f c (replicate k p)))
           ∙ ap (λ z. z ++ output f c (replicate k p)) e ∙ sym (output_copies f c k p all);
     }
 

@@ -10,10 +10,11 @@ use Rattle.std.proofs.lemmas.Grind.{flat_map-append}
 use Rattle.qoi.specs.declared.chunk.Chunk.{Chunk}
 use Rattle.qoi.specs.declared.decode.in_place.InPlace.{InPlace}
 use Rattle.qoi.specs.declared.decode.pixel_reader.unread.Unread.{Unread}
+use Rattle.qoi.specs.declared.decode.reached.Reached.{Reached}
 use Rattle.qoi.specs.Qoi.{Past, RgbaPixel, Each, AreChunks, chunk_bytes, end_marker, pixel_after, times, then_chunk, then_chunks}
 use Rattle.qoi.specs.Raw.{IsChannels, pixel_bytes, output}
 use Rattle.qoi.specs.Decoding.{TakesImagePixels, ReadsImage}
-use Rattle.qoi.specs.inner.Filling.{HasSeen, HasWritten, IsFillable, upto, filling, DecoderBetween}
+use Rattle.qoi.specs.inner.Filling.{HasSeen, HasWritten, IsFillable, upto, reached, filling, DecoderBetween}
 use Rattle.qoi.specs.inner.Hashed.{pixel_of_lanes}
 use Rattle.qoi.specs.pieces.InPlace.{TakesPiece, IsInPlace}
 use Rattle.qoi.specs.pieces.Unread.{kept_raw, bytes_left, copies, KeepsWithin, KeepsNothing, AreWhole, DecoderAfter, IsUnread}
@@ -40,7 +41,7 @@ stay_within m past (c ∷ cs) are most =
 
 -- pixels that are gone, and an empty output
 pub opens : {f c : ℕ} {gone : Past} {Taken : List ℕ → Type 0} {table : List ℕ} {last : ℕ} (n : ℕ) (out : List ℕ) → IsChannels c
-    → DecoderAfter Taken table last gone → length out ≡ c * n → DecoderBetween f c gone n Taken (filling table last out 0)
+    → DecoderAfter Taken table last gone → length out ≡ c * n → DecoderBetween f c gone n Taken (filling table (reached last 0) out)
 opens {f} {c} {gone} {Taken} {table} {last} n out is s size = record {
   cs = s.cs;
   chunks = s.chunks;
@@ -49,7 +50,7 @@ opens {f} {c} {gone} {Taken} {table} {last} n out is s size = record {
   stays_below = stay_within (length gone + n) [] s.cs s.chunks (omega (arith, ap length s.pixels));
   taken = s.taken;
   filled = record { room = size; at_is = none; same = refl };
-  has_seen = subst (HasSeen (filling table last out 0)) (sym s.pixels) (record { table_is = s.table_is; last_is = s.last_is });
+  has_seen = subst (HasSeen (filling table (reached last 0) out)) (sym s.pixels) (record { table_is = s.table_is; last_is = s.last_is });
   within = omega arith;
   whole = none_written c is;
 }
@@ -58,22 +59,22 @@ opens {f} {c} {gone} {Taken} {table} {last} n out is s size = record {
     none = by_channels (λ k. 0 ≡ k * min n 0) is (omega arith) (omega arith)
 
 -- what stands after an output that isn't full
-abbrev pub Closed : (f c : ℕ) (gone : Past) (Taken : List ℕ → Type 0) (table : List ℕ) (last : ℕ) (given out : List ℕ) (at : ℕ) → Type 0
-Closed f c gone Taken table last given out at = (all : Past) × DecoderAfter Taken table last all × (given ++ take at out ≡ output f c (reverse all))
+abbrev pub Closed : (f c : ℕ) (gone : Past) (Taken : List ℕ → Type 0) (table : List ℕ) (now : Reached) (given out : List ℕ) → Type 0
+Closed f c gone Taken table now given out = (all : Past) × DecoderAfter Taken table now.last all × (given ++ take now.at out ≡ output f c (reverse all))
 
-pub closes : {f c : ℕ} {gone : Past} {m : ℕ} {Taken : List ℕ → Type 0} {table : List ℕ} {last : ℕ} (given out : List ℕ) (at : ℕ) → IsChannels c
-    → DecoderBetween f c gone m Taken (filling table last out at) → at < length out → given ≡ output f c (reverse gone)
-    → Closed f c gone Taken table last given out at
-closes {f} {c} {gone} {m} {Taken} {table} {last} given out at is s inside so_far =
+pub closes : {f c : ℕ} {gone : Past} {m : ℕ} {Taken : List ℕ → Type 0} {table : List ℕ} {now : Reached} (given out : List ℕ) → IsChannels c
+    → DecoderBetween f c gone m Taken (filling table now out) → now.at < length out → given ≡ output f c (reverse gone)
+    → Closed f c gone Taken table now given out
+closes {f} {c} {gone} {m} {Taken} {table} {now} given out is s inside so_far =
     let recent = s.recent in
     let few : length recent < m = fewer is s.filled inside in
-    let many : length (output f c (reverse recent)) ≡ at =
+    let many : length (output f c (reverse recent)) ≡ now.at =
     length-output f c (reverse recent) is ∙ ap (λ k. c * k) (length-reverse recent ∙ omega (arith, few)) ∙ sym s.filled.at_is in
-    let front : take at out ≡ output f c (reverse recent) = s.filled.same ∙ take_whole at (output f c (reverse recent)) many in
-    let seen = subst (HasSeen (filling table last out at)) s.pixels s.has_seen in (
+    let front : take now.at out ≡ output f c (reverse recent) = s.filled.same ∙ take_whole now.at (output f c (reverse recent)) many in
+    let seen = subst (HasSeen (filling table now out)) s.pixels s.has_seen in (
       recent ++ gone,
       record { cs = s.cs; chunks = s.chunks; pixels = s.pixels; taken = s.taken; table_is = seen.table_is; last_is = seen.last_is },
-      ap (λ z. z ++ take at out) so_far ∙ ap (λ z. output f c (reverse gone) ++ z) front
+      ap (λ z. z ++ take now.at out) so_far ∙ ap (λ z. output f c (reverse gone) ++ z) front
           ∙ sym (flat_map-append (pixel_bytes f c) (reverse gone) (reverse recent)) ∙ sym (ap (output f c) (reverse-append recent gone)),
     )
 
@@ -156,7 +157,7 @@ whole_times c size is = by_channels (λ k. size / k * k ≡ k * (size / k)) is (
 -- an output that is lent with nothing kept, and `at` bytes of a run at its front
 pub record Lent (f c n m : ℕ) (start old : Option (List ℕ)) (given : List ℕ) (p : Unread) (out : List ℕ) (at : ℕ) : Type 0 where
   pub gone : Past
-  pub before : DecoderBetween f c gone m (Consumes start old) (filling p.table p.last out at)
+  pub before : DecoderBetween f c gone m (Consumes start old) (filling p.table (reached p.last at) out)
   pub so_far : given ≡ output f c (reverse gone)
   pub most : length gone + m ≤ n
 
@@ -176,7 +177,7 @@ lent {f} {c} {n} {start} {old} {given} {p} m out is h none some size fits =
 begun : {f c : ℕ} {gone : Past} {Taken : List ℕ → Type 0} {table : List ℕ} {last : ℕ} (m run : ℕ) (before out : List ℕ) → IsChannels c
     → DecoderAfter Taken table last (copies c run last ++ gone) → length out ≡ c * m → run % c ≡ 0 → run ≤ length out
     → HasWritten f c (upto before 0) (upto out (0 + c * (run / c))) (replicate (run / c) (pixel_of_lanes last))
-    → DecoderBetween f c gone m Taken (filling table last out run)
+    → DecoderBetween f c gone m Taken (filling table (reached last run) out)
 begun {f} {c} {gone} {Taken} {table} {last} m run before out is s size whole fits written =
     let recent = copies c run last in
     let many : run ≡ c * (run / c) = whole_pixels c run is whole in
@@ -196,7 +197,7 @@ begun {f} {c} {gone} {Taken} {table} {last} m run before out is s size whole fit
         at_is = many ∙ ap (λ k. c * k) (sym (least m (run / c) few) ∙ ap (λ k. min m k) (sym count));
         same = bytes ∙ sym (take_all run (output f c recent) (omega (arith, long))) ∙ ap (λ z. take run (output f c z)) (sym (reverse-replicate (run / c) (pixel_of_lanes last)));
       };
-      has_seen = subst (HasSeen (filling table last out run)) (sym s.pixels) (record { table_is = s.table_is; last_is = s.last_is });
+      has_seen = subst (HasSeen (filling table (reached last run) out)) (sym s.pixels) (record { table_is = s.table_is; last_is = s.last_is });
       within = fits;
       whole = whole;
     }
@@ -281,20 +282,20 @@ pub moved_size : (g k l u a t : ℕ) → g + (l + u) ≡ t → a ≤ u → k ≡
 moved_size g k l u a t e le same = omega arith
 
 -- chunks were decoded into what was lent
-pub long_read : {f c n m : ℕ} {start old new : Option (List ℕ)} {given : List ℕ} {p : Unread} {out : List ℕ} {table : List ℕ} {last : ℕ}
-    (now rest : List ℕ) (at : ℕ) → IsChannels c → IsUnread f c n start old given p → KeepsNothing p → (l : Lent f c n m start old given p out 0)
-    → DecoderBetween f c l.gone m (Consumes start new) (filling table last now at) → at < length now → length now ≤ p.undecoded
-    → IsUnread f c n start new (given ++ take at (now ++ rest)) (record p { table = table; last = last; undecoded = p.undecoded - at })
-long_read {f} {c} {n} {m} {start} {old} {new} {given} {p} {out} {table} {last} now rest at is h same l after inside fits =
-    let (all, stands, e) = closes given now at is after inside l.so_far in
-    let front : take at (now ++ rest) ≡ take at now = take-append-le at now rest (omega (arith, inside)) in
-    let then : Unread = record p { table = table; last = last; undecoded = p.undecoded - at } in
-    let more = given ++ take at (now ++ rest) in
-    let size : length more ≡ length given + at =
-    length-append given (take at (now ++ rest)) ∙ ap (λ k. length given + k) (ap length front ∙ length-take-le at now (omega (arith, inside))) in
+pub long_read : {f c n m : ℕ} {start old new : Option (List ℕ)} {given : List ℕ} {p : Unread} {out : List ℕ} {table : List ℕ} {to : Reached}
+    (now rest : List ℕ) → IsChannels c → IsUnread f c n start old given p → KeepsNothing p → (l : Lent f c n m start old given p out 0)
+    → DecoderBetween f c l.gone m (Consumes start new) (filling table to now) → to.at < length now → length now ≤ p.undecoded
+    → IsUnread f c n start new (given ++ take to.at (now ++ rest)) (record p { table = table; last = to.last; undecoded = p.undecoded - to.at })
+long_read {f} {c} {n} {m} {start} {old} {new} {given} {p} {out} {table} {to} now rest is h same l after inside fits =
+    let (all, stands, e) = closes given now is after inside l.so_far in
+    let front : take to.at (now ++ rest) ≡ take to.at now = take-append-le to.at now rest (omega (arith, inside)) in
+    let then : Unread = record p { table = table; last = to.last; undecoded = p.undecoded - to.at } in
+    let more = given ++ take to.at (now ++ rest) in
+    let size : length more ≡ length given + to.at =
+    length-append given (take to.at (now ++ rest)) ∙ ap (λ k. length given + k) (ap length front ∙ length-take-le to.at now (omega (arith, inside))) in
     record {
-      size = ap (λ k. k + (p.to - p.from + (p.undecoded - at))) size ∙ moved_size (length given) at (p.to - p.from) p.undecoded at (c * n) h.size (omega (arith, inside, fits)) refl;
-      goes_on = λ some. (all, subst (DecoderAfter (Consumes start new) table last) (sym (no_copies c p.run last all is same.1)) stands, none_kept then more same.0 ∙ ap (λ z. given ++ z) front ∙ e);
+      size = ap (λ k. k + (p.to - p.from + (p.undecoded - to.at))) size ∙ moved_size (length given) to.at (p.to - p.from) p.undecoded to.at (c * n) h.size (omega (arith, inside, fits)) refl;
+      goes_on = λ some. (all, subst (DecoderAfter (Consumes start new) table to.last) (sym (no_copies c p.run to.last all is same.1)) stands, none_kept then more same.0 ∙ ap (λ z. given ++ z) front ∙ e);
       ends = λ none. absurd (omega (arith, none, inside, fits));
     }
 
@@ -307,13 +308,13 @@ placed_most c before out is =
 pub piece_read : {f c n m : ℕ} {start old new : Option (List ℕ)} {given : List ℕ} {p : Unread} {out : List ℕ} {table : List ℕ}
     (now rest : List ℕ) (placed : InPlace) → IsChannels c → IsUnread f c n start old given p → p.from ≡ p.to → (l : Lent f c n m start old given p out p.run)
     → TakesPiece f c l.gone (Consumes start new) table now placed → IsInPlace c (length now) placed → length now + 256 ≤ p.undecoded
-    → IsUnread f c n start new (given ++ take placed.at (now ++ rest))
-    (record p { table = table; last = placed.last; run = placed.run; undecoded = p.undecoded - placed.at })
+    → IsUnread f c n start new (given ++ take placed.reached.at (now ++ rest))
+    (record p { table = table; last = placed.reached.last; run = placed.run; undecoded = p.undecoded - placed.reached.at })
 piece_read {f} {c} {n} {m} {start} {old} {new} {given} {p} {out} {table} now rest placed is h same l t sizes fits =
-    let at = placed.at in
+    let at = placed.reached.at in
     let inside = sizes.within in
     let front : take at (now ++ rest) ≡ take at now = take-append-le at now rest inside in
-    let then : Unread = record p { table = table; last = placed.last; run = placed.run; undecoded = p.undecoded - at } in
+    let then : Unread = record p { table = table; last = placed.reached.last; run = placed.run; undecoded = p.undecoded - at } in
     let more = given ++ take at (now ++ rest) in
     let size : length more ≡ length given + at = length-append given (take at (now ++ rest)) ∙ ap (λ k. length given + k) (ap length front ∙ length-take-le at now inside) in
     record {
@@ -323,15 +324,15 @@ piece_read {f} {c} {n} {m} {start} {old} {new} {given} {p} {out} {table} now res
     }
 
 -- chunks were decoded into the front of what is kept
-pub kept_read : {f c n m : ℕ} {start old new : Option (List ℕ)} {given : List ℕ} {p : Unread} {out : List ℕ} {table : List ℕ} {last : ℕ}
-    (now rest : List ℕ) (at : ℕ) → IsChannels c → IsUnread f c n start old given p → KeepsNothing p → (l : Lent f c n m start old given p out 0)
-    → DecoderBetween f c l.gone m (Consumes start new) (filling table last now at) → at < length now → length now < p.undecoded
-    → IsUnread f c n start new given (record p { table = table; last = last; bytes = now ++ rest; from = 0; to = at; undecoded = p.undecoded - at })
-kept_read {f} {c} {n} {m} {start} {old} {new} {given} {p} {out} {table} {last} now rest at is h same l after inside fits =
-    let (all, stands, e) = closes given now at is after inside l.so_far in
+pub kept_read : {f c n m : ℕ} {start old new : Option (List ℕ)} {given : List ℕ} {p : Unread} {out : List ℕ} {table : List ℕ} {to : Reached}
+    (now rest : List ℕ) → IsChannels c → IsUnread f c n start old given p → KeepsNothing p → (l : Lent f c n m start old given p out 0)
+    → DecoderBetween f c l.gone m (Consumes start new) (filling table to now) → to.at < length now → length now < p.undecoded
+    → IsUnread f c n start new given (record p { table = table; last = to.last; bytes = now ++ rest; from = 0; to = to.at; undecoded = p.undecoded - to.at })
+kept_read {f} {c} {n} {m} {start} {old} {new} {given} {p} {out} {table} {to} now rest is h same l after inside fits =
+    let (all, stands, e) = closes given now is after inside l.so_far in
     record {
-      size = kept_size (length given) (p.to - p.from) p.undecoded at (c * n) (omega (arith, same)) h.size (omega (arith, inside, fits));
-      goes_on = λ some. (all, subst (DecoderAfter (Consumes start new) table last) (sym (no_copies c p.run last all is same.1)) stands, ap (λ k. given ++ take k (now ++ rest)) (none_off at) ∙ ap (λ z. given ++ z) (take-append-le at now rest (omega (arith, inside))) ∙ e);
+      size = kept_size (length given) (p.to - p.from) p.undecoded to.at (c * n) (omega (arith, same)) h.size (omega (arith, inside, fits));
+      goes_on = λ some. (all, subst (DecoderAfter (Consumes start new) table to.last) (sym (no_copies c p.run to.last all is same.1)) stands, ap (λ k. given ++ take k (now ++ rest)) (none_off to.at) ∙ ap (λ z. given ++ z) (take-append-le to.at now rest (omega (arith, inside))) ∙ e);
       ends = λ none. absurd (omega (arith, none, inside, fits));
     }
 

@@ -4,7 +4,7 @@ use Rattle.qoi.specs.Qoi.{RgbaPixel, Past, AreBytes, start, bytes_of, chunk_byte
 use Rattle.std.specs.Io.KnownBytes.{Consumes}
 use Rattle.std.proofs.KnownBytes.{Consumes-trans}
 use Rattle.qoi.specs.Raw.{IsChannels, pixel_bytes, output}
-use Rattle.qoi.specs.inner.Filling.{Buffer, Filling, upto, filling, HasFilled, IsFillable, DecodesChunk, DecoderBetween, IsFrontAfter, TakesFront}
+use Rattle.qoi.specs.inner.Filling.{Buffer, Filling, upto, reached, filling, HasFilled, IsFillable, DecodesChunk, DecoderBetween, IsFrontAfter, TakesFront}
 use Rattle.qoi.specs.inner.Chunks.{TakesMore, TakesChunks, FillsOutput}
 use Rattle.qoi.specs.inner.Hashed.{pixel_of_lanes, HoldsSeen}
 use Rattle.qoi.specs.Verdicts.{IsPartOfChunk, EndsBefore, AreCut}
@@ -38,7 +38,7 @@ fillable_whole is whole = record { three_or_four = is; within = omega arith; who
 
 -- before the first chunk
 pub start_between : (f c : ℕ) (Taken : List ℕ → Type 0) (table : List ℕ) (last : ℕ) (out : List ℕ) → IsChannels c → length out % c ≡ 0
-    → HoldsSeen table [] → pixel_of_lanes last ≡ start → Taken [] → DecoderBetween f c [] (length out / c) Taken (filling table last out 0)
+    → HoldsSeen table [] → pixel_of_lanes last ≡ start → Taken [] → DecoderBetween f c [] (length out / c) Taken (filling table (reached last 0) out)
 start_between f c Taken table last out is whole blank opaque none_taken = record {
   cs = [];
   chunks = tt;

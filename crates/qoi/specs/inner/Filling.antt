@@ -1,7 +1,9 @@
 -- A buffer that is filled with pixels, and the state of a decoder between two chunks.
-use Rattle.std.specs.Prelude.{◌≡◌, ℕ, ◌-◌, ◌*◌, ◌/◌, ◌%◌, ◌+◌, ◌<◌, ◌≤◌, List, [], ◌++◌, length, take, reverse, replicate, min, slice_index, ◌⊎◌}
+use Rattle.std.specs.Prelude.{◌≡◌, ℕ, ◌-◌, ◌*◌, ◌/◌, ◌%◌, ◌+◌, ◌<◌, ◌≤◌, List, [], ◌++◌, length, take, reverse, replicate, min, slice_index, ◌⊎◌, Bool, IsTrue}
 use Rattle.qoi.specs.declared.chunk.Chunk.{Chunk}
 use Rattle.qoi.specs.declared.decode.fast.Progress.{Progress}
+use Rattle.qoi.specs.declared.decode.output.TheConstants.{RUN_ROOM}
+use Rattle.qoi.specs.declared.decode.reached.Reached.{Reached}
 use Rattle.qoi.specs.Qoi.{RgbaPixel, Past, luma_tag, run_tag, rgb_tag, rgba_tag, previous, IsChunk, AreChunks, bytes_of, chunk_bytes, times, then_chunk, then_chunks, StayBelow}
 use Rattle.qoi.specs.inner.Hashed.{pixel_of_lanes, HoldsSeen}
 use Rattle.qoi.specs.Raw.{IsChannels, output}
@@ -37,6 +39,24 @@ pub record IsFillable (channels : ℕ) (b : Buffer) : Type 0 where
   pub within : b.at ≤ length b.out
   pub whole : IsWholePixels channels (length b.out) b.at
 
+-- it isn't full and, if `runs_fit`, has room for the vectors of any run
+pub record HasRoom (channels : ℕ) (runs_fit : Bool) (b : Buffer) : Type 0 where
+  pub fillable : IsFillable channels b
+  pub inside : b.at < length b.out
+  pub vectors : IsTrue runs_fit → b.at + RUN_ROOM ≤ length b.out
+
+-- it can be filled further and, if it wasn't full, still isn't
+pub record StaysFillable (channels : ℕ) (old new : Buffer) : Type 0 where
+  pub fillable : IsFillable channels new
+  pub on : old.at ≤ new.at
+  pub below : old.at < length old.out → new.at < length new.out
+
+-- a chunk's pixels were written, and don't fill the buffer if it had room for the vectors of any run
+pub record FillsMore (channels : ℕ) (old new : Buffer) : Type 0 where
+  pub fillable : IsFillable channels new
+  pub on : old.at < new.at
+  pub below : old.at + RUN_ROOM ≤ length old.out → new.at < length new.out
+
 -- what a decoder has between two chunks: the numbers in the table, that of the last pixel, and the
 -- output
 pub record Filling : Type 0 where
@@ -44,9 +64,13 @@ pub record Filling : Type 0 where
   pub last : ℕ
   pub buffer : Buffer
 
--- the table, the last pixel, the output, and how many bytes of it are written
-abbrev pub filling : List ℕ → ℕ → List ℕ → ℕ → Filling
-filling table last out at = record { table = table; last = last; buffer = upto out at }
+-- the last pixel, and how many bytes of the output are written
+abbrev pub reached : ℕ → ℕ → Reached
+reached last at = record { last = last; at = at }
+
+-- the table, what was reached, and the output
+abbrev pub filling : List ℕ → Reached → List ℕ → Filling
+filling table now out = record { table = table; last = now.last; buffer = upto out now.at }
 
 -- the table of all of these pixels, and the last of them
 pub record HasSeen (s : Filling) (past : Past) : Type 0 where
@@ -99,7 +123,7 @@ taken_further count p = record { last = p.last; taken = p.taken + count; at = p.
 
 -- `DecoderBetween` for the fast loop over these bytes, which also has the byte that comes next
 pub record FastBetween (file_channels channels : ℕ) (gone : Past) (n : ℕ) (before bytes : List ℕ) (now : Progress) (table out : List ℕ) : Type 0 where
-  pub between : DecoderBetween file_channels channels gone n (IsFrontAfter before bytes now.taken) (filling table now.last out now.at)
+  pub between : DecoderBetween file_channels channels gone n (IsFrontAfter before bytes now.taken) (filling table (reached now.last now.at) out)
   pub next_is : now.next ≡ slice_index bytes now.taken
 
 -- the fast loop may read so many bytes ahead, and write so many
@@ -124,15 +148,9 @@ fast now table out = record { now = now; table = table; out = out }
 abbrev pub IsFullTag : ℕ → Type 0
 IsFullTag b = (b ≡ rgb_tag) ⊎ (b ≡ rgba_tag)
 
--- how many bytes the chunk with the first byte b has: 0 stands for a luma, and for a run that a vector
--- of sixteen bytes doesn't hold
-pub record IsPlainSize (channels b size : ℕ) : Type 0 where
-  pub one : b < luma_tag → size ≡ 1
-  pub luma : luma_tag ≤ b → b < run_tag → size ≡ 0
-  pub run : run_tag ≤ b → b ≤ run_tag - 1 + 16 / channels → size ≡ 1
-  pub long : run_tag - 1 + 16 / channels < b → b < rgb_tag → size ≡ 0
-  pub rgb : b ≡ rgb_tag → size ≡ 4
-  pub rgba : b ≡ rgba_tag → size ≡ 5
+-- the first byte of a chunk that is no luma, and no run that a vector of sixteen bytes doesn't hold
+abbrev pub IsPlainTag : ℕ → ℕ → Type 0
+IsPlainTag channels b = (b < luma_tag) ⊎ ((run_tag ≤ b) × (b ≤ run_tag - 1 + 16 / channels)) ⊎ (rgb_tag ≤ b)
 
 -- in a row of RGB chunks the pixel has the alpha of the one before the row
 abbrev pub KeepsAlpha : ℕ → ℕ → ℕ → Type 0

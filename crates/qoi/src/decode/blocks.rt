@@ -5,8 +5,7 @@ ghost use Rattle.std.specs.Prelude.{◌+◌, ◌*◌, ◌<◌, ◌≤◌, length
 ghost use Rattle.qoi.specs.declared.decode.fast.TheConstants.{INPUT_ROOM, OUTPUT_ROOM};
 
 use crate::decode::fast::{INPUT_ROOM, OUTPUT_ROOM, Progress};
-use crate::decode::hashed::Hashed;
-use crate::decode::one_chunk::Decoded;
+use crate::decode::reached::{Decoded, Reached};
 use crate::decode::table::TermTable;
 
 // How many bytes of input the first block has, and a later one.
@@ -24,7 +23,7 @@ const LONG_PLAIN_ROW: usize = 144;
 const SHORT_BLOCK: usize = 8;
 
 impl Progress {
-    ghost use Rattle.qoi.specs.inner.Filling.{IsFillable, upto, filling, TakesOn, TakesFront, IsRow, HasAhead, fast, FastChunks};
+    ghost use Rattle.qoi.specs.inner.Filling.{upto, IsFillable, StaysFillable, filling, TakesOn, TakesFront, IsRow, HasAhead, fast, FastChunks};
 
     // Decodes blocks of chunks and rows of full or of plain ones while there is room ahead.
     #[inline(always)]
@@ -44,7 +43,7 @@ impl Progress {
         let far = bytes.len() - INPUT_ROOM;
         let mut near = far.min(now.taken + FIRST_BLOCK);
         while now.taken <= far {
-            let block = now.chunks_until::<N, F, 8>(table, bytes, out, near);
+            let block = now.chunks_until::<N, F, 8>(table, &bytes[..near + INPUT_ROOM], out);
             now = block;
             if block.taken <= near || far < block.taken {
                 break;
@@ -80,8 +79,7 @@ impl Progress {
         if ROW == 8 {
             return self.blocks_of_chunks::<N, F>(table, bytes, out);
         }
-        let far = bytes.len() - INPUT_ROOM;
-        self.chunks_until::<N, F, ROW>(table, bytes, out, far)
+        self.chunks_until::<N, F, ROW>(table, bytes, out)
     }
 
     /// Decodes chunks while input and output have room ahead for `ROW` short ones and a full one,
@@ -97,49 +95,47 @@ impl Progress {
         requires input { INPUT_ROOM ≤ length bytes.now }
         requires room { 16 * ROW + 16 ≤ length out.old }
         requires within { from.taken < length bytes.now }
-        requires fillable { IsFillable N (upto out.old from.at) }
+        requires fillable { IsFillable N (upto out.old from.reached.at) }
         ensures between { TakesOn F N bytes.now from.taken result.taken
-            (filling table.old from.last out.old from.at)
-            (filling table.new result.last out.new result.at) }
+            (filling table.old from.reached out.old) (filling table.new result.reached out.new) }
         ensures within { result.taken < length bytes.now }
-        ensures written { from.at ≤ result.at }
-        ensures below { from.at < length out.old → result.at < length out.new }
-        ensures fillable { IsFillable N (upto out.new result.at) }
+        ensures on { StaysFillable N
+            (upto out.old from.reached.at) (upto out.new result.reached.at) }
     {
+        let old = from.reached;
         let now = Progress {
-            last: from.last,
+            last: old.last,
             taken: from.taken,
-            at: from.at,
+            at: old.at,
             next: bytes[from.taken],
         };
         let now = now.chunks_in_room::<N, F, ROW>(table, bytes, out);
+        let (last, at) = (now.last, now.at);
         Decoded {
             taken: now.taken,
-            last: now.last,
-            at: now.at,
+            reached: Reached { last, at },
         }
     }
 
-    /// Decodes chunks from the front of the bytes, after the pixel `last` and the first `at` bytes
-    /// of `out`, while there is room ahead, and returns where it stopped. The caller goes on
-    /// chunk by chunk.
+    /// Decodes chunks from the front of the bytes, after what others reached, while there is room
+    /// ahead, and returns where it stopped. The caller goes on chunk by chunk.
     #[inline(always)]
     pub(super) fn fast_chunks<const N: usize, const F: usize>(
         table: &mut TermTable,
-        last: Hashed,
+        from: Reached,
         bytes: &[u8],
         out: &mut [u8],
-        at: usize,
     ) -> Decoded
-        requires { IsFillable N (upto out.old at) }
+        requires { IsFillable N (upto out.old from.at) }
         ensures between { TakesFront F N bytes.now result.taken
-            (filling table.old last out.old at) (filling table.new result.last out.new result.at) }
+            (filling table.old from out.old) (filling table.new result.reached out.new) }
         ensures within { result.taken ≤ length bytes.now }
-        ensures written { at ≤ result.at }
-        ensures below { at < length out.old → result.at < length out.new }
-        ensures fillable { IsFillable N (upto out.new result.at) }
+        ensures on { StaysFillable N (upto out.old from.at) (upto out.new result.reached.at) }
     {
-        let none = Decoded { taken: 0, last, at };
+        let none = Decoded {
+            taken: 0,
+            reached: from,
+        };
         if bytes.len() < INPUT_ROOM || out.len() < OUTPUT_ROOM {
             return none;
         }

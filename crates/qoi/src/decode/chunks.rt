@@ -1,32 +1,25 @@
 //! What each kind of reader does with chunks (`Chunks`, of `slice`, `stream` and `buffered`), and the
 //! loops over it: into a buffer, and into a vector that grows.
-ghost use Rattle.std.specs.Prelude.{◌≡◌, ℕ, ◌+◌, ◌-◌, ◌*◌, ◌/◌, ◌%◌, ◌<◌, ◌≤◌, List, ◌++◌, length, replicate, Option, Bool, true, IfSome, IfOk, IfErr, OnOk};
+ghost use Rattle.std.specs.Prelude.{◌≡◌, ℕ, ◌+◌, ◌-◌, ◌*◌, ◌/◌, ◌%◌, ◌≤◌, List, ◌++◌, length, replicate, Option, Bool, true, false, IfSome, IfOk, IfErr, OnOk};
 ghost use Rattle.std.specs.Vec.{vec_len, vec_capacity};
 ghost use Rattle.std.specs.Io.KnownBytes.{Consumes};
 ghost use Rattle.qoi.specs.Qoi.{end_marker, run_max};
 ghost use Rattle.qoi.specs.Raw.{IsChannels};
 ghost use Rattle.qoi.specs.Decoding.{TakesImagePixels, ReadsImage};
 ghost use Rattle.qoi.specs.inner.Chunks.{RefusesChunks, RefusesAfter, TakesChunks, FillsOutput, RefusesFilling};
-ghost use Rattle.qoi.specs.inner.Filling.{IsFillable, upto, filling};
+ghost use Rattle.qoi.specs.inner.Filling.{upto, IsFillable, HasRoom, filling};
 ghost use Rattle.qoi.specs.pieces.InPlace.{TakesInPlace, IsInPlace};
 ghost use Rattle.qoi.specs.declared.decode.chunks.TheConstants.{GROWTH};
 ghost use Rattle.qoi.specs.declared.decode.output.TheConstants.{RUN_ROOM};
 
 use crate::decode::hashed::Hashed;
 use crate::decode::in_place::InPlace;
-use crate::decode::one_chunk::Decoded;
+use crate::decode::reached::{Decoded, Reached};
 use crate::decode::table::TermTable;
 use crate::error::Result;
 
 /// By how many pixels a vector grows, before they are decoded: few enough to stay in the cache.
 const GROWTH: usize = 16384;
-
-/// What a loop over chunks reached: the last pixel, and where the output stopped.
-#[derive(Clone, Copy)]
-pub(super) struct Reached {
-    pub(super) last: Hashed,
-    pub(super) at: usize,
-}
 
 /// What takes chunks, in `N` channels of output, from a file of `F` channels.
 pub(super) trait Chunks<const N: usize, const F: usize>: Sized {
@@ -36,56 +29,50 @@ pub(super) trait Chunks<const N: usize, const F: usize>: Sized {
     /// Whether they stand in memory.
     ghost in_memory: { Bool };
 
-    /// Decodes chunks, after the pixel `last` and the first `at` bytes of `out`, as long as `out`
-    /// has room for the vectors of any run. Returns what it reached.
+    /// Decodes chunks, after what others reached, as long as `out` has room for the vectors of any
+    /// run. Returns what it reached.
     ///
     /// Chunks that are refused are refused for any image of more pixels than fit, too.
     fn some_chunks(
         &mut self,
         table: &mut TermTable,
-        last: Hashed,
+        from: Reached,
         out: &mut [u8],
-        at: usize,
     ) -> Result<Reached>
-        requires { IsFillable N (upto out.old at) }
+        requires { IsFillable N (upto out.old from.at) }
         ensures read { IfOk result (λ now. TakesChunks F N true (ahead self.old) (ahead self.new)
-            (filling table.old last out.old at) (filling table.new now.last out.new now.at)) }
+            (filling table.old from out.old) (filling table.new now out.new)) }
         ensures refused { IfErr result (RefusesFilling F N in_memory
-            (ahead self.old) (ahead self.new) (filling table.old last out.old at)) };
+            (ahead self.old) (ahead self.new) (filling table.old from out.old)) };
 
     /// `some_chunks`, but until `out` is full; takes no byte past the last chunk.
-    fn all_chunks(
-        &mut self,
-        table: &mut TermTable,
-        last: Hashed,
-        out: &mut [u8],
-        at: usize,
-    ) -> Result<()>
-        requires { IsFillable N (upto out.old at) }
+    fn all_chunks(&mut self, table: &mut TermTable, from: Reached, out: &mut [u8]) -> Result<()>
+        requires { IsFillable N (upto out.old from.at) }
         ensures read { OnOk result (FillsOutput F N (ahead self.old) (ahead self.new)
-            (filling table.old last out.old at) out.new) }
+            (filling table.old from out.old) out.new) }
         ensures refused { IfErr result (RefusesFilling F N in_memory
-            (ahead self.old) (ahead self.new) (filling table.old last out.old at)) };
+            (ahead self.old) (ahead self.new) (filling table.old from out.old)) };
 
-    /// Decodes chunks that stand in memory into a piece of an image, after the pixel `last` and the
-    /// first `at` bytes of `out`, and goes on near its end: a run that goes on past it is taken.
-    /// By default, and so from a stream, none are decoded.
+    /// Decodes chunks that stand in memory into a piece of an image, after what others reached, and
+    /// goes on near its end: a run that goes on past it is taken. By default, and so from a stream,
+    /// none are decoded.
     fn chunks_in_place(
         &mut self,
         table: &mut TermTable,
-        last: Hashed,
+        from: Reached,
         out: &mut [u8],
-        at: usize,
     ) -> Result<InPlace>
-        requires fillable { IsFillable N (upto out.old at) }
-        requires below { at < length out.old }
+        requires { HasRoom N false (upto out.old from.at) }
         ensures takes { IfOk result (λ now. TakesInPlace F N (ahead self.old) (ahead self.new)
-            (filling table.old last out.old at) table.new out.new now) }
+            (filling table.old from out.old) table.new out.new now) }
         ensures sizes { IfOk result (IsInPlace N (length out.new)) }
         ensures refused { IfErr result (RefusesFilling F N in_memory
-            (ahead self.old) (ahead self.new) (filling table.old last out.old at)) }
+            (ahead self.old) (ahead self.new) (filling table.old from out.old)) }
     {
-        Ok(InPlace::after(Decoded { taken: 0, last, at }))
+        Ok(InPlace::after(Decoded {
+            taken: 0,
+            reached: from,
+        }))
     }
 
     /// Takes the end marker, or refuses the bytes ahead.
@@ -122,7 +109,8 @@ fn chunks_to_buf<R: Chunks<N, F>, const N: usize, const F: usize>(
         (R.ahead reader.old) (R.ahead reader.new)) }
 {
     let mut table = TermTable::new();
-    reader.all_chunks(&mut table, Hashed::start(), out, 0)
+    let last = Hashed::start();
+    reader.all_chunks(&mut table, Reached { last, at: 0 }, out)
 }
 
 // Decodes chunks into an empty vector until it has `size` bytes, and takes no byte past the last of
@@ -147,17 +135,15 @@ fn chunks_to_vec<R: Chunks<N, F>, const N: usize, const F: usize>(
         vec_len out.new ≤ 4 * run_max * length bytes + (GROWTH * N + RUN_ROOM)) }
 {
     let mut table = TermTable::new();
-    let mut last = Hashed::start();
-    let mut at = 0;
+    let last = Hashed::start();
+    let mut now = Reached { last, at: 0 };
     while GROWTH * N < size - out.len() {
         let more = out.len() + GROWTH * N;
         grow::<N>(out, more);
-        let now = reader.some_chunks(&mut table, last, out, at)?;
-        last = now.last;
-        at = now.at;
+        now = reader.some_chunks(&mut table, now, out)?;
     }
     grow::<N>(out, size);
-    reader.all_chunks(&mut table, last, out, at)
+    reader.all_chunks(&mut table, now, out)
 }
 
 /// Decodes chunks and the end marker into a buffer, and takes no byte past them.

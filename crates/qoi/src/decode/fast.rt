@@ -5,7 +5,6 @@ ghost use Rattle.std.specs.Prelude.{◌≡◌, ◌↔◌, IsTrue, ◌+◌, ◌-�
 ghost use Rattle.qoi.specs.Qoi.{run_tag, rgb_tag};
 ghost use Rattle.qoi.specs.Raw.{IsChannels};
 ghost use Rattle.qoi.specs.declared.decode.fast.TheConstants.{INPUT_ROOM};
-ghost use Rattle.qoi.specs.declared.decode.output.TheConstants.{RUN_ROOM};
 ghost use Rattle.qoi.specs.inner.Hashed.{pixel_of_lanes};
 
 use crate::consts::{QOI_OP_RGB, QOI_OP_RGBA, QOI_OP_RUN};
@@ -266,24 +265,23 @@ impl Progress {
         }
     }
 
-    /// Decodes chunks up to the byte `near`, while input and output have room ahead for `ROW` short
-    /// ones and a full one.
+    /// Decodes chunks while input and output have room ahead for `ROW` short ones and a full one.
     #[inline(always)]
     pub(super) fn chunks_until<const N: usize, const F: usize, const ROW: usize>(
         self,
         table: &mut TermTable,
         bytes: &[u8],
         out: &mut [u8],
-        near: usize,
     ) -> Progress
         requires row { IsRow ROW }
-        requires input { near + INPUT_ROOM ≤ length bytes.now }
+        requires input { INPUT_ROOM ≤ length bytes.now }
         requires room { 16 * ROW + 16 ≤ length out.old }
         requires ahead { HasAhead N 1 0 bytes.now out.old self }
         ensures { FastChunks F N bytes.now
             (fast self table.old out.old) (fast result table.new out.new) }
     {
         let mut now = self.by_fields();
+        let near = bytes.len() - INPUT_ROOM;
         let top = out.len() - (VECTOR * ROW + VECTOR);
         while now.taken <= near && now.at <= top {
             now = now.short_row::<N, F, ROW>(table, bytes, out);

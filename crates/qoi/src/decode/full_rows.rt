@@ -1,5 +1,5 @@
 //! Rows of RGB or of RGBA chunks, as noise has them, by a loop of their own.
-ghost use Rattle.std.specs.Prelude.{◌≡◌, ◌+◌, ◌<◌, ◌≤◌, length};
+ghost use Rattle.std.specs.Prelude.{◌≡◌, ◌<◌, ◌≤◌, length};
 ghost use Rattle.qoi.specs.declared.decode.fast.TheConstants.{INPUT_ROOM, OUTPUT_ROOM};
 
 use crate::consts::{QOI_OP_RGB, QOI_OP_RGBA};
@@ -8,37 +8,45 @@ use crate::decode::hashed::Hashed;
 use crate::decode::output::store_vector;
 use crate::decode::table::TermTable;
 
-impl Progress {
-    ghost use Rattle.qoi.specs.inner.Filling.{HasAhead, fast, FastStep, FastChunks, IsFullTag, KeepsAlpha};
+// A row of chunks with one first byte: how far it came, and the pixel before it, whose alpha RGB chunks
+// keep. So no chunk waits for another.
+#[derive(Clone, Copy)]
+struct Row {
+    to: Progress,
+    before: Hashed,
+}
 
-    // Decodes the chunk that comes next, whose first byte is `TAG`. The alpha that an RGB chunk
-    // keeps is that of `before`, the same pixel for a whole row: so no chunk waits for another.
+impl Row {
+    ghost use Rattle.qoi.specs.inner.Filling.{HasAhead, fast, FastStep, IsFullTag, KeepsAlpha};
+
+    // Decodes the chunk that comes next, whose first byte is `TAG`.
     #[inline(always)]
     fn chunk_of<const N: usize, const F: usize, const TAG: u8>(
         self,
         table: &mut TermTable,
         bytes: &[u8],
         out: &mut [u8],
-        before: Hashed,
-    ) -> Progress
-        requires ahead { HasAhead N 6 16 bytes.now out.old self }
-        requires tag { IsFullTag TAG × (self.next ≡ TAG) }
-        requires alpha { KeepsAlpha TAG before self.last }
+    ) -> Row
+        requires ahead { HasAhead N 6 16 bytes.now out.old self.to }
+        requires tag { IsFullTag TAG × (self.to.next ≡ TAG) }
+        requires alpha { KeepsAlpha TAG self.before self.to.last }
         ensures step { FastStep F N 5 4 bytes.now
-            (fast self table.old out.old) (fast result table.new out.new) }
-        ensures on { self.taken < result.taken }
-        ensures alpha { KeepsAlpha TAG before result.last }
+            (fast self.to table.old out.old) (fast result.to table.new out.new) }
+        ensures on { self.to.taken < result.to.taken }
+        ensures alpha { KeepsAlpha TAG result.before result.to.last }
     {
-        let last = before.after_full(TAG as usize, &bytes[self.taken..]);
+        let Row { to, before } = self;
+        let last = before.after_full(TAG as usize, &bytes[to.taken..]);
         table.put(last);
-        store_vector::<N, F>(out, self.at, last);
-        let taken = self.taken + (TAG - (QOI_OP_RGB - 4)) as usize;
-        Progress {
+        store_vector::<N, F>(out, to.at, last);
+        let taken = to.taken + (TAG - (QOI_OP_RGB - 4)) as usize;
+        let to = Progress {
             last,
             taken,
-            at: self.at + N,
+            at: to.at + N,
             next: bytes[taken],
-        }
+        };
+        Row { to, before }
     }
 
     // Decodes such chunks, as many as come one after the other, but four at most.
@@ -48,32 +56,36 @@ impl Progress {
         table: &mut TermTable,
         bytes: &[u8],
         out: &mut [u8],
-        before: Hashed,
-    ) -> Progress
-        requires ahead { HasAhead N 21 28 bytes.now out.old self }
-        requires tag { IsFullTag TAG × (self.next ≡ TAG) }
-        requires alpha { KeepsAlpha TAG before self.last }
+    ) -> Row
+        requires ahead { HasAhead N 21 28 bytes.now out.old self.to }
+        requires tag { IsFullTag TAG × (self.to.next ≡ TAG) }
+        requires alpha { KeepsAlpha TAG self.before self.to.last }
         ensures step { FastStep F N 20 16 bytes.now
-            (fast self table.old out.old) (fast result table.new out.new) }
-        ensures on { self.taken < result.taken }
-        ensures alpha { KeepsAlpha TAG before result.last }
+            (fast self.to table.old out.old) (fast result.to table.new out.new) }
+        ensures on { self.to.taken < result.to.taken }
+        ensures alpha { KeepsAlpha TAG result.before result.to.last }
     {
-        let one = self.chunk_of::<N, F, TAG>(table, bytes, out, before);
-        if one.next != TAG {
+        let one = self.chunk_of::<N, F, TAG>(table, bytes, out);
+        if one.to.next != TAG {
             return one;
         }
-        let two = one.chunk_of::<N, F, TAG>(table, bytes, out, before);
-        if two.next != TAG {
+        let two = one.chunk_of::<N, F, TAG>(table, bytes, out);
+        if two.to.next != TAG {
             return two;
         }
-        let three = two.chunk_of::<N, F, TAG>(table, bytes, out, before);
-        if three.next != TAG {
+        let three = two.chunk_of::<N, F, TAG>(table, bytes, out);
+        if three.to.next != TAG {
             return three;
         }
-        three.chunk_of::<N, F, TAG>(table, bytes, out, before)
+        three.chunk_of::<N, F, TAG>(table, bytes, out)
     }
+}
 
-    // Decodes such chunks, as many as come one after the other, while there is room ahead.
+impl Progress {
+    ghost use Rattle.qoi.specs.inner.Filling.{HasAhead, fast, FastChunks, IsFullTag};
+
+    // Decodes chunks with the first byte `TAG`, as many as come one after the other, while there is
+    // room ahead.
     #[inline(never)]
     fn row_of<const N: usize, const F: usize, const TAG: u8>(
         self,
@@ -89,13 +101,15 @@ impl Progress {
             (fast self table.old out.old) (fast result table.new out.new) }
     {
         let before = self.last;
-        let mut now = self.by_fields();
+        let to = self.by_fields();
+        let mut row = Row { to, before };
         let far = bytes.len() - INPUT_ROOM;
         let top = out.len() - OUTPUT_ROOM;
-        while now.next == TAG && now.taken <= far && now.at <= top {
-            now = now.chunks_of::<N, F, TAG>(table, bytes, out, before);
+        while row.to.next == TAG && row.to.taken <= far && row.to.at <= top {
+            row = row.chunks_of::<N, F, TAG>(table, bytes, out);
         }
-        now.by_fields()
+        let Row { to, .. } = row;
+        to.by_fields()
     }
 
     /// Decodes a row of RGB or of RGBA chunks, if one comes next.

@@ -1,26 +1,24 @@
 //! A piece of an image that is decoded in place: by the fast loop, and near its end chunk by chunk, up
 //! to a run that goes on past it.
-ghost use Rattle.std.specs.Prelude.{◌≡◌, ◌↔◌, IsTrue, ◌-◌, ◌*◌, ◌<◌, ◌≤◌, ℕ, List, length};
+ghost use Rattle.std.specs.Prelude.{◌≡◌, ◌↔◌, IsTrue, false, ◌-◌, ◌*◌, ◌<◌, ◌≤◌, ℕ, List, length};
 ghost use Rattle.qoi.specs.Qoi.{Past, run_tag, rgb_tag};
 ghost use Rattle.qoi.specs.Raw.{IsChannels};
-ghost use Rattle.qoi.specs.inner.Filling.{IsFillable, upto, filling, DecoderBetween, IsFrontAfter};
+ghost use Rattle.qoi.specs.inner.Filling.{upto, HasRoom, filling, DecoderBetween, IsFrontAfter};
 ghost use Rattle.qoi.specs.pieces.InPlace.{in_place_at, TakesPiece, IsInPlace};
 
 use crate::consts::{QOI_OP_RGB, QOI_OP_RUN};
 use crate::decode::deltas::advance;
 use crate::decode::fast::{INPUT_ROOM, OUTPUT_ROOM, Progress};
-use crate::decode::hashed::Hashed;
-use crate::decode::one_chunk::Decoded;
 use crate::decode::output::store_exactly;
+use crate::decode::reached::{Decoded, Reached};
 use crate::decode::table::TermTable;
 
-/// What a piece leaves that was decoded in place: the last pixel, how many bytes were taken, where
-/// the output stopped, and how many bytes of a run that goes on past its end are still to be given.
+/// What a piece leaves that was decoded in place: how many bytes were taken, what was reached, and
+/// how many bytes of a run that goes on past its end are still to be given.
 #[derive(Clone, Copy)]
 pub(super) struct InPlace {
-    pub(super) last: Hashed,
     pub(super) taken: usize,
-    pub(super) at: usize,
+    pub(super) reached: Reached,
     pub(super) run: usize,
 }
 
@@ -31,9 +29,8 @@ impl InPlace {
         ensures { result ≡ in_place_at now }
     {
         InPlace {
-            last: now.last,
             taken: now.taken,
-            at: now.at,
+            reached: now.reached,
             run: 0,
         }
     }
@@ -59,57 +56,58 @@ fn last_run<const N: usize, const F: usize>(
     out: &mut [u8],
 ) -> InPlace
     requires ahead { from.taken < length bytes.now }
-    requires fillable { IsFillable N (upto out.old from.at) }
-    requires below { from.at < length out.old }
+    requires room { HasRoom N false (upto out.old from.reached.at) }
     ensures takes { (gone : Past) (n : ℕ) (before : List ℕ)
         → DecoderBetween F N gone n (IsFrontAfter before bytes.now from.taken)
-        (filling table.old from.last out.old from.at)
+        (filling table.old from.reached out.old)
         → TakesPiece F N gone (IsFrontAfter before bytes.now result.taken)
         table.new out.new result }
     ensures sizes { IsInPlace N (length out.new) result }
     ensures within { result.taken ≤ length bytes.now }
 {
     let b1 = bytes[from.taken];
-    let rest = out.len() - from.at;
+    let now = from.reached;
+    let rest = out.len() - now.at;
     if !is_run_to_end::<N>(b1, rest) {
         return InPlace::after(from);
     }
-    table.put(from.last);
-    store_exactly::<N, F>(out, from.at, from.last, rest / N);
+    table.put(now.last);
+    store_exactly::<N, F>(out, now.at, now.last, rest / N);
+    let (last, at) = (now.last, out.len());
     InPlace {
-        last: from.last,
         taken: from.taken + 1,
-        at: out.len(),
+        reached: Reached { last, at },
         run: advance::<N>(b1 as usize) - rest,
     }
 }
 
-/// Decodes chunks from the front of the bytes into a piece of an image, after the pixel `last`
-/// and the first `at` bytes, and goes on near its end: a run that goes on past it is taken.
+/// Decodes chunks from the front of the bytes into a piece of an image, after what others reached,
+/// and goes on near its end: a run that goes on past it is taken.
 #[inline(always)]
 pub(super) fn chunks_in_place<const N: usize, const F: usize>(
     table: &mut TermTable,
-    last: Hashed,
+    from: Reached,
     bytes: &[u8],
     out: &mut [u8],
-    at: usize,
 ) -> InPlace
-    requires fillable { IsFillable N (upto out.old at) }
-    requires below { at < length out.old }
+    requires { HasRoom N false (upto out.old from.at) }
     ensures takes { (gone : Past) (n : ℕ) (before : List ℕ)
         → DecoderBetween F N gone n (IsFrontAfter before bytes.now 0)
-        (filling table.old last out.old at)
+        (filling table.old from out.old)
         → TakesPiece F N gone (IsFrontAfter before bytes.now result.taken)
         table.new out.new result }
     ensures sizes { IsInPlace N (length out.new) result }
     ensures within { result.taken ≤ length bytes.now }
 {
-    let none = Decoded { taken: 0, last, at };
+    let none = Decoded {
+        taken: 0,
+        reached: from,
+    };
     if bytes.len() < INPUT_ROOM || out.len() < OUTPUT_ROOM {
         return InPlace::after(none);
     }
     let front = Progress::chunks_ahead::<N, F, 8>(table, none, bytes, out);
-    if is_run_to_end::<N>(bytes[front.taken], out.len() - front.at) {
+    if is_run_to_end::<N>(bytes[front.taken], out.len() - front.reached.at) {
         // Not joined with the other way: what the loops return would be copied, and the copy
         // waits for the stores before it.
         return last_run::<N, F>(table, front, bytes, out);

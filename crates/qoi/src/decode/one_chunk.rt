@@ -1,14 +1,12 @@
 //! How one chunk is decoded. What its bytes do to the last pixel stands in `hashed` and `deltas`.
-ghost use Rattle.std.specs.Prelude.{◌≡◌, IsTrue, ◌+◌, ◌%◌, ◌-◌, ◌<◌, ◌≤◌, length, take};
+ghost use Rattle.std.specs.Prelude.{◌≡◌, ◌+◌, ◌-◌, ◌<◌, ◌≤◌, length, take};
 ghost use Rattle.qoi.specs.Qoi.{run_tag, rgb_tag};
-ghost use Rattle.qoi.specs.declared.decode.output.TheConstants.{RUN_ROOM};
-ghost use Rattle.qoi.specs.Raw.{IsChannels};
-ghost use Rattle.qoi.specs.inner.Filling.{IsWholePixels, DecodesChunk, filling};
+ghost use Rattle.qoi.specs.inner.Filling.{upto, HasRoom, FillsMore, DecodesChunk, filling};
 
 use crate::consts::{QOI_OP_RGB, QOI_OP_RGBA, QOI_OP_RUN};
 use crate::decode::deltas::{advance, is_luma};
-use crate::decode::hashed::Hashed;
 use crate::decode::output::fill;
+use crate::decode::reached::{Decoded, Reached};
 use crate::decode::table::SizedTerms;
 
 // How many pixels a chunk has, by its first byte.
@@ -24,38 +22,23 @@ fn times(b1: u8) -> usize
     }
 }
 
-/// What chunks leave: how many bytes they have, the pixel that is the last one then, and where the
-/// output stopped.
-#[derive(Clone, Copy)]
-pub(super) struct Decoded {
-    pub(super) taken: usize,
-    pub(super) last: Hashed,
-    pub(super) at: usize,
-}
-
 /// Decodes the first chunk of the bytes. If `RUN_FITS`, the output has room for the vectors of any
 /// run; else how much it has is tested. The second byte is read even if the chunk has only one.
 #[inline(always)]
 pub(super) fn decode_chunk<const N: usize, const F: usize, const RUN_FITS: bool, const SIZE: usize>(
     table: &mut SizedTerms<SIZE>,
-    last: Hashed,
+    from: Reached,
     bytes: &[u8],
     out: &mut [u8],
-    at: usize,
 ) -> Decoded
-    requires channels { IsChannels N }
+    requires room { HasRoom N RUN_FITS (upto out.old from.at) }
     requires long { 8 ≤ length bytes.now }
-    requires whole { IsWholePixels N (length out.old) at }
-    requires inside { at < length out.old }
-    requires room { IsTrue RUN_FITS → at + RUN_ROOM ≤ length out.old }
     ensures taken { result.taken ≤ length bytes.now }
     ensures decodes { DecodesChunk F N (take result.taken bytes.now)
-        (filling table.old last out.old at)
-        (filling table.new result.last out.new result.at) }
-    ensures whole { result.at % N ≡ 0 }
-    ensures within { (at < result.at) × (result.at ≤ length out.new) }
-    ensures below { at + RUN_ROOM ≤ length out.old → result.at < length out.new }
+        (filling table.old from out.old) (filling table.new result.reached out.new) }
+    ensures more { FillsMore N (upto out.old from.at) (upto out.new result.reached.at) }
 {
+    let Reached { last, at } = from;
     let b1 = bytes[0];
     let (last, taken) = if b1 < QOI_OP_RGB {
         let size = 1 + usize::from(is_luma(b1));
@@ -68,9 +51,9 @@ pub(super) fn decode_chunk<const N: usize, const F: usize, const RUN_FITS: bool,
     };
     table.put(last);
     let size = advance::<N>(b1 as usize);
+    let at = fill::<N, F, RUN_FITS>(out, Reached { last, at }, times(b1), size);
     Decoded {
         taken,
-        last,
-        at: fill::<N, F, RUN_FITS>(out, at, last, times(b1), size),
+        reached: Reached { last, at },
     }
 }

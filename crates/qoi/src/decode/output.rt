@@ -3,10 +3,11 @@ ghost use Rattle.std.specs.Prelude.{◌≡◌, IsTrue, ◌+◌, ◌*◌, ◌/◌
 ghost use Rattle.qoi.specs.Qoi.{Past, run_max};
 ghost use Rattle.qoi.specs.declared.decode.output.TheConstants.{VECTOR, RUN_ROOM};
 ghost use Rattle.qoi.specs.Raw.{IsChannels};
-ghost use Rattle.qoi.specs.inner.Filling.{upto, HasWritten, HasFilled, IsWholePixels};
+ghost use Rattle.qoi.specs.inner.Filling.{upto, HasWritten, HasFilled, HasRoom};
 ghost use Rattle.qoi.specs.inner.Hashed.{pixel_of_lanes};
 
 use crate::decode::hashed::Hashed;
+use crate::decode::reached::Reached;
 
 /// How many bytes a vector has: those of a register.
 pub(super) const VECTOR: usize = 16;
@@ -210,41 +211,39 @@ fn known_room<const RUN_FITS: bool>(size: usize, at: usize) -> usize
     if RUN_FITS { RUN_ROOM } else { size - at }
 }
 
-/// Stores a pixel `count` times from `at` on, or as often as there is room, and returns where it
-/// stopped. Together, the `count` pixels have `size` bytes. If `RUN_FITS`, there is room for the
-/// vectors of any run, and how much there is isn't tested.
+/// Stores the last pixel `count` times, or as often as there is room, and returns where it stopped.
+/// Together, the `count` pixels have `size` bytes. If `RUN_FITS`, there is room for the vectors of
+/// any run, and how much there is isn't tested.
 #[inline(always)]
 pub(super) fn fill<const N: usize, const F: usize, const RUN_FITS: bool>(
     out: &mut [u8],
-    at: usize,
-    px: Hashed,
+    from: Reached,
     count: usize,
     size: usize,
 ) -> usize
-    requires channels { IsChannels N }
+    requires room { HasRoom N RUN_FITS (upto out.old from.at) }
     requires size { size ≡ N * count }
-    requires whole { IsWholePixels N (length out.old) at }
-    requires inside { at < length out.old }
-    requires room { IsTrue RUN_FITS → at + RUN_ROOM ≤ length out.old }
     requires some { (0 < count) × (count ≤ run_max) }
-    ensures filled { (n : ℕ) (past : Past) → HasFilled F N n (upto out.old at) past
-        → HasFilled F N n (upto out.new result) (replicate count (pixel_of_lanes px) ++ past) }
+    ensures filled { (n : ℕ) (past : Past) → HasFilled F N n (upto out.old from.at) past
+        → HasFilled F N n (upto out.new result)
+        (replicate count (pixel_of_lanes from.last) ++ past) }
     ensures whole { result % N ≡ 0 }
-    ensures within { (at < result) × (result ≤ length out.new) }
-    ensures below { at + RUN_ROOM ≤ length out.old → result < length out.new }
+    ensures within { (from.at < result) × (result ≤ length out.new) }
+    ensures below { from.at + RUN_ROOM ≤ length out.old → result < length out.new }
 {
+    let Reached { last, at } = from;
     let room = known_room::<RUN_FITS>(out.len(), at);
     // By the size, so that `count` is computed for long runs alone.
     if size <= VECTOR {
         if VECTOR <= room {
-            store_vector::<N, F>(out, at, px);
+            store_vector::<N, F>(out, at, last);
             return at + size;
         }
     } else if RUN_ROOM <= room {
-        store_run::<N, F>(out, at, px, count);
+        store_run::<N, F>(out, at, last, count);
         return at + size;
     }
     let all = (size / N).min(room / N);
-    store_pixels::<N, F>(out, at, px, all);
+    store_pixels::<N, F>(out, at, last, all);
     at + N * all
 }

@@ -1,13 +1,13 @@
 //! Rows of plain chunks, as palettes have them, by a loop of their own: index positions,
 //! differences, short runs, RGB and RGBA chunks in any order, without a jump between them.
-ghost use Rattle.std.specs.Prelude.{◌≡◌, ◌+◌, ◌<◌, ◌≤◌, ◌^◌, length};
+ghost use Rattle.std.specs.Prelude.{◌≡◌, ◌<◌, ◌≤◌, length};
 ghost use Rattle.qoi.specs.Qoi.{rgb_tag, rgba_tag};
 ghost use Rattle.qoi.specs.declared.decode.fast.TheConstants.{OUTPUT_ROOM};
 
 use crate::decode::deltas::advance;
 use crate::decode::fast::{OUTPUT_ROOM, Progress};
 use crate::decode::output::store_vector;
-use crate::decode::plain_tables::plain_size;
+use crate::decode::plain_tables::is_plain;
 use crate::decode::table::TermTable;
 
 // Bytes of eight RGBA chunks and of the byte after them.
@@ -32,20 +32,18 @@ fn byte_count(b1: usize) -> usize
 }
 
 impl Progress {
-    ghost use Rattle.qoi.specs.inner.Filling.{HasAhead, fast, FastStep, FastChunks, IsPlainSize};
+    ghost use Rattle.qoi.specs.inner.Filling.{HasAhead, fast, FastStep, FastChunks, IsPlainTag};
 
-    // Decodes a plain chunk, which has `size` bytes, without a jump. That is what the caller tested;
-    // where the next chunk stands, `byte_count` says sooner.
+    // Decodes a plain chunk without a jump. Where the next one stands, `byte_count` says.
     #[inline(always)]
     fn plain_chunk<const N: usize, const F: usize>(
         self,
         table: &mut TermTable,
         bytes: &[u8],
         out: &mut [u8],
-        size: usize,
     ) -> Progress
         requires ahead { HasAhead N 6 16 bytes.now out.old self }
-        requires size { IsPlainSize N self.next size × (0 < size) }
+        requires plain { IsPlainTag N self.next }
         ensures step { FastStep F N 5 16 bytes.now
             (fast self table.old out.old) (fast result table.new out.new) }
         ensures on { self.taken < result.taken }
@@ -63,39 +61,34 @@ impl Progress {
         }
     }
 
-    // Decodes plain chunks, of which the first has `size` bytes, as many as come one after the
-    // other, but four at most. `COPY` gives each call a function of its own, which the compiler
-    // inlines there.
+    // Decodes plain chunks, as many as come one after the other, but four at most. `COPY` gives each
+    // call a function of its own, which the compiler inlines there.
     #[inline(always)]
     fn plain_chunks<const N: usize, const F: usize, const COPY: u8>(
         self,
         table: &mut TermTable,
         bytes: &[u8],
         out: &mut [u8],
-        size: usize,
     ) -> Progress
         requires ahead { HasAhead N 21 64 bytes.now out.old self }
-        requires size { IsPlainSize N self.next size × (0 < size) }
+        requires plain { IsPlainTag N self.next }
         ensures step { FastStep F N 20 64 bytes.now
             (fast self table.old out.old) (fast result table.new out.new) }
         ensures on { self.taken < result.taken }
     {
-        let one = self.plain_chunk::<N, F>(table, bytes, out, size);
-        let size = plain_size::<N>(one.next as usize);
-        if size == 0 {
+        let one = self.plain_chunk::<N, F>(table, bytes, out);
+        if !is_plain::<N>(one.next) {
             return one;
         }
-        let two = one.plain_chunk::<N, F>(table, bytes, out, size);
-        let size = plain_size::<N>(two.next as usize);
-        if size == 0 {
+        let two = one.plain_chunk::<N, F>(table, bytes, out);
+        if !is_plain::<N>(two.next) {
             return two;
         }
-        let three = two.plain_chunk::<N, F>(table, bytes, out, size);
-        let size = plain_size::<N>(three.next as usize);
-        if size == 0 {
+        let three = two.plain_chunk::<N, F>(table, bytes, out);
+        if !is_plain::<N>(three.next) {
             return three;
         }
-        three.plain_chunk::<N, F>(table, bytes, out, size)
+        three.plain_chunk::<N, F>(table, bytes, out)
     }
 
     // Decodes plain chunks as `plain_chunks`, but eight at most.
@@ -105,20 +98,18 @@ impl Progress {
         table: &mut TermTable,
         bytes: &[u8],
         out: &mut [u8],
-        size: usize,
     ) -> Progress
         requires ahead { HasAhead N 41 128 bytes.now out.old self }
-        requires size { IsPlainSize N self.next size × (0 < size) }
+        requires plain { IsPlainTag N self.next }
         ensures step { FastStep F N 40 128 bytes.now
             (fast self table.old out.old) (fast result table.new out.new) }
         ensures on { self.taken < result.taken }
     {
-        let four = self.plain_chunks::<N, F, 0>(table, bytes, out, size);
-        let size = plain_size::<N>(four.next as usize);
-        if size == 0 {
+        let four = self.plain_chunks::<N, F, 0>(table, bytes, out);
+        if !is_plain::<N>(four.next) {
             return four;
         }
-        four.plain_chunks::<N, F, 1>(table, bytes, out, size)
+        four.plain_chunks::<N, F, 1>(table, bytes, out)
     }
 
     /// Decodes plain chunks while there is room ahead, until another chunk comes or `MOST_SAME` ends
@@ -143,12 +134,11 @@ impl Progress {
         let top = out.len() - OUTPUT_ROOM;
         let (mut before, mut same) = (0, 0);
         while now.taken <= far && now.at <= top && same < MOST_SAME {
-            let first = plain_size::<N>(now.next as usize);
-            if first == 0 {
+            if !is_plain::<N>(now.next) {
                 break;
             }
             let from = now.taken;
-            now = now.eight_plain::<N, F>(table, bytes, out, first);
+            now = now.eight_plain::<N, F>(table, bytes, out);
             let size = now.taken - from;
             same = if size == before { same + 1 } else { 0 };
             before = size;

@@ -1,10 +1,10 @@
 //! What the loop over plain chunks does by the first byte of one, in tables: so it has no jump
 //! between index positions, differences, short runs, RGB and RGBA chunks.
-ghost use Rattle.std.specs.Prelude.{◌≡◌, ◌-◌, ◌*◌, ◌<◌, ◌≤◌, ◌^◌};
+ghost use Rattle.std.specs.Prelude.{◌≡◌, ◌↔◌, IsTrue, ◌-◌, ◌<◌, ◌≤◌, ◌^◌};
 ghost use Rattle.qoi.specs.Qoi.{diff_tag, rgb_tag, rgba_tag};
 ghost use Rattle.qoi.specs.Raw.{IsChannels};
 ghost use Rattle.qoi.specs.inner.Hashed.{lane_mask, alpha_mask, top_mask};
-ghost use Rattle.qoi.specs.inner.Filling.{IsPlainSize};
+ghost use Rattle.qoi.specs.inner.Filling.{IsPlainTag};
 
 // Five tables indexed by first byte, one after the other.
 #[rattlefmt::skip]
@@ -137,17 +137,16 @@ pub(super) fn placed_by(b1: usize) -> u64
     PLAIN_TABLES[512 + b1]
 }
 
-/// How many bytes a chunk has, or 0 if it isn't a plain one: a luma, or a run that a vector of
-/// sixteen bytes doesn't hold.
+/// Whether a chunk with this first byte is plain: no luma, and no run that a vector of sixteen bytes
+/// doesn't hold.
 #[inline(always)]
-pub(super) fn plain_size<const N: usize>(b1: usize) -> usize
-    requires channels { IsChannels N }
-    requires byte { b1 < 256 }
-    ensures { IsPlainSize N b1 result }
+pub(super) fn is_plain<const N: usize>(b1: u8) -> bool
+    requires { IsChannels N }
+    ensures { IsTrue result ↔ IsPlainTag N b1 }
 {
     if N == 3 {
-        PLAIN_TABLES[768 + b1] as usize
+        PLAIN_TABLES[768 + b1 as usize] != 0
     } else {
-        PLAIN_TABLES[1024 + b1] as usize
+        PLAIN_TABLES[1024 + b1 as usize] != 0
     }
 }

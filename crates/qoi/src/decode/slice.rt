@@ -10,12 +10,13 @@ ghost use Rattle.qoi.specs.inner.Chunks.{TakesChunks, RefusesFilling};
 ghost use Rattle.qoi.specs.inner.Filling.{IsFillable, upto, filling};
 
 use crate::consts::{QOI_PADDING, QOI_PADDING_SIZE};
-use crate::decode::chunks::{Chunks, Reached, image_to_buf, image_to_vec};
+use crate::decode::chunks::{Chunks, image_to_buf, image_to_vec};
 use crate::decode::fast::{FEW, Progress};
 use crate::decode::hashed::Hashed;
 use crate::decode::in_place::{InPlace, chunks_in_place};
 use crate::decode::one_chunk::decode_chunk;
 use crate::decode::output::RUN_ROOM;
+use crate::decode::reached::Reached;
 use crate::decode::reader::Bytes;
 use crate::decode::table::{SizedTerms, SmallTermTable, TermTable};
 use crate::error::{Error, Result};
@@ -25,50 +26,44 @@ use std::simd::prelude::*;
 // to zero would take longer.
 const SMALL_OUTPUT: usize = 160;
 
-// What is left between two chunks: the last pixel, the bytes ahead, and how much of the output is
-// written.
+// What is left between two chunks: what they reached, and the bytes ahead.
 #[derive(Clone, Copy)]
 struct Left<'a> {
-    last: Hashed,
+    reached: Reached,
     rest: &'a [u8],
-    at: usize,
 }
 
-// Decodes chunks one by one, with every test, after the pixel `last` and the first `at` bytes of
-// `out`: if `RUN_FITS`, as long as any run's vectors have room in `out`, else until it is full.
-// `None` if fewer than eight bytes are left before that: the file is cut, since its end marker
-// alone has eight.
+// Decodes chunks one by one, with every test, after what others reached: if `RUN_FITS`, as long as
+// any run's vectors have room in `out`, else until it is full. `None` if fewer than eight bytes are
+// left before that: the file is cut, since its end marker alone has eight.
 #[inline(never)]
 fn careful_chunks<'a, const N: usize, const F: usize, const RUN_FITS: bool, const SIZE: usize>(
     table: &mut SizedTerms<SIZE>,
-    last: Hashed,
+    from: Reached,
     data: &'a [u8],
     out: &mut [u8],
-    at: usize,
 ) -> Option<Left<'a>>
-    requires { IsFillable N (upto out.old at) }
+    requires { IsFillable N (upto out.old from.at) }
     ensures read { IfSome result (λ left. TakesChunks F N RUN_FITS
         (Some «data».entry.now) (Some left.rest.now)
-        (filling table.old last out.old at) (filling table.new left.last out.new left.at)) }
+        (filling table.old from out.old) (filling table.new left.reached out.new)) }
     ensures refused { IfNone result (RefusesFilling F N true
         (Some «data».entry.now) (Some «data».entry.now)
-        (filling table.old last out.old at) Error.UnexpectedBufferEnd) }
+        (filling table.old from out.old) Error.UnexpectedBufferEnd) }
 {
     let least = if RUN_FITS { RUN_ROOM } else { 1 };
-    let mut last = last;
+    let mut now = from;
     let mut rest = data;
-    let mut at = at;
-    while least <= out.len() - at {
+    while least <= out.len() - now.at {
         if rest.len() < QOI_PADDING_SIZE {
             return None;
         }
-        let decoded = decode_chunk::<N, F, RUN_FITS, SIZE>(table, last, rest, out, at);
+        let decoded = decode_chunk::<N, F, RUN_FITS, SIZE>(table, now, rest, out);
         let (_, after) = rest.split_at(decoded.taken);
         rest = after;
-        last = decoded.last;
-        at = decoded.at;
+        now = decoded.reached;
     }
-    Some(Left { last, rest, at })
+    Some(Left { reached: now, rest })
 }
 
 // `careful_chunks`, but by the fast loop while there is room ahead. It does without if `out` is the
@@ -76,25 +71,24 @@ fn careful_chunks<'a, const N: usize, const F: usize, const RUN_FITS: bool, cons
 #[inline(always)]
 fn slice_chunks<'a, const N: usize, const F: usize, const RUN_FITS: bool>(
     table: &mut TermTable,
-    last: Hashed,
+    from: Reached,
     data: &'a [u8],
     out: &mut [u8],
-    at: usize,
 ) -> Option<Left<'a>>
-    requires { IsFillable N (upto out.old at) }
+    requires { IsFillable N (upto out.old from.at) }
     ensures read { IfSome result (λ left. TakesChunks F N RUN_FITS
         (Some «data».entry.now) (Some left.rest.now)
-        (filling table.old last out.old at) (filling table.new left.last out.new left.at)) }
+        (filling table.old from out.old) (filling table.new left.reached out.new)) }
     ensures refused { IfNone result (RefusesFilling F N true
         (Some «data».entry.now) (Some «data».entry.now)
-        (filling table.old last out.old at) Error.UnexpectedBufferEnd) }
+        (filling table.old from out.old) Error.UnexpectedBufferEnd) }
 {
     if RUN_FITS && out.len() < FEW {
-        return careful_chunks::<N, F, RUN_FITS, _>(table, last, data, out, at);
+        return careful_chunks::<N, F, RUN_FITS, _>(table, from, data, out);
     }
-    let now = Progress::fast_chunks::<N, F>(table, last, data, out, at);
+    let now = Progress::fast_chunks::<N, F>(table, from, data, out);
     let (_, rest) = data.split_at(now.taken);
-    careful_chunks::<N, F, RUN_FITS, _>(table, now.last, rest, out, now.at)
+    careful_chunks::<N, F, RUN_FITS, _>(table, now.reached, rest, out)
 }
 
 // Checks that the end marker stands at the front, and returns the bytes after it.
@@ -123,29 +117,19 @@ impl<'a, const N: usize, const F: usize> Chunks<N, F> for Bytes<'a> {
     fn some_chunks(
         &mut self,
         table: &mut TermTable,
-        last: Hashed,
+        from: Reached,
         out: &mut [u8],
-        at: usize,
     ) -> Result<Reached> {
-        let Some(left) = slice_chunks::<N, F, true>(table, last, self.0, out, at) else {
+        let Some(left) = slice_chunks::<N, F, true>(table, from, self.0, out) else {
             return Err(Error::UnexpectedBufferEnd);
         };
         self.0 = left.rest;
-        Ok(Reached {
-            last: left.last,
-            at: left.at,
-        })
+        Ok(left.reached)
     }
 
     #[inline(always)]
-    fn all_chunks(
-        &mut self,
-        table: &mut TermTable,
-        last: Hashed,
-        out: &mut [u8],
-        at: usize,
-    ) -> Result<()> {
-        let Some(left) = slice_chunks::<N, F, false>(table, last, self.0, out, at) else {
+    fn all_chunks(&mut self, table: &mut TermTable, from: Reached, out: &mut [u8]) -> Result<()> {
+        let Some(left) = slice_chunks::<N, F, false>(table, from, self.0, out) else {
             return Err(Error::UnexpectedBufferEnd);
         };
         self.0 = left.rest;
@@ -156,11 +140,10 @@ impl<'a, const N: usize, const F: usize> Chunks<N, F> for Bytes<'a> {
     fn chunks_in_place(
         &mut self,
         table: &mut TermTable,
-        last: Hashed,
+        from: Reached,
         out: &mut [u8],
-        at: usize,
     ) -> Result<InPlace> {
-        let placed = chunks_in_place::<N, F>(table, last, self.0, out, at);
+        let placed = chunks_in_place::<N, F>(table, from, self.0, out);
         let (_, rest) = self.0.split_at(placed.taken);
         self.0 = rest;
         Ok(placed)
@@ -185,8 +168,9 @@ fn small_chunks<'a, const N: usize, const F: usize>(
         (Some «data».entry.now) (Some rest.now) out.new) }
 {
     let mut table = SmallTermTable::new_small();
-    let start = Hashed::start();
-    let Some(left) = careful_chunks::<N, F, false, _>(&mut table, start, data, out, 0) else {
+    let last = Hashed::start();
+    let start = Reached { last, at: 0 };
+    let Some(left) = careful_chunks::<N, F, false, _>(&mut table, start, data, out) else {
         return None;
     };
     Some(left.rest)

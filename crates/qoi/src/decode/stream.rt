@@ -1,21 +1,19 @@
 //! Decoding an image from a stream.
-ghost use Rattle.std.specs.Prelude.{◌≡◌, ◌+◌, ◌%◌, ◌<◌, ◌≤◌, [], ◌∷◌, length, IsTrue, false, IfOk, IfErr, OnOk, OnErr};
+ghost use Rattle.std.specs.Prelude.{◌<◌, [], ◌∷◌, length, false, IfOk, IfErr, OnOk, OnErr};
 ghost use Rattle.std.specs.Io.KnownBytes.{Consumes};
 ghost use Rattle.qoi.specs.Qoi.{AreBytes, end_marker};
-ghost use Rattle.qoi.specs.Raw.{IsChannels};
 ghost use Rattle.qoi.specs.declared.error.Error.{Error};
-ghost use Rattle.qoi.specs.declared.decode.output.TheConstants.{RUN_ROOM};
 ghost use Rattle.qoi.specs.Verdicts.{IsPartOfChunk};
 ghost use Rattle.qoi.specs.Decoding.{TakesBytes, RefusesTakenMarker};
 ghost use Rattle.qoi.specs.inner.Chunks.{TakesChunks, RefusesFilling};
-ghost use Rattle.qoi.specs.inner.Filling.{IsFillable, IsWholePixels, DecodesChunk, upto, filling};
+ghost use Rattle.qoi.specs.inner.Filling.{upto, IsFillable, HasRoom, FillsMore, DecodesChunk, filling};
 
 use crate::consts::{QOI_OP_RGB, QOI_PADDING, QOI_PADDING_SIZE};
-use crate::decode::chunks::{Chunks, Reached};
+use crate::decode::chunks::Chunks;
 use crate::decode::deltas::is_luma;
-use crate::decode::hashed::Hashed;
-use crate::decode::one_chunk::{Decoded, decode_chunk};
+use crate::decode::one_chunk::decode_chunk;
 use crate::decode::output::RUN_ROOM;
+use crate::decode::reached::Reached;
 use crate::decode::table::TermTable;
 use crate::error::{Error, Result};
 use std::io;
@@ -95,22 +93,14 @@ fn read_one<R: Read>(reader: &mut R) -> io::Result<u8>
 pub(super) fn next_chunk<R: Read, const N: usize, const F: usize, const RUN_FITS: bool>(
     reader: &mut R,
     table: &mut TermTable,
-    last: Hashed,
+    from: Reached,
     out: &mut [u8],
-    at: usize,
-) -> io::Result<Decoded>
-    requires channels { IsChannels N }
-    requires whole { IsWholePixels N (length out.old) at }
-    requires inside { at < length out.old }
-    requires room { IsTrue RUN_FITS → at + RUN_ROOM ≤ length out.old }
-    ensures read { IfOk result (λ decoded.
-        TakesBytes (R.remaining reader.old) (R.remaining reader.new)
-        (λ taken. DecodesChunk F N taken (filling table.old last out.old at)
-        (filling table.new decoded.last out.new decoded.at))) }
-    ensures whole { IfOk result (λ decoded. decoded.at % N ≡ 0) }
-    ensures within { IfOk result (λ decoded. (at < decoded.at) × (decoded.at ≤ length out.new)) }
-    ensures below { at + RUN_ROOM ≤ length out.old
-        → IfOk result (λ decoded. decoded.at < length out.new) }
+) -> io::Result<Reached>
+    requires { HasRoom N RUN_FITS (upto out.old from.at) }
+    ensures read { IfOk result (λ now.
+        TakesBytes (R.remaining reader.old) (R.remaining reader.new) (λ taken.
+        DecodesChunk F N taken (filling table.old from out.old) (filling table.new now out.new))) }
+    ensures more { IfOk result (λ now. FillsMore N (upto out.old from.at) (upto out.new now.at)) }
     ensures failed { OnErr result (TakesBytes (R.remaining reader.old) (R.remaining reader.new)
         IsPartOfChunk) }
 {
@@ -118,55 +108,50 @@ pub(super) fn next_chunk<R: Read, const N: usize, const F: usize, const RUN_FITS
     if is_luma(b1) {
         let b2 = read_one(reader)?;
         let bytes = [b1, b2, 0, 0, 0, 0, 0, 0];
-        return Ok(decode_chunk::<N, F, RUN_FITS, _>(table, last, &bytes, out, at));
+        return Ok(decode_chunk::<N, F, RUN_FITS, _>(table, from, &bytes, out).reached);
     }
     if b1 < QOI_OP_RGB {
         let bytes = [b1, 0, 0, 0, 0, 0, 0, 0];
-        return Ok(decode_chunk::<N, F, RUN_FITS, _>(table, last, &bytes, out, at));
+        return Ok(decode_chunk::<N, F, RUN_FITS, _>(table, from, &bytes, out).reached);
     }
     if b1 == QOI_OP_RGB {
         let mut more = [0, 0, 0];
         read_exact(reader, &mut more)?;
         let bytes = [b1, more[0], more[1], more[2], 0, 0, 0, 0];
-        return Ok(decode_chunk::<N, F, RUN_FITS, _>(table, last, &bytes, out, at));
+        return Ok(decode_chunk::<N, F, RUN_FITS, _>(table, from, &bytes, out).reached);
     }
     let mut more = [0, 0, 0, 0];
     read_exact(reader, &mut more)?;
     let bytes = [b1, more[0], more[1], more[2], more[3], 0, 0, 0];
-    Ok(decode_chunk::<N, F, RUN_FITS, _>(table, last, &bytes, out, at))
+    Ok(decode_chunk::<N, F, RUN_FITS, _>(table, from, &bytes, out).reached)
 }
 
-// Decodes chunks from a stream, after the pixel `last` and the first `at` bytes of `out`: if
-// `RUN_FITS`, as long as `out` has room for the vectors of any run, else until it is full. Takes no
-// byte past the last chunk. Returns the last pixel, and where in `out` it stopped.
+// Decodes chunks from a stream, after what others reached: if `RUN_FITS`, as long as `out` has room
+// for the vectors of any run, else until it is full. Takes no byte past the last chunk.
 fn decode_chunks<R: Read, const N: usize, const F: usize, const RUN_FITS: bool>(
     reader: &mut R,
     table: &mut TermTable,
-    last: Hashed,
+    from: Reached,
     out: &mut [u8],
-    at: usize,
 ) -> io::Result<Reached>
-    requires { IsFillable N (upto out.old at) }
+    requires { IsFillable N (upto out.old from.at) }
     ensures read { IfOk result (λ now. TakesChunks F N RUN_FITS
         (R.remaining reader.old) (R.remaining reader.new)
-        (filling table.old last out.old at) (filling table.new now.last out.new now.at)) }
+        (filling table.old from out.old) (filling table.new now out.new)) }
     ensures refused { IfErr result (λ e. RefusesFilling F N false
         (R.remaining reader.old) (R.remaining reader.new)
-        (filling table.old last out.old at) (Error.IoError e)) }
+        (filling table.old from out.old) (Error.IoError e)) }
 {
     let least = if RUN_FITS { RUN_ROOM } else { 1 };
-    let mut last = last;
-    let mut at = at;
+    let mut now = from;
     if least <= out.len() {
         // Computed once, so that the loop compares without a subtraction and needn't keep the size.
         let top = out.len() - least;
-        while at <= top {
-            let decoded = next_chunk::<R, N, F, RUN_FITS>(reader, table, last, out, at)?;
-            last = decoded.last;
-            at = decoded.at;
+        while now.at <= top {
+            now = next_chunk::<R, N, F, RUN_FITS>(reader, table, now, out)?;
         }
     }
-    Ok(Reached { last, at })
+    Ok(now)
 }
 
 // Reads eight bytes from a stream, and refuses them if they aren't the end marker.
@@ -193,24 +178,17 @@ impl<R: Read, const N: usize, const F: usize> Chunks<N, F> for R {
     fn some_chunks(
         &mut self,
         table: &mut TermTable,
-        last: Hashed,
+        from: Reached,
         out: &mut [u8],
-        at: usize,
     ) -> Result<Reached> {
-        let now = decode_chunks::<R, N, F, true>(self, table, last, out, at)?;
+        let now = decode_chunks::<R, N, F, true>(self, table, from, out)?;
         Ok(now)
     }
 
     // First as long as any run has room, and then to the end, with every test.
-    fn all_chunks(
-        &mut self,
-        table: &mut TermTable,
-        last: Hashed,
-        out: &mut [u8],
-        at: usize,
-    ) -> Result<()> {
-        let now = decode_chunks::<R, N, F, true>(self, table, last, out, at)?;
-        decode_chunks::<R, N, F, false>(self, table, now.last, out, now.at)?;
+    fn all_chunks(&mut self, table: &mut TermTable, from: Reached, out: &mut [u8]) -> Result<()> {
+        let now = decode_chunks::<R, N, F, true>(self, table, from, out)?;
+        decode_chunks::<R, N, F, false>(self, table, now, out)?;
         Ok(())
     }
 

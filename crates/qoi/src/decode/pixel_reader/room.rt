@@ -7,11 +7,12 @@ ghost use Rattle.qoi.specs.Raw.{IsChannels, output};
 ghost use Rattle.qoi.specs.declared.decode.output.TheConstants.{RUN_ROOM};
 ghost use Rattle.qoi.specs.declared.decode.pixel_reader.room.TheConstants.{DECODED_AHEAD, IN_PLACE};
 ghost use Rattle.qoi.specs.inner.Chunks.{RefusesChunks, TakesChunks, RefusesFilling};
-ghost use Rattle.qoi.specs.inner.Filling.{filling, DecoderBetween};
+ghost use Rattle.qoi.specs.inner.Filling.{reached, filling, DecoderBetween};
 
-use crate::decode::chunks::{Chunks, Reached};
+use crate::decode::chunks::Chunks;
 use crate::decode::hashed::Hashed;
 use crate::decode::output::RUN_ROOM;
+use crate::decode::reached::Reached;
 use crate::decode::table::TermTable;
 use crate::error::Result;
 
@@ -65,14 +66,15 @@ pub(super) fn front_of_image<R: Chunks<N, F>, const N: usize, const F: usize>(
     requires whole { size % N ≡ 0 }
     ensures read { IfOk result (λ now. TakesChunks F N true
         (R.ahead reader.old) (R.ahead reader.new)
-        (filling table.old last (take size out.old) 0)
-        (filling table.new now.last (take size out.new) now.at)) }
+        (filling table.old (reached last 0) (take size out.old))
+        (filling table.new now (take size out.new))) }
     ensures below { IfOk result (λ now. now.at < size) }
     ensures filled { IfOk result (λ now. size < now.at + RUN_ROOM) }
     ensures refused { IfErr result (RefusesFilling F N R.in_memory
-        (R.ahead reader.old) (R.ahead reader.new) (filling table.old last (take size out.old) 0)) }
+        (R.ahead reader.old) (R.ahead reader.new)
+        (filling table.old (reached last 0) (take size out.old))) }
 {
-    reader.some_chunks(table, last, &mut out[..size], 0)
+    reader.some_chunks(table, Reached { last, at: 0 }, &mut out[..size])
 }
 
 /// Decodes the rest of an image into the first `size` bytes of `out`, and takes the end marker.
@@ -88,14 +90,14 @@ pub(super) fn rest_of_image<R: Chunks<N, F>, const N: usize, const F: usize>(
     requires whole { size % N ≡ 0 }
     ensures read { (gone : Past) (n : ℕ) (start : Option (List ℕ))
         → DecoderBetween F N gone n (Consumes start (R.ahead reader.old))
-        (filling table.old last (take size out.old) 0)
+        (filling table.old (reached last 0) (take size out.old))
         → OnOk result (ReadsImage F N (length gone + n) start (R.ahead reader.new)
         (output F N (reverse gone) ++ take size out.new)) }
     ensures refused { (gone : Past) (n : ℕ) (start : Option (List ℕ))
         → DecoderBetween F N gone n (Consumes start (R.ahead reader.old))
-        (filling table.old last (take size out.old) 0)
+        (filling table.old (reached last 0) (take size out.old))
         → IfErr result (RefusesChunks R.in_memory (length gone + n) start (R.ahead reader.new)) }
 {
-    reader.all_chunks(table, last, &mut out[..size], 0)?;
+    reader.all_chunks(table, Reached { last, at: 0 }, &mut out[..size])?;
     reader.marker()
 }

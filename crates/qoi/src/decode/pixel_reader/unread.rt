@@ -11,6 +11,7 @@ use crate::decode::output::{RUN_ROOM, store_run};
 use crate::decode::pixel_reader::room::{
     DECODED_AHEAD, IN_PLACE, front_of_image, kept_room, least_room, rest_of_image,
 };
+use crate::decode::reached::Reached;
 use crate::decode::table::TermTable;
 use crate::error::Error;
 
@@ -166,19 +167,17 @@ impl Unread {
     {
         let size = out.len() / N * N;
         store_run::<N, F>(out, 0, self.last, self.run / N);
-        let placed = match reader.chunks_in_place(
-            &mut self.table,
-            self.last,
-            &mut out[..size],
-            self.run,
-        ) {
+        let (last, at) = (self.last, self.run);
+        let from = Reached { last, at };
+        let placed = match reader.chunks_in_place(&mut self.table, from, &mut out[..size]) {
             Ok(placed) => placed,
             Err(e) => return Err(self.fail(e)),
         };
-        self.last = placed.last;
+        let now = placed.reached;
+        self.last = now.last;
         self.run = placed.run;
-        self.undecoded -= placed.at;
-        Ok(placed.at)
+        self.undecoded -= now.at;
+        Ok(now.at)
     }
 
     // Stores the rest of a run in what is kept, while nothing else is.
@@ -266,7 +265,9 @@ impl Unread {
             return Ok(0);
         }
         let size = out.len() / N * N;
-        let now = match reader.some_chunks(&mut self.table, self.last, &mut out[..size], 0) {
+        let last = self.last;
+        let from = Reached { last, at: 0 };
+        let now = match reader.some_chunks(&mut self.table, from, &mut out[..size]) {
             Ok(now) => now,
             Err(e) => return Err(self.fail(e)),
         };

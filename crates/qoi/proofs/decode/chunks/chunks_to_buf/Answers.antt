@@ -5,28 +5,28 @@ use Rattle.std.proofs.KnownBytes.{Consumes-nil}
 use Rattle.std.proofs.lemmas.Result.{IfErr-weaker}
 use Rattle.qoi.proofs.Results.{on_ok_of}
 use Rattle.qoi.specs.inner.Chunks.{RefusesFilling}
-use Rattle.qoi.specs.inner.Filling.{filling, DecoderBetween}
+use Rattle.qoi.specs.inner.Filling.{reached, filling, DecoderBetween}
 use Rattle.qoi.proofs.decoding.Progress.{fillable_whole, first_streams, start_between}
 use Rattle.qoi.proofs.decode.chunks.chunks_to_buf.Given.{Over}
-use Rattle.qoi.proofs.decode.chunks.chunks_to_buf.Goals.{After-start}
+use Rattle.qoi.proofs.decode.chunks.chunks_to_buf.Goals.{After-start-last}
 use Rattle.qoi.proofs.decode.chunks.chunks_to_buf.Goals as goal
 
 -- before the first chunk
-before : (g : Over) (c : After-start g) → DecoderBetween g.row.F g.row.N [] (length c.args.out.now / g.row.N)
-    (Consumes (g.R.Chunks.ahead c.args.reader.now) (g.R.Chunks.ahead c.args.reader.now)) (filling c.new-table.result c.start.result c.args.out.now 0)
+before : (g : Over) (c : After-start-last g) → DecoderBetween g.row.F g.row.N [] (length c.args.out.now / g.row.N)
+    (Consumes (g.R.Chunks.ahead c.args.reader.now) (g.R.Chunks.ahead c.args.reader.now)) (filling c.new-table.result (reached c.start-last.result 0) c.args.out.now)
 before g c = start_between g.row.F g.row.N (Consumes (g.R.Chunks.ahead c.args.reader.now) (g.R.Chunks.ahead c.args.reader.now)) _ _ c.args.out.now
-    c.requires.channels c.requires.whole c.new-table.ensures c.start.ensures (Consumes-nil _)
+    c.requires.channels c.requires.whole c.new-table.ensures c.start-last.ensures (Consumes-nil _)
 
 pub all_chunks-requires : goal.all_chunks-requires
 all_chunks-requires g c = fillable_whole c.requires.channels c.requires.whole
 
 pub returns-clause-read : goal.returns-clause-read
 returns-clause-read g c =
-    let start = before g (goal.at.returns-clause-read g c).After-start in
+    let start = before g (goal.at.returns-clause-read g c).After-start-last in
     on_ok_of _ (λ all. first_streams (all [] _ _ start)) c.all_chunks.ensures.read
 
 pub returns-clause-refused : goal.returns-clause-refused
 returns-clause-refused g c =
-    let start = before g (goal.at.returns-clause-refused g c).After-start in
+    let start = before g (goal.at.returns-clause-refused g c).After-start-last in
     IfErr-weaker c.all_chunks.result (RefusesFilling g.row.F g.row.N g.R.Chunks.in_memory (g.R.Chunks.ahead c.args.reader.now) (g.R.Chunks.ahead c.all_chunks.new.self)
-    (filling c.new-table.result c.start.result c.args.out.now 0)) _ (λ e all. all [] _ _ start _ (omega arith)) c.all_chunks.ensures.refused
+    (filling c.new-table.result (reached c.start-last.result 0) c.args.out.now)) _ (λ e all. all [] _ _ start _ (omega arith)) c.all_chunks.ensures.refused

@@ -20,7 +20,7 @@ whole g c = whole_step g.row.N c.loop-out.out.len c.grow.new.out.len c.requires.
 -- before a step is decoded
 before : (g : Over) (c : After-deref_mut g) → DecoderBetween g.row.F g.row.N [] (c.grow.new.out.len / g.row.N)
     (Consumes (g.R.Chunks.ahead c.args.reader.now) (g.R.Chunks.ahead c.loop-out.reader))
-    (filling c.loop-out.table c.loop-out.last c.deref_mut.result.now c.loop-out.at)
+    (filling c.loop-out.table c.loop-out.now c.deref_mut.result.now)
 before g c =
     let old = c.loop-out.out in
     grown old.items c.deref_mut.result.now old.len c.grow.new.out.len c.requires.channels c.loop-out.invariant.growing old.ok.0
@@ -30,7 +30,7 @@ before g c =
 -- before the last step is
 before_last : (g : Over) (c : After-deref_mut-2 g) → DecoderBetween g.row.F g.row.N [] (c.args.size / g.row.N)
     (Consumes (g.R.Chunks.ahead c.args.reader.now) (g.R.Chunks.ahead c.loop-out.reader))
-    (filling c.loop-out.table c.loop-out.last c.deref_mut-2.result.now c.loop-out.at)
+    (filling c.loop-out.table c.loop-out.now c.deref_mut-2.result.now)
 before_last g c =
     let old = c.loop-out.out in
     grown old.items c.deref_mut-2.result.now old.len c.args.size c.requires.channels c.loop-out.invariant.growing old.ok.0
@@ -63,7 +63,7 @@ loop-out-preserved g c =
     let i = c.loop-out.invariant in
     let some = some_channels g.row.N c.requires.channels in
     let at = (goal.at.loop-out-preserved g c).After-deref_mut in
-    let inside : c.loop-out.at < length c.deref_mut.result.now =
+    let inside : c.loop-out.now.at < length c.deref_mut.result.now =
     omega (arith, some, i.within, c.deref_mut.ensures.len, c.grow.ensures.len, c.len-in-loop-out.ensures) in
     let left = c.in_ok-now.ensures.read.below refl inside in
     let size : c.grow.new.out.len ≡ length c.some_chunks.new.out = omega (arith, c.some_chunks.auto.out, c.deref_mut.ensures.len) in
@@ -93,14 +93,14 @@ pub returns-clause-refused : goal.returns-clause-refused
 returns-clause-refused g c =
     let at = (goal.at.returns-clause-refused g c).After-deref_mut-2 in
     IfErr-weaker c.all_chunks.result (RefusesFilling g.row.F g.row.N g.R.Chunks.in_memory (g.R.Chunks.ahead c.loop-out.reader) (g.R.Chunks.ahead c.all_chunks.new.self)
-    (filling c.loop-out.table c.loop-out.last c.deref_mut-2.result.now c.loop-out.at)) _ (λ e all. all [] _ _ (before_last g at) _ (omega arith)) c.all_chunks.ensures.refused
+    (filling c.loop-out.table c.loop-out.now c.deref_mut-2.result.now)) _ (λ e all. all [] _ _ (before_last g at) _ (omega arith)) c.all_chunks.ensures.refused
 
 pub returns-in_err-now-clause-grown : goal.returns-in_err-now-clause-grown
 returns-in_err-now-clause-grown g c =
     let at = (goal.at.returns-in_err-now-clause-grown g c).After-deref_mut in
-    at_most _ c.loop-out.at _ _ (omega (arith, c.loop-out.invariant.filled, c.grow.ensures.len, c.len-in-loop-out.ensures)) (written_most _ _ c.requires.channels (before g at))
+    at_most _ c.loop-out.now.at _ _ (omega (arith, c.loop-out.invariant.filled, c.grow.ensures.len, c.len-in-loop-out.ensures)) (written_most _ _ c.requires.channels (before g at))
 
 pub returns-clause-grown : goal.returns-clause-grown
 returns-clause-grown g c =
     let at = (goal.at.returns-clause-grown g c).After-deref_mut-2 in
-    at_most _ c.loop-out.at _ _ (omega (arith, c.loop-out.invariant.filled, c.loop-out-test.false, c.len.ensures, c.grow-2.ensures.len)) (written_most _ _ c.requires.channels (before_last g at))
+    at_most _ c.loop-out.now.at _ _ (omega (arith, c.loop-out.invariant.filled, c.loop-out-test.false, c.len.ensures, c.grow-2.ensures.len)) (written_most _ _ c.requires.channels (before_last g at))

@@ -9,9 +9,9 @@ invariant-loop-out g l = record {
   whole : vec_len l.out % g.row.N ≡ 0;
   fits : vec_len l.out ≤ l.fn.size;
   room : l.fn.size ≤ vec_capacity l.out;
-  within : l.at ≤ vec_len l.out;
-  filled : vec_len l.out ≤ l.at + 256;
-  growing : Growing g.row.F g.row.N (Consumes (g.R.Chunks.ahead l.initial.reader) (g.R.Chunks.ahead l.reader)) l.table l.last l.out.items l.at;
+  within : l.now.at ≤ vec_len l.out;
+  filled : vec_len l.out ≤ l.now.at + 256;
+  growing : Growing g.row.F g.row.N (Consumes (g.R.Chunks.ahead l.initial.reader) (g.R.Chunks.ahead l.reader)) l.table l.now l.out.items;
 }
 
 abbrev pub decreases-loop-out : goal.decreases-loop-out

@@ -1,22 +1,35 @@
 -- Each kind of chunk, by its first byte.
-use Rattle.std.proofs.Common.{◌≡◌, ◌+◌, ◌<◌, ◌≤◌, length, inl, inr, get_or, arith, rules, refl, ap, ◌∙◌, subst, nat_le, nat_lt, ◌&&◌}
+use Rattle.std.proofs.Common.{◌≡◌, ◌+◌, ◌%◌, ◌<◌, ◌≤◌, length, inl, inr, get_or, arith, rules, refl, ap, ◌∙◌, subst, nat_le, nat_lt, ◌&&◌}
 use Rattle.std.proofs.lemmas.Bool.{cases_lt}
 use Rattle.std.proofs.lemmas.Bool.Decides.{nat_tests}
 use Rattle.qoi.specs.Qoi.{AreBytes}
 use Rattle.qoi.specs.inner.Hashed.{pixel_of_lanes}
-use Rattle.qoi.specs.inner.Filling.{filling}
+use Rattle.qoi.specs.inner.Filling.{reached, filling}
 use Rattle.qoi.proofs.decoding.FirstChunk.{PutsCopies, size_of, decodes_short, decodes_rgb, decodes_rgba}
 use Rattle.qoi.proofs.decode.one_chunk.decode_chunk.Goals.{then-b1-lt-QOI_OP_RGB, else-b1-lt-QOI_OP_RGB}
 use Rattle.qoi.proofs.decode.one_chunk.decode_chunk.Goals as goal
 
+pub returns-clause-more : goal.returns-clause-more
+returns-clause-more g c =
+    let old = c.requires.room.fillable in
+    record {
+      fillable = record {
+        three_or_four = old.three_or_four;
+        within = c.fill-at.ensures.within.1;
+        whole = (ap (λ k. k % g.row.N) c.fill-at.auto.out ∙ old.whole.0, c.fill-at.ensures.whole);
+      };
+      on = c.fill-at.ensures.within.0;
+      below = c.fill-at.ensures.below;
+    }
+
 pub returns-clause-decodes : goal.returns-clause-decodes
 returns-clause-decodes g c =
     let bytes = c.args.bytes.now in
-    let old = filling c.args.table.now c.args.last c.args.out.now c.args.at in
-    let new = filling c.put.new.self c.if-b1-lt-QOI_OP_RGB.last.0 c.fill.new.out c.fill.result in
+    let old = filling c.args.table.now c.args.from c.args.out.now in
+    let new = filling c.put.new.self (reached c.if-b1-lt-QOI_OP_RGB.last.0 c.fill-at.result) c.fill-at.new.out in
     let first = get_or bytes 0 0 in
     let fits : AreBytes bytes = λ i. omega (arith, c.type_inv.bytes i) in
-    let copies : PutsCopies g.row.F g.row.N _ c.times.result old new = record { last_is = refl; table = c.put.ensures; filled = c.fill.ensures.filled } in
+    let copies : PutsCopies g.row.F g.row.N _ c.times.result old new = record { last_is = refl; table = c.put.ensures; filled = c.fill-at.ensures.filled } in
     let long : 5 ≤ length bytes = omega (arith, c.requires.long) in
     elim c.if-b1-lt-QOI_OP_RGB.branch [
       | then-b1-lt-QOI_OP_RGB w ↦

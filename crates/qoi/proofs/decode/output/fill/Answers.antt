@@ -17,33 +17,33 @@ pixels_of c k size is e = ap (λ z. z / c) e ∙ by_channels (λ d. d * k / d �
 
 pub returns-then-room-ge-VECTOR-clause-filled : goal.returns-then-room-ge-VECTOR-clause-filled
 returns-then-room-ge-VECTOR-clause-filled g c n past h =
-    let at = c.args.at in
+    let at = c.args.from.at in
     let count = c.args.count in
-    let few = in_vector g.row.N count c.args.size c.requires.channels c.requires.size c.if-size-le-VECTOR.true in
-    let fits = block_fits g.row.N at count (length c.args.out.now) c.requires.channels few (omega (arith, c.if-room-ge-VECTOR.true, c.requires.inside)) in
-    rw c.requires.size (filled_copies g.row.F g.row.N n c.args.out.now c.store_vector.new.out at count _ past c.requires.channels c.requires.inside fits c.store_vector.auto.out (c.store_vector.ensures count few) h)
+    let few = in_vector g.row.N count c.args.size c.requires.room.fillable.three_or_four c.requires.size c.if-size-le-VECTOR.true in
+    let fits = block_fits g.row.N at count (length c.args.out.now) c.requires.room.fillable.three_or_four few (omega (arith, c.if-room-ge-VECTOR.true, c.requires.room.inside)) in
+    rw c.requires.size (filled_copies g.row.F g.row.N n c.args.out.now c.store_vector.new.out at count _ past c.requires.room.fillable.three_or_four c.requires.room.inside fits c.store_vector.auto.out (c.store_vector.ensures count few) h)
 
 pub returns-then-room-ge-RUN_ROOM-clause-filled : goal.returns-then-room-ge-RUN_ROOM-clause-filled
 returns-then-room-ge-RUN_ROOM-clause-filled g c n past h =
-    let at = c.args.at in
+    let at = c.args.from.at in
     let count = c.args.count in
-    let fits = run_fits g.row.N at count (length c.args.out.now) c.requires.channels c.requires.some.1 (omega (arith, c.if-room-ge-RUN_ROOM.true, c.requires.inside)) in
-    rw c.requires.size (filled_copies g.row.F g.row.N n c.args.out.now c.store_run.new.out at count _ past c.requires.channels c.requires.inside fits c.store_run.auto.out c.store_run.ensures h)
+    let fits = run_fits g.row.N at count (length c.args.out.now) c.requires.room.fillable.three_or_four c.requires.some.1 (omega (arith, c.if-room-ge-RUN_ROOM.true, c.requires.room.inside)) in
+    rw c.requires.size (filled_copies g.row.F g.row.N n c.args.out.now c.store_run.new.out at count _ past c.requires.room.fillable.three_or_four c.requires.room.inside fits c.store_run.auto.out c.store_run.ensures h)
 
 pub returns-clause-filled : goal.returns-clause-filled
 returns-clause-filled g c n past h =
-    let at = c.args.at in
+    let at = c.args.from.at in
     let size = length c.args.out.now in
     let all = c.min-all.result in
-    let is = c.requires.channels in
-    let within : at ≤ size = omega (arith, c.requires.inside) in
+    let is = c.requires.room.fillable.three_or_four in
+    let within : at ≤ size = omega (arith, c.requires.room.inside) in
     let quot = pixels_of g.row.N c.args.count c.args.size is c.requires.size in
     let few : c.known_room-room.result < 256 = elim c.if-size-le-VECTOR.branch [ then-size-le-VECTOR+else-room-ge-VECTOR w ↦ omega arith | else-size-le-VECTOR+else-room-ge-RUN_ROOM w ↦ omega arith ] in
     let left = c.known_room-room.ensures.all few in
-    let ends = copies_end g.row.N at c.args.count size is c.requires.whole.0 c.requires.whole.1 within in
-    filled_end g.row.F g.row.N n c.store_pixels.new.out _ all c.args.count (pixel_of_lanes c.args.px) past is (omega (arith, c.min-all.ensures, quot))
+    let ends = copies_end g.row.N at c.args.count size is c.requires.room.fillable.whole.0 c.requires.room.fillable.whole.1 within in
+    filled_end g.row.F g.row.N n c.store_pixels.new.out _ all c.args.count (pixel_of_lanes c.args.from.last) past is (omega (arith, c.min-all.ensures, quot))
     (rw (c.min-all.ensures, quot, left, c.store_pixels.auto.out) ends)
-    (filled_copies g.row.F g.row.N n c.args.out.now c.store_pixels.new.out at all _ past is c.requires.inside
+    (filled_copies g.row.F g.row.N n c.args.out.now c.store_pixels.new.out at all _ past is c.requires.room.inside
     (rw (c.min-all.ensures, quot, left) (copies_fit g.row.N at c.args.count size is within)) c.store_pixels.auto.out c.store_pixels.ensures h)
 
 -- the pixels of a run have fewer bytes than any run's vectors
@@ -52,13 +52,13 @@ run_below c k is = by_channels (λ d. k ≤ 62 → d * k ≤ 248) is (λ most. o
 
 pub returns-then-room-ge-VECTOR-clause-below : goal.returns-then-room-ge-VECTOR-clause-below
 returns-then-room-ge-VECTOR-clause-below g c room =
-    omega (arith, room, run_below g.row.N c.args.count c.requires.channels c.requires.some.1, c.requires.size, c.store_vector.auto.out)
+    omega (arith, room, run_below g.row.N c.args.count c.requires.room.fillable.three_or_four c.requires.some.1, c.requires.size, c.store_vector.auto.out)
 
 pub returns-then-room-ge-RUN_ROOM-clause-below : goal.returns-then-room-ge-RUN_ROOM-clause-below
 returns-then-room-ge-RUN_ROOM-clause-below g c room =
-    omega (arith, room, run_below g.row.N c.args.count c.requires.channels c.requires.some.1, c.requires.size, c.store_run.auto.out)
+    omega (arith, room, run_below g.row.N c.args.count c.requires.room.fillable.three_or_four c.requires.some.1, c.requires.size, c.store_run.auto.out)
 
 pub returns-clause-below : goal.returns-clause-below
 returns-clause-below g c room =
-    let few : c.min-all.result ≤ 62 = omega (arith, c.min-all.ensures, pixels_of g.row.N c.args.count c.args.size c.requires.channels c.requires.size, c.requires.some) in
-    omega (arith, room, run_below g.row.N c.min-all.result c.requires.channels few, c.store_pixels.auto.out)
+    let few : c.min-all.result ≤ 62 = omega (arith, c.min-all.ensures, pixels_of g.row.N c.args.count c.args.size c.requires.room.fillable.three_or_four c.requires.size, c.requires.some) in
+    omega (arith, room, run_below g.row.N c.min-all.result c.requires.room.fillable.three_or_four few, c.store_pixels.auto.out)

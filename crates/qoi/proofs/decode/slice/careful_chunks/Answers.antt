@@ -1,8 +1,8 @@
 -- A chunk more is taken, or the bytes are cut.
-use Rattle.std.proofs.Common.{rules, ◌%◌, ◌<◌, Some, take, drop, length, sym, ap, ◌∙◌, subst, arith, take-append-drop}
+use Rattle.std.proofs.Common.{rules, ◌<◌, Some, take, drop, length, sym, subst, arith, take-append-drop}
 use Rattle.std.specs.Io.KnownBytes.{Consumes}
 use Rattle.qoi.specs.Qoi.{AreBytes}
-use Rattle.qoi.specs.inner.Filling.{filling, IsFillable}
+use Rattle.qoi.specs.inner.Filling.{filling}
 use Rattle.qoi.specs.inner.Chunks.{TakesMore}
 use Rattle.qoi.proofs.format.SomeVerdict.{bytes_after_front}
 use Rattle.qoi.proofs.decoding.Progress.{takes_chunk}
@@ -20,7 +20,7 @@ loop-out-init g c = record {
 
 pub decode_chunk-decoded-requires : goal.decode_chunk-decoded-requires
 decode_chunk-decoded-requires g c =
-    (search rules, (c.requires.three_or_four, (omega (arith, c.if-rest-lt-QOI_PADDING_SIZE.false), (c.loop-out.invariant.fillable.whole, (search rules, search rules)))))
+    (search rules, (record { fillable = c.loop-out.invariant.fillable; inside = search rules; vectors = search rules }, omega (arith, c.if-rest-lt-QOI_PADDING_SIZE.false)))
 
 pub loop-out-preserved : goal.loop-out-preserved
 loop-out-preserved g c =
@@ -28,24 +28,20 @@ loop-out-preserved g c =
     let decoded = c.decode_chunk-decoded.result in
     let taken = decoded.taken in
     let back = c.split_at.ensures.back in
-    let inside : c.loop-out.at < length c.loop-out.out = elim c.if-this-ne0.branch [ then-this-ne0 w ↦ omega arith | else-this-ne0 w ↦ omega arith ] in
+    let inside : c.loop-out.now.at < length c.loop-out.out = elim c.if-this-ne0.branch [ then-this-ne0 w ↦ omega arith | else-this-ne0 w ↦ omega arith ] in
     let took : Consumes (Some rest) (Some (drop taken rest)) (take taken rest) = sym (take-append-drop taken rest) in
-    let old = filling c.args.table.now c.args.last c.args.out.now c.args.at in
-    let new = filling c.decode_chunk-decoded.new.table decoded.last c.decode_chunk-decoded.new.out decoded.at in
-    let fillable : IsFillable g.row.N new.buffer = record {
-      three_or_four = c.requires.three_or_four;
-      within = c.decode_chunk-decoded.ensures.within.1;
-      whole = (ap (λ k. k % g.row.N) c.decode_chunk-decoded.auto.out ∙ c.loop-out.invariant.fillable.whole.0, c.decode_chunk-decoded.ensures.whole);
-    } in
+    let old = filling c.args.table.now c.args.from c.args.out.now in
+    let new = filling c.decode_chunk-decoded.new.table decoded.reached c.decode_chunk-decoded.new.out in
+    let more = c.decode_chunk-decoded.ensures.more in
     record {
       fits = subst AreBytes (sym back) (bytes_after_front (take taken rest) (drop taken rest) (subst AreBytes (sym (take-append-drop taken rest)) c.loop-out.invariant.fits));
-      fillable = fillable;
-      below = λ room _. c.decode_chunk-decoded.ensures.below (omega arith);
+      fillable = more.fillable;
+      below = λ room _. more.below (omega arith);
       goes_on = subst (λ z. TakesMore g.row.F g.row.N (Some c.args.data.now) (Some z) old new) (sym back)
-          (takes_chunk c.requires.three_or_four c.loop-out.invariant.goes_on inside c.decode_chunk-decoded.ensures.decodes took fillable);
+          (takes_chunk c.requires.three_or_four c.loop-out.invariant.goes_on inside c.decode_chunk-decoded.ensures.decodes took more.fillable);
     }
 
 pub returns-then-rest-lt-QOI_PADDING_SIZE-clause-refused : goal.returns-then-rest-lt-QOI_PADDING_SIZE-clause-refused
 returns-then-rest-lt-QOI_PADDING_SIZE-clause-refused g c gone n start h =
-    let inside : c.loop-out.at < length c.loop-out.out = elim c.if-this-ne0.branch [ then-this-ne0 w ↦ omega arith | else-this-ne0 w ↦ omega arith ] in
+    let inside : c.loop-out.now.at < length c.loop-out.out = elim c.if-this-ne0.branch [ then-this-ne0 w ↦ omega arith | else-this-ne0 w ↦ omega arith ] in
     few_left_more start c.loop-out.rest.now c.requires.three_or_four (c.loop-out.invariant.goes_on.between gone n start h) inside c.loop-out.invariant.fits c.if-rest-lt-QOI_PADDING_SIZE.true

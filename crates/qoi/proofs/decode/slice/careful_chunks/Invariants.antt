@@ -8,10 +8,10 @@ use Rattle.qoi.proofs.decode.slice.careful_chunks.Given as goal
 abbrev pub invariant-loop-out : goal.invariant-loop-out
 invariant-loop-out g l = record {
   fits : AreBytes l.rest;
-  fillable : IsFillable g.row.N (upto l.out l.at);
-  below : 256 ≤ l.least → l.fn.at < length l.initial.out → l.at < length l.out;
-  goes_on : TakesMore g.row.F g.row.N (Some l.fn.data) (Some l.rest) (filling l.initial.table l.fn.last l.initial.out l.fn.at) (filling l.table l.last l.out l.at);
+  fillable : IsFillable g.row.N (upto l.out l.now.at);
+  below : 256 ≤ l.least → l.fn.from.at < length l.initial.out → l.now.at < length l.out;
+  goes_on : TakesMore g.row.F g.row.N (Some l.fn.data) (Some l.rest) (filling l.initial.table l.fn.from l.initial.out) (filling l.table l.now l.out);
 }
 
 abbrev pub decreases-loop-out : goal.decreases-loop-out
-decreases-loop-out g l = length l.out - l.at
+decreases-loop-out g l = length l.out - l.now.at

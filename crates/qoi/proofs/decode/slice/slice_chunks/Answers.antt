@@ -11,7 +11,7 @@ use Rattle.qoi.proofs.decode.slice.slice_chunks.Goals as goal
 
 -- after the fast loop
 after : (g : Over) (c : After-split_at g) → TakesMore g.row.F g.row.N (Some c.args.data.now) (Some c.split_at.result.1.now)
-    (filling c.args.table.now c.args.last c.args.out.now c.args.at) (filling c.fast_chunks-now.new.table c.fast_chunks-now.result.last c.fast_chunks-now.new.out c.fast_chunks-now.result.at)
+    (filling c.args.table.now c.args.from c.args.out.now) (filling c.fast_chunks-now.new.table c.fast_chunks-now.result.reached c.fast_chunks-now.new.out)
 after g c =
     let bytes = c.args.data.now in
     let size = c.fast_chunks-now.result.taken in
@@ -20,7 +20,7 @@ after g c =
     front_taken bytes size c.fast_chunks-now.ensures.between took
 
 pub careful_chunks-requires-2 : goal.careful_chunks-requires-2
-careful_chunks-requires-2 g c = (omega arith, c.fast_chunks-now.ensures.fillable)
+careful_chunks-requires-2 g c = (omega arith, c.fast_chunks-now.ensures.on.fillable)
 
 pub returns-clause-read : goal.returns-clause-read
 returns-clause-read g c =
@@ -28,7 +28,7 @@ returns-clause-read g c =
     if_some_of c.careful_chunks-2.result (λ left r. record {
       goes_on = record { between = λ gone n start h. r.goes_on.between gone n start (so_far.between gone n start h) };
       fillable = r.fillable;
-      below = λ fits inside. r.below fits (c.fast_chunks-now.ensures.below inside);
+      below = λ fits inside. r.below fits (c.fast_chunks-now.ensures.on.below inside);
       filled = r.filled;
       full = r.full;
     }) c.careful_chunks-2.ensures.read

@@ -1,37 +1,30 @@
 -- A chunk more is taken.
-use Rattle.std.proofs.Common.{◌%◌, ◌<◌, length, arith, ap, ◌∙◌}
+use Rattle.std.proofs.Common.{◌<◌, length, arith, rules}
 use Rattle.qoi.proofs.Results.{if_err}
-use Rattle.qoi.specs.inner.Filling.{filling, IsFillable}
 use Rattle.qoi.proofs.decoding.Progress.{takes_chunk}
 use Rattle.qoi.proofs.decoding.Grown.{stream_refused}
 use Rattle.qoi.proofs.decode.stream.decode_chunks.Goals.{then-this-ne0, else-this-ne0}
 use Rattle.qoi.proofs.decode.stream.decode_chunks.Goals as goal
 
-pub loop-at-init : goal.loop-at-init
-loop-at-init g c = record { fillable = c.requires; below = λ room inside. inside; goes_on = record { between = λ gone n start h. h } }
+pub loop-now-init : goal.loop-now-init
+loop-now-init g c = record { fillable = c.requires; below = λ room inside. inside; goes_on = record { between = λ gone n start h. h } }
 
-pub next_chunk-requires-clause-whole : goal.next_chunk-requires-clause-whole
-next_chunk-requires-clause-whole g c = c.loop-at.invariant.fillable.whole
+pub next_chunk-requires : goal.next_chunk-requires
+next_chunk-requires g c = record { fillable = c.loop-now.invariant.fillable; inside = search rules; vectors = search rules }
 
-pub returns-in_err-decoded-clause-refused : goal.returns-in_err-decoded-clause-refused
-returns-in_err-decoded-clause-refused g c =
-    let f = c.in_err-decoded.ensures.failed in
-    let inside : c.loop-at.at < length c.loop-at.out = elim c.if-this-ne0.branch [ then-this-ne0 w ↦ omega arith | else-this-ne0 w ↦ omega arith ] in
-    if_err _ (stream_refused _ f.0 c.requires.three_or_four c.loop-at.invariant.goes_on inside f.1 f.2)
+pub returns-in_err-now-clause-refused : goal.returns-in_err-now-clause-refused
+returns-in_err-now-clause-refused g c =
+    let f = c.in_err-now.ensures.failed in
+    let inside : c.loop-now.now.at < length c.loop-now.out = elim c.if-this-ne0.branch [ then-this-ne0 w ↦ omega arith | else-this-ne0 w ↦ omega arith ] in
+    if_err _ (stream_refused _ f.0 c.requires.three_or_four c.loop-now.invariant.goes_on inside f.1 f.2)
 
-pub loop-at-preserved : goal.loop-at-preserved
-loop-at-preserved g c =
-    let (taken, took, decoded) = c.in_ok-decoded.ensures.read in
-    let to = c.in_ok-decoded.decoded in
-    let inside : c.loop-at.at < length c.loop-at.out = elim c.if-this-ne0.branch [ then-this-ne0 w ↦ omega arith | else-this-ne0 w ↦ omega arith ] in
-    let new = filling c.next_chunk.new.table to.last c.next_chunk.new.out to.at in
-    let fillable : IsFillable g.row.N new.buffer = record {
-      three_or_four = c.requires.three_or_four;
-      within = c.in_ok-decoded.ensures.within.1;
-      whole = (ap (λ k. k % g.row.N) c.next_chunk.auto.out ∙ c.loop-at.invariant.fillable.whole.0, c.in_ok-decoded.ensures.whole);
-    } in
+pub loop-now-preserved : goal.loop-now-preserved
+loop-now-preserved g c =
+    let (taken, took, decoded) = c.in_ok-now.ensures.read in
+    let inside : c.loop-now.now.at < length c.loop-now.out = elim c.if-this-ne0.branch [ then-this-ne0 w ↦ omega arith | else-this-ne0 w ↦ omega arith ] in
+    let more = c.in_ok-now.ensures.more in
     record {
-      fillable = fillable;
-      below = λ room _. c.in_ok-decoded.ensures.below (omega arith);
-      goes_on = takes_chunk c.requires.three_or_four c.loop-at.invariant.goes_on inside decoded took fillable;
+      fillable = more.fillable;
+      below = λ room _. more.below (omega arith);
+      goes_on = takes_chunk c.requires.three_or_four c.loop-now.invariant.goes_on inside decoded took more.fillable;
     }

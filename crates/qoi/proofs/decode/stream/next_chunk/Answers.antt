@@ -49,8 +49,8 @@ returns-then-is_luma-clause-read g c =
     let luma = c.is_luma.ensures in (
       b1 ∷ b2 ∷ [],
       Consumes-trans _ _ _ (b1 ∷ []) (b2 ∷ []) c.in_ok-b1.ensures.read c.in_ok-b2.ensures.read,
-      decodes_taken {old = filling c.args.table.now c.args.last c.args.out.now c.args.at} {new =
-          filling c.decode_chunk.new.table c.decode_chunk.result.last c.decode_chunk.new.out c.decode_chunk.result.at} _ _ _
+      decodes_taken {old = filling c.args.table.now c.args.from c.args.out.now} {new =
+          filling c.decode_chunk.new.table c.decode_chunk.result.reached c.decode_chunk.new.out} _ _ _
           (Luma b1 b2, 0 ∷ 0 ∷ 0 ∷ 0 ∷ 0 ∷ 0 ∷ [], (grind (arith, nat_tests), grind (arith, nat_tests), omega arith), refl, refl) c.decode_chunk.ensures.decodes,
     )
 
@@ -64,8 +64,8 @@ returns-then-b1-lt-QOI_OP_RGB-clause-read g c =
     ] in (
       b1 ∷ [],
       c.in_ok-b1.ensures.read,
-      decodes_taken {old = filling c.args.table.now c.args.last c.args.out.now c.args.at} {new =
-          filling c.decode_chunk-then-b1-lt-QOI_OP_RGB.new.table c.decode_chunk-then-b1-lt-QOI_OP_RGB.result.last c.decode_chunk-then-b1-lt-QOI_OP_RGB.new.out c.decode_chunk-then-b1-lt-QOI_OP_RGB.result.at} _ _ _
+      decodes_taken {old = filling c.args.table.now c.args.from c.args.out.now} {new =
+          filling c.decode_chunk-then-b1-lt-QOI_OP_RGB.new.table c.decode_chunk-then-b1-lt-QOI_OP_RGB.result.reached c.decode_chunk-then-b1-lt-QOI_OP_RGB.new.out} _ _ _
           (alone_ahead b1 (0 ∷ 0 ∷ 0 ∷ 0 ∷ 0 ∷ 0 ∷ 0 ∷ []) alone) c.decode_chunk-then-b1-lt-QOI_OP_RGB.ensures.decodes,
     )
 
@@ -74,8 +74,8 @@ returns-then-b1-clause-read g c =
     let more = c.read_exact.new.buf in (
       c.in_ok-b1.b1 ∷ more,
       Consumes-trans _ _ _ (c.in_ok-b1.b1 ∷ []) more c.in_ok-b1.ensures.read c.in_ok-read_exact.ensures.read,
-      decodes_taken {old = filling c.args.table.now c.args.last c.args.out.now c.args.at} {new =
-          filling c.decode_chunk-then-b1.new.table c.decode_chunk-then-b1.result.last c.decode_chunk-then-b1.new.out c.decode_chunk-then-b1.result.at} _ _ _
+      decodes_taken {old = filling c.args.table.now c.args.from c.args.out.now} {new =
+          filling c.decode_chunk-then-b1.new.table c.decode_chunk-then-b1.result.reached c.decode_chunk-then-b1.new.out} _ _ _
           (rgb_ahead c.in_ok-b1.b1 more (0 ∷ 0 ∷ 0 ∷ 0 ∷ []) c.if-b1.true c.read_exact.auto.buf c.read_exact.ensures.bytes) c.decode_chunk-then-b1.ensures.decodes,
     )
 
@@ -85,7 +85,7 @@ returns-clause-read g c =
     let is : c.in_ok-b1.b1 ≡ 255 = omega arith in (
       c.in_ok-b1.b1 ∷ more,
       Consumes-trans _ _ _ (c.in_ok-b1.b1 ∷ []) more c.in_ok-b1.ensures.read c.in_ok-read_exact-2.ensures.read,
-      decodes_taken {old = filling c.args.table.now c.args.last c.args.out.now c.args.at} {new =
-          filling c.decode_chunk-2.new.table c.decode_chunk-2.result.last c.decode_chunk-2.new.out c.decode_chunk-2.result.at} _ _ _
+      decodes_taken {old = filling c.args.table.now c.args.from c.args.out.now} {new =
+          filling c.decode_chunk-2.new.table c.decode_chunk-2.result.reached c.decode_chunk-2.new.out} _ _ _
           (rgba_ahead c.in_ok-b1.b1 more (0 ∷ 0 ∷ 0 ∷ []) is c.read_exact-2.auto.buf c.read_exact-2.ensures.bytes) c.decode_chunk-2.ensures.decodes,
     )

@@ -9,7 +9,7 @@ pub returns-in_err-placed-clause-refused : goal.returns-in_err-placed-clause-ref
 returns-in_err-placed-clause-refused g c =
     let p = err_from_is_err_and c.from_residual.result c.from_residual.ensures.1 in
     rw (p.1, p.2, sym c.self.view_is)
-    (stream_refused _ [] c.requires.fillable.three_or_four (record { between = λ gone n start h. h }) c.requires.below c.in_err-placed.ensures.failed (part_empty [] (omega arith)) c.in_err-placed.field-0.0)
+    (stream_refused _ [] c.requires.fillable.three_or_four (record { between = λ gone n start h. h }) c.requires.inside c.in_err-placed.ensures.failed (part_empty [] (omega arith)) c.in_err-placed.field-0.0)
 
 pub returns-clause-takes : goal.returns-clause-takes
 returns-clause-takes g c = rw (sym c.self.view_is) c.in_ok-placed.ensures.takes

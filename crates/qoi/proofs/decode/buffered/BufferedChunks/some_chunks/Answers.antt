@@ -23,7 +23,7 @@ returns-clause-read g c =
     rw (sym c.self.view_is) (record {
       goes_on = record { between = λ gone n start h. read.goes_on.between gone n start (c.in_ok-front.ensures.between.between gone n start h) };
       fillable = read.fillable;
-      below = λ fits inside. read.below fits (c.in_ok-front.ensures.below inside);
+      below = λ fits inside. read.below fits (c.in_ok-front.ensures.on.below inside);
       filled = read.filled;
       full = read.full;
     })

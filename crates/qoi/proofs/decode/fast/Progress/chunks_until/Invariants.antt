@@ -7,4 +7,4 @@ abbrev pub invariant-loop-now : goal.invariant-loop-now
 invariant-loop-now g l = FastChunks g.row.F g.row.N l.bytes (fast l.fn.self l.initial.table l.initial.out) (fast l.now l.table l.out)
 
 abbrev pub decreases-loop-now : goal.decreases-loop-now
-decreases-loop-now g l = l.fn.near + 1 - l.now.taken
+decreases-loop-now g l = l.near + 1 - l.now.taken

@@ -16,7 +16,6 @@ returns-clause-step g c =
     let now = c.args.self in
     let bytes = c.args.bytes.now in
     let is = ahead.three_or_four in
-    let size = c.requires.size.0 in
     let rest = drop now.taken bytes in
     let whole : take (length bytes - now.taken) rest ≡ rest = take_whole _ rest (length-drop now.taken bytes) in
     let long : 5 ≤ length rest = omega (arith, ahead.input_is, length-drop now.taken bytes) in
@@ -25,17 +24,17 @@ returns-clause-step g c =
     let new : Progress = record { last = c.after_plain-last.result; taken = now.taken + c.byte_count.result; at = now.at + c.advance.result; next = _ } in
     elim (cases_lt now.next 254) [
       | inl low ↦
-          let plain = plain_short g.row.N now.next c.args.size size c.requires.size.1 low in
-          let s = short_count g.row.N now.next c.advance.result is plain.1 c.advance.ensures.once c.advance.ensures.run in
+          let plain = plain_short g.row.N now.next c.requires.plain low in
+          let s = short_count g.row.N now.next c.advance.result is plain.0 c.advance.ensures.once c.advance.ensures.run in
           let room = block_fits g.row.N now.at s.count (length c.args.out.now) is s.fits ahead.room_is in
           let few = block_fits g.row.N 0 s.count 16 is s.fits (omega arith) in
           fast_step {f = g.row.F} {input = 5} {room = 16} {bytes = bytes} {table' = c.put.new.self} {out' = c.store_vector.new.out} now new s.count is ahead.whole (omega (arith, ahead.room_is)) room c.store_vector.auto.out (ap (λ k. now.at + k) s.size_is) (omega (arith, few)) c.put.ensures
           (c.store_vector.ensures s.count s.fits) refl (omega (arith, c.type_inv.bytes (now.taken + c.byte_count.result))) 1 (omega (arith, c.byte_count.ensures.short low)) (omega arith) (omega arith)
-          (λ first. decodes_short rest now.next (get_or rest 1 0) 1 s.count (omega (arith, long)) first refl low (fits 1) (plain_sizes now.next s.count plain.2 s.once s.often)
+          (λ first. decodes_short rest now.next (get_or rest 1 0) 1 s.count (omega (arith, long)) first refl low (fits 1) (plain_sizes now.next s.count plain.1 s.once s.often)
           (record {
             place = λ l past h. px.place l past h;
             diff = px.diff;
-            luma = λ l h. elim plain.2 [
+            luma = λ l h. elim plain.1 [
               | inl early ↦ absurd (omega (arith, l, early))
               | inr run ↦ absurd (omega (arith, h, run))
             ];

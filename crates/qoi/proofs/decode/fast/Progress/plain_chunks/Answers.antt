@@ -11,15 +11,15 @@ two : (g : Over) (c : After-plain_chunk-two g) → FastStep g.row.F g.row.N 10 3
     (fast c.plain_chunk-two.result c.plain_chunk-two.new.table c.plain_chunk-two.new.out)
 two g c = step_then c.plain_chunk-one.ensures.step c.plain_chunk-two.ensures.step (omega arith) (omega arith)
 
-pub returns-then-size-eq0-clause-step : goal.returns-then-size-eq0-clause-step
-returns-then-size-eq0-clause-step g c = step_within c.plain_chunk-one.ensures.step (omega arith) (omega arith)
+pub returns-then-not-is_plain-clause-step : goal.returns-then-not-is_plain-clause-step
+returns-then-not-is_plain-clause-step g c = step_within c.plain_chunk-one.ensures.step (omega arith) (omega arith)
 
-pub returns-then-size-eq0-2-clause-step : goal.returns-then-size-eq0-2-clause-step
-returns-then-size-eq0-2-clause-step g c = step_within (two g (goal.at.returns-then-size-eq0-2-clause-step g c).After-plain_chunk-two) (omega arith) (omega arith)
+pub returns-then-not-is_plain-2-clause-step : goal.returns-then-not-is_plain-2-clause-step
+returns-then-not-is_plain-2-clause-step g c = step_within (two g (goal.at.returns-then-not-is_plain-2-clause-step g c).After-plain_chunk-two) (omega arith) (omega arith)
 
-pub returns-then-size-eq0-3-clause-step : goal.returns-then-size-eq0-3-clause-step
-returns-then-size-eq0-3-clause-step g c =
-    step_then (two g (goal.at.returns-then-size-eq0-3-clause-step g c).After-plain_chunk-two) c.plain_chunk-three.ensures.step (omega arith) (omega arith)
+pub returns-then-not-is_plain-3-clause-step : goal.returns-then-not-is_plain-3-clause-step
+returns-then-not-is_plain-3-clause-step g c =
+    step_then (two g (goal.at.returns-then-not-is_plain-3-clause-step g c).After-plain_chunk-two) c.plain_chunk-three.ensures.step (omega arith) (omega arith)
 
 pub returns-clause-step : goal.returns-clause-step
 returns-clause-step g c =

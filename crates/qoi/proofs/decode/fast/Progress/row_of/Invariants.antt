@@ -3,9 +3,9 @@ use Rattle.std.proofs.Common.{◌+◌, ◌-◌}
 use Rattle.qoi.specs.inner.Filling.{fast, FastChunks, KeepsAlpha}
 use Rattle.qoi.proofs.decode.fast.Progress.row_of.Given as goal
 
-abbrev pub invariant-loop-now : goal.invariant-loop-now
-invariant-loop-now g l = FastChunks g.row.F g.row.N l.bytes (fast l.fn.self l.initial.table l.initial.out) (fast l.now l.table l.out)
-    × KeepsAlpha g.row.TAG l.fn.self.last l.now.last
+abbrev pub invariant-loop-row : goal.invariant-loop-row
+invariant-loop-row g l = FastChunks g.row.F g.row.N l.bytes (fast l.fn.self l.initial.table l.initial.out) (fast l.row.to l.table l.out)
+    × KeepsAlpha g.row.TAG l.row.before l.row.to.last
 
-abbrev pub decreases-loop-now : goal.decreases-loop-now
-decreases-loop-now g l = l.far + 1 - l.now.taken
+abbrev pub decreases-loop-row : goal.decreases-loop-row
+decreases-loop-row g l = l.far + 1 - l.row.to.taken

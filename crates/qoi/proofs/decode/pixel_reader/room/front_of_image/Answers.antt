@@ -4,7 +4,7 @@ use Rattle.std.proofs.lemmas.List.{length-take-le}
 use lib.Seq.{take-append_seam}
 use Rattle.std.specs.Prelude.{IfOk}
 use Rattle.qoi.specs.inner.Chunks.{TakesChunks}
-use Rattle.qoi.specs.inner.Filling.{filling}
+use Rattle.qoi.specs.inner.Filling.{reached, filling}
 use Rattle.qoi.proofs.Results.{if_ok_of}
 use Rattle.qoi.proofs.decoding.Progress.{fillable_whole}
 use Rattle.qoi.proofs.decode.pixel_reader.room.front_of_image.Goals as goal
@@ -18,7 +18,7 @@ returns-clause-read g c =
     let size : c.args.size ≡ length out = omega (arith, c.some_chunks.auto.out, length-take-le c.args.size c.args.out.now c.requires.within) in
     let front = ap (λ k. take k (out ++ drop c.args.size c.args.out.now)) size ∙ take-append_seam out (drop c.args.size c.args.out.now) in
     subst (λ z. IfOk c.some_chunks.result (λ now. TakesChunks g.row.F g.row.N true (g.R.Chunks.ahead c.args.reader.now) (g.R.Chunks.ahead c.some_chunks.new.self)
-    (filling c.args.table.now c.args.last (take c.args.size c.args.out.now) 0) (filling c.some_chunks.new.table now.last z now.at))) (sym front) c.some_chunks.ensures.read
+    (filling c.args.table.now (reached c.args.last 0) (take c.args.size c.args.out.now)) (filling c.some_chunks.new.table now z))) (sym front) c.some_chunks.ensures.read
 
 pub returns-clause-below : goal.returns-clause-below
 returns-clause-below g c =

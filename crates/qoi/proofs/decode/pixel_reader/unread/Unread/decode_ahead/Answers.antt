@@ -49,7 +49,7 @@ returns-then-self-gt-DECODED_AHEAD-clause-step g c =
     let front = length-take-le c.args.room out (omega (arith, within, c.front_of_image-front.auto.out)) in
     subst (λ z. IsUnread g.row.F g.row.N n start (g.R.Chunks.ahead c.front_of_image-front.new.reader) given
     (record c.args.self.now { table = c.front_of_image-front.new.table; last = now.last; bytes = z; from = 0; to = now.at; undecoded = c.args.self.now.undecoded - now.at })) (take-append-drop c.args.room out)
-    (kept_read (take c.args.room out) (drop c.args.room out) now.at c.requires.channels h c.requires.none l (c.in-Ok.ensures.read.goes_on.between l.gone _ _ l.before)
+    (kept_read (take c.args.room out) (drop c.args.room out) c.requires.channels h c.requires.none l (c.in-Ok.ensures.read.goes_on.between l.gone _ _ l.before)
     (omega (arith, front, c.in-Ok.ensures.below)) (omega (arith, front, c.if-self-gt-DECODED_AHEAD.true, c.requires.room.1))))
     ((omega arith, omega (arith, c.in-Ok.ensures.below, c.requires.room.1)), (whole, pixels.1, pixels.2, λ some. absurd (omega (arith, some, c.requires.none))))
     (omega (arith, c.requires.none, c.in-Ok.ensures.below, c.if-self-gt-DECODED_AHEAD.true, c.requires.room.1)) refl

@@ -32,7 +32,7 @@ returns-clause-step g c =
     record {
       read = λ n start given h.
           let l = front_lent c.args.self.now out c.requires.channels h same c.requires.asks.fits (omega (arith, long)) in
-          long_read c.some_chunks.new.out _ _ c.requires.channels h same l (c.in-Ok.ensures.read.goes_on.between l.gone _ _ l.before)
+          long_read c.some_chunks.new.out _ c.requires.channels h same l (c.in-Ok.ensures.read.goes_on.between l.gone _ _ l.before)
           (c.in-Ok.ensures.read.below refl (omega (arith, most, long))) (omega (arith, size, most.0, c.requires.asks.fits, same));
       within = search rules;
       pixels = (c.requires.asks.pixels.0, (whole, pixels.1, pixels.2, λ some. absurd (omega (arith, some, same))));

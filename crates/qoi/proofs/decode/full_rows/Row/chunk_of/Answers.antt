@@ -7,12 +7,12 @@ use Rattle.qoi.proofs.format.WholePixels.{by_channels, take_whole}
 use Rattle.qoi.proofs.decoding.FilledBuffer.{block_fits}
 use Rattle.qoi.proofs.decoding.FirstChunk.{decodes_rgb, decodes_rgba}
 use Rattle.qoi.proofs.decoding.FastSteps.{in_vector, fast_step}
-use Rattle.qoi.proofs.decode.fast.Progress.chunk_of.Goals as goal
+use Rattle.qoi.proofs.decode.full_rows.Row.chunk_of.Goals as goal
 
 pub returns-clause-step : goal.returns-clause-step
 returns-clause-step g c =
     let ahead = c.requires.ahead in
-    let now = c.args.self in
+    let now = c.args.self.to in
     let bytes = c.args.bytes.now in
     let is = ahead.three_or_four in
     let one = (in_vector g.row.N is).0 in

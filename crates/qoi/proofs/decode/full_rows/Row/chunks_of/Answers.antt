@@ -2,13 +2,13 @@
 use Rattle.std.proofs.Common.{arith}
 use Rattle.qoi.specs.inner.Filling.{fast, FastStep}
 use Rattle.qoi.proofs.decoding.FastSteps.{step_then, step_within}
-use Rattle.qoi.proofs.decode.fast.Progress.chunks_of.Given.{Over}
-use Rattle.qoi.proofs.decode.fast.Progress.chunks_of.Goals.{After-chunk_of-two}
-use Rattle.qoi.proofs.decode.fast.Progress.chunks_of.Goals as goal
+use Rattle.qoi.proofs.decode.full_rows.Row.chunks_of.Given.{Over}
+use Rattle.qoi.proofs.decode.full_rows.Row.chunks_of.Goals.{After-chunk_of-two}
+use Rattle.qoi.proofs.decode.full_rows.Row.chunks_of.Goals as goal
 
 -- two chunks
-two : (g : Over) (c : After-chunk_of-two g) → FastStep g.row.F g.row.N 10 8 c.args.bytes.now (fast c.args.self c.args.table.now c.args.out.now)
-    (fast c.chunk_of-two.result c.chunk_of-two.new.table c.chunk_of-two.new.out)
+two : (g : Over) (c : After-chunk_of-two g) → FastStep g.row.F g.row.N 10 8 c.args.bytes.now (fast c.args.self.to c.args.table.now c.args.out.now)
+    (fast c.chunk_of-two.result.to c.chunk_of-two.new.table c.chunk_of-two.new.out)
 two g c = step_then c.chunk_of-one.ensures.step c.chunk_of-two.ensures.step (omega arith) (omega arith)
 
 pub returns-then-one-clause-step : goal.returns-then-one-clause-step
