@@ -1,5 +1,5 @@
 -- What a refusal says of bytes in memory.
-use Rattle.std.proofs.Common.{◌≡◌, ◌⊎◌, ℕ, List, drop, Bool, true, false, IsTrue, Option, Some, Ok, Err, inl, inr, refl, sym, subst}
+use Rattle.std.proofs.Common.{◌≡◌, ℕ, List, drop, Bool, true, false, IsTrue, Option, Some, Ok, Err, inl, inr, refl, sym, subst}
 use Rattle.qoi.specs.declared.error.Error.{Error}
 use Rattle.qoi.specs.declared.error.Error.TheVariants.{UnexpectedBufferEnd, InvalidPadding}
 use Rattle.qoi.specs.declared.header.Header.{Header}
