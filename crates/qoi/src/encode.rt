@@ -22,6 +22,7 @@ mod carry;
 mod chunks;
 mod coder;
 pub(crate) mod fresh;
+mod full;
 mod last_pixel;
 mod marked;
 mod pairs;

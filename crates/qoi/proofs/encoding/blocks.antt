@@ -5,6 +5,7 @@ pub mod BlockStep
 pub mod BlockWritten
 pub mod FourFours
 pub mod FrontBlock
+pub mod FullBlock
 pub mod LastCount
 pub mod OpaqueBlock
 pub mod PackedBlock

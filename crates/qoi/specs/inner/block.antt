@@ -4,6 +4,7 @@ pub mod Block
 pub mod Bytes
 pub mod Counting
 pub mod Each
+pub mod Full
 pub mod LaneVectors
 pub mod Lanes
 pub mod Marks

@@ -33,7 +33,7 @@ use crate::encode::block::planes::{Planes, Words, make_planes};
 use crate::encode::block::positions::{blanks, index_positions, put_block, store_places};
 use crate::encode::block::reading::first_sixteen;
 use crate::encode::block::single_repeats::name_single;
-use crate::encode::block::spelling::{Spelled, spell_block};
+use crate::encode::block::spelling::{Spelled, are_full, spell_block, spell_full};
 use crate::encode::block::steps::{Changes, find_changes};
 use crate::encode::block::storing::store_sixteen;
 use crate::encode::carry::Carry;
@@ -141,6 +141,28 @@ impl Block {
         }
     }
 
+    // As `spell`, but faster if an RGBA chunk gives each pixel.
+    #[inline(always)]
+    fn spell_changing<const N: usize, const STYLE: u8>(
+        self,
+        stands: u8x16,
+        places: u8x16,
+        carry: Carry<N>,
+    ) -> Spelled
+        ensures { (s : State) → IsPixel s.last → s.last ≡ last_pixel carry.entry.before
+            → ChangesFrom carry.entry.before (block_pixels self.words) self.changes
+            → s.carry ≡ carry.entry.count
+            → (style_of STYLE ≡ Places → s.placed ≡ carry.entry.placed)
+            → stands ≡ map mask (stand_tests s.held (block_pixels self.words))
+            → places ≡ map hash (block_pixels self.words)
+            → HasSpelled (style_of STYLE) s (block_pixels self.words) result }
+    {
+        if are_full(self.changes.alpha, stands) {
+            return spell_full(self.changes.rep, self.planes.r);
+        }
+        self.spell::<N, STYLE>(stands, places, carry)
+    }
+
     // What is carried after the block's chunks.
     #[inline(always)]
     fn carry<const N: usize>(self, style: Style, x: Spelled, stands: u8x16) -> Carry<N>
@@ -165,11 +187,9 @@ impl Block {
     }
 }
 
-/// Appends the chunks of a block that doesn't repeat whole, but for the repeats at its end. Returns
-/// what is carried then. Each loop that calls it has a function of its own, which the compiler
-/// inlines there.
+// As `write_block`, for any block.
 #[inline]
-pub(super) fn write_block<'p, const N: usize, const STYLE: u8, const ROOM: usize>(
+fn write_any<'p, const N: usize, const STYLE: u8, const ROOM: usize>(
     table: &mut PixelTable,
     piece: OpenPiece<'p, ROOM>,
     block: Block,
@@ -191,6 +211,62 @@ pub(super) fn write_block<'p, const N: usize, const STYLE: u8, const ROOM: usize
     let stands = put_block(table, &bytes[ROOM - 16..], block.words);
     let x = block.spell::<N, STYLE>(stands, places, carry);
     let start = carry.run_end(end, x.rep.to_array()[0]);
-    let end = store_sixteen::<N>(bytes, start, x, block.planes);
+    let end = store_sixteen::<N>(bytes, start, x, block);
     (block.carry(style, x, stands), Piece { bytes, end })
+}
+
+// As `write_block`, but faster for a block of which an RGBA chunk gives each pixel.
+//
+// Index positions are taken from the vector one by one, which takes longer than to read them back
+// from memory. But then the table's stores keep pace with its reads: where a read runs ahead of a
+// store to the same position, the processor does both and all after them again.
+#[inline]
+fn write_changing<'p, const N: usize, const STYLE: u8, const ROOM: usize>(
+    table: &mut PixelTable,
+    piece: OpenPiece<'p, ROOM>,
+    block: Block,
+    carry: Carry<N>,
+) -> (Carry<N>, Piece<'p, ROOM>)
+    requires { N ≡ 3 → AreOpaque (block_pixels block.words) }
+    ensures { (ahead : List ℕ) (n : ℕ) (rest more : List RgbaPixel)
+        → FitsBlock (style_of STYLE) table.old carry.entry.before (block_pixels block.words)
+        block.changes
+        → InBlocks (style_of STYLE) ahead n (block_pixels block.words ++ rest) more
+        table.old carry.entry (kept_bytes piece.entry.piece)
+        → InBlocks (style_of STYLE) ahead n rest more table.new result.0 (kept_bytes result.1) }
+{
+    let style = style_of::<STYLE>();
+    let Piece { bytes, end } = piece.piece;
+    let places = index_positions(block.planes);
+    carry.store_run(style, bytes, end);
+    let stands = put_block(table, &places.to_array(), block.words);
+    let x = block.spell_changing::<N, STYLE>(stands, places, carry);
+    let start = carry.run_end(end, x.rep.to_array()[0]);
+    let end = store_sixteen::<N>(bytes, start, x, block);
+    (block.carry(style, x, stands), Piece { bytes, end })
+}
+
+/// Appends the chunks of a block that doesn't repeat whole, but for the repeats at its end. Returns
+/// what is carried then. Each loop that calls it has a function of its own, which the compiler
+/// inlines there. If `FULL`, an
+/// RGBA chunk is expected to give each pixel.
+#[inline]
+pub(super) fn write_block<'p, const N: usize, const STYLE: u8, const ROOM: usize, const FULL: bool>(
+    table: &mut PixelTable,
+    piece: OpenPiece<'p, ROOM>,
+    block: Block,
+    carry: Carry<N>,
+) -> (Carry<N>, Piece<'p, ROOM>)
+    requires { N ≡ 3 → AreOpaque (block_pixels block.words) }
+    ensures { (ahead : List ℕ) (n : ℕ) (rest more : List RgbaPixel)
+        → FitsBlock (style_of STYLE) table.old carry.entry.before (block_pixels block.words)
+        block.changes
+        → InBlocks (style_of STYLE) ahead n (block_pixels block.words ++ rest) more
+        table.old carry.entry (kept_bytes piece.entry.piece)
+        → InBlocks (style_of STYLE) ahead n rest more table.new result.0 (kept_bytes result.1) }
+{
+    if FULL {
+        return write_changing::<N, STYLE, ROOM>(table, piece, block, carry);
+    }
+    write_any::<N, STYLE, ROOM>(table, piece, block, carry)
 }

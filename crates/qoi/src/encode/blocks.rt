@@ -17,6 +17,7 @@ use crate::consts::QOI_RUN_MAX;
 use crate::encode::block::planes::Planes;
 use crate::encode::block::{Block, write_block};
 use crate::encode::carry::{Carry, FRONT_CARRIED};
+use crate::encode::full::begin_full;
 use crate::encode::coder::{Coder, style_of};
 use crate::encode::last_pixel::LastPixel;
 use crate::encode::marked::{goes_by_marks, write_marked};
@@ -167,7 +168,7 @@ fn write_marked_block<'a, 'p, const N: usize, const STYLE: u8, const ROOM: usize
 // a pixel may be given by another index position than its own. Returns the rest, and what is
 // carried.
 #[inline(always)]
-fn write_front<'a, 'p, const N: usize, const STYLE: u8, const ROOM: usize>(
+fn write_front<'a, 'p, const N: usize, const STYLE: u8, const ROOM: usize, const FULL: bool>(
     table: &mut PixelTable,
     piece: OpenPiece<'p, ROOM>,
     front: FrontBlock<'a, N>,
@@ -193,17 +194,17 @@ fn write_front<'a, 'p, const N: usize, const STYLE: u8, const ROOM: usize>(
     if block.may_miss_blank(style_of::<STYLE>(), table) {
         return write_group::<N, STYLE, ROOM>(table, piece, front, carry);
     }
-    let (after, piece) = write_block::<N, STYLE, ROOM>(table, piece, block, carry);
+    let (after, piece) = write_block::<N, STYLE, ROOM, FULL>(table, piece, block, carry);
     (front.raw.skip(16), after, piece)
 }
 
 // Writes by blocks until the piece is full or fewer pixels than a block has are left. Returns the
 // rest, and what is carried.
 //
-// Each style has a loop of its own. The piece is a value, so that the compiler keeps its fields in
-// registers.
+// Each style has a loop of its own, and so have blocks of which an RGBA chunk is expected to give
+// each pixel. The piece is a value, so that the compiler keeps its fields in registers.
 #[inline(always)]
-fn fill<'a, 'p, const N: usize, const STYLE: u8, const ROOM: usize>(
+fn fill_by<'a, 'p, const N: usize, const STYLE: u8, const ROOM: usize, const FULL: bool>(
     table: &mut PixelTable,
     piece: OpenPiece<'p, ROOM>,
     raw: Pixels<'a, N>,
@@ -222,7 +223,7 @@ fn fill<'a, 'p, const N: usize, const STYLE: u8, const ROOM: usize>(
     let mut rest = raw;
     let mut now = carry;
     while !piece.is_full() && rest.has_block() {
-        (rest, now, piece) = write_front::<N, STYLE, ROOM>(
+        (rest, now, piece) = write_front::<N, STYLE, ROOM, FULL>(
             table,
             piece.open(),
             rest.front_of(raw),
@@ -230,6 +231,50 @@ fn fill<'a, 'p, const N: usize, const STYLE: u8, const ROOM: usize>(
         );
     }
     (rest, now, piece)
+}
+
+// As `fill`, where RGBA chunks are expected. It isn't inlined: the other loop would be slower.
+#[inline(never)]
+fn fill_full<'a, 'p, const N: usize, const STYLE: u8, const ROOM: usize>(
+    table: &mut PixelTable,
+    piece: OpenPiece<'p, ROOM>,
+    raw: Pixels<'a, N>,
+    carry: Carry<N>,
+) -> (Pixels<'a, N>, Carry<N>, Piece<'p, ROOM>)
+    requires { 16 ≤ length (pixels_in raw) }
+    ensures less { length (pixels_in result.0) < length (pixels_in raw.entry) }
+    ensures written { (ahead : List ℕ) (n : ℕ) (more : List RgbaPixel)
+        → length (pixels_in raw.entry) ≤ n
+        → InBlocks (style_of STYLE) ahead n (pixels_in raw.entry) more
+        table.old carry.entry (kept_bytes piece.entry.piece)
+        → InBlocks (style_of STYLE) ahead n (pixels_in result.0) more
+        table.new result.1 (kept_bytes result.2) }
+{
+    fill_by::<N, STYLE, ROOM, true>(table, piece, raw, carry)
+}
+
+// Writes by blocks until the piece is full or fewer pixels than a block has are left. Returns the
+// rest, and what is carried.
+#[inline(always)]
+fn fill<'a, 'p, const N: usize, const STYLE: u8, const ROOM: usize>(
+    table: &mut PixelTable,
+    piece: OpenPiece<'p, ROOM>,
+    raw: Pixels<'a, N>,
+    carry: Carry<N>,
+) -> (Pixels<'a, N>, Carry<N>, Piece<'p, ROOM>)
+    requires { 16 ≤ length (pixels_in raw) }
+    ensures less { length (pixels_in result.0) < length (pixels_in raw.entry) }
+    ensures written { (ahead : List ℕ) (n : ℕ) (more : List RgbaPixel)
+        → length (pixels_in raw.entry) ≤ n
+        → InBlocks (style_of STYLE) ahead n (pixels_in raw.entry) more
+        table.old carry.entry (kept_bytes piece.entry.piece)
+        → InBlocks (style_of STYLE) ahead n (pixels_in result.0) more
+        table.new result.1 (kept_bytes result.2) }
+{
+    if begin_full(table, carry.before.last(), raw) {
+        return fill_full::<N, STYLE, ROOM>(table, piece, raw, carry);
+    }
+    fill_by::<N, STYLE, ROOM, false>(table, piece, raw, carry)
 }
 
 /// Writes what is at the front: blocks, until the piece is full or fewer pixels than a block has

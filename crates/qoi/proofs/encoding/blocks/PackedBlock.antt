@@ -21,7 +21,7 @@ pub record FourNumbers (xs : List ℕ) : Type 0 where
   pub packed : xs ≡ map word (pixels_of_words xs)
 
 -- four numbers of 32 bits are four pixels
-four_numbers : (xs : List ℕ) → AreFour xs → FourNumbers xs
+pub four_numbers : (xs : List ℕ) → AreFour xs → FourNumbers xs
 four_numbers (a ∷ b ∷ c ∷ d ∷ []) f = record {
   long = refl;
   are = (number_pixel a (f.1 0), (number_pixel b (f.1 1), (number_pixel c (f.1 2), (number_pixel d (f.1 3), tt))));

@@ -25,7 +25,7 @@ first_byte false false false true h s w lt = omega arith
 first_byte false false false false h s w lt = omega arith
 
 -- a fresh lane's byte stays
-fresh_stays : (h f : ℕ) (b q : Bool) → h < 64 → f < 256 → min f (bit_or h (255 - bit_and (bit_and 0 (mask b)) (255 - mask q))) ≡ f
+pub fresh_stays : (h f : ℕ) (b q : Bool) → h < 64 → f < 256 → min f (bit_or h (255 - bit_and (bit_and 0 (mask b)) (255 - mask q))) ≡ f
 fresh_stays h f true true lh lf = (let o : bit_or h 255 ≡ 255 = or_mask h false (omega arith) in omega arith)
 fresh_stays h f true false lh lf = (let o : bit_or h 255 ≡ 255 = or_mask h false (omega arith) in omega arith)
 fresh_stays h f false true lh lf = (let o : bit_or h 255 ≡ 255 = or_mask h false (omega arith) in omega arith)

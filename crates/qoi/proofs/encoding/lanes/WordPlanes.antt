@@ -35,7 +35,7 @@ pub one_more : (n : ℕ) (p : RgbaPixel) (i : IsPixel p) (r : ℕ) → digits_l 
 one_more n p i r = λ j. low p i r j ∷ second p i r j ∷ third p i r j ∷ fourth p i r j ∷ digits_l 256 n (above p i r j)
 
 -- the bytes of four packed pixels
-four_bytes : (p q s t : RgbaPixel) → IsPixel p → IsPixel q → IsPixel s → IsPixel t
+pub four_bytes : (p q s t : RgbaPixel) → IsPixel p → IsPixel q → IsPixel s → IsPixel t
     → digits_l 256 16 (number_l 4294967296 (word p ∷ word q ∷ word s ∷ word t ∷ []))
     ≡ p.r ∷ p.g ∷ p.b ∷ p.a ∷ q.r ∷ q.g ∷ q.b ∷ q.a ∷ s.r ∷ s.g ∷ s.b ∷ s.a ∷ t.r ∷ t.g ∷ t.b ∷ t.a ∷ []
 four_bytes p q s t ip iq is it =

@@ -1,17 +1,20 @@
 //! The chunks of sixteen pixels, a lane for each: first and second bytes, and sizes (QOI
 //! specification 1.0, "Chunks"). A repeat has a run's byte, and size 0 unless a fresh pixel follows.
-ghost use Rattle.std.specs.Prelude.{◌≡◌, ◌<◌, ℕ, List, map};
-ghost use Rattle.qoi.specs.Qoi.{RgbaPixel, run_max, hash};
+ghost use Rattle.std.specs.Prelude.{◌≡◌, ◌<◌, ℕ, List, map, IsTrue};
+ghost use Rattle.qoi.specs.Qoi.{RgbaPixel, IsPixel, run_max, hash};
+ghost use Rattle.qoi.specs.declared.types.Style.{Style};
 ghost use Rattle.qoi.specs.declared.types.Style.TheVariants.{Reference};
 ghost use Rattle.qoi.specs.inner.block.Bytes.{firsts, sizes};
 ghost use Rattle.qoi.specs.inner.block.Counting.{counts};
+ghost use Rattle.qoi.specs.inner.block.Full.{AreFull};
 ghost use Rattle.qoi.specs.inner.block.LaneVectors.{AreBy, AreSteps, AreAsDiff, AreAsLuma, AreFits, AreChanges};
-ghost use Rattle.qoi.specs.inner.block.Lanes.{Lane, mask, diff_of, as_diff, same_alpha_mask, diff_mask, luma_mask, stand_mask, first_of, second_of, size_of};
+ghost use Rattle.qoi.specs.inner.block.Lanes.{Lane, mask, step_of, diff_of, as_diff, same_alpha_mask, diff_mask, luma_mask, stand_mask, first_of, second_of, size_of};
+ghost use Rattle.qoi.specs.inner.block.Planes.{AreSixteen, reds};
 ghost use Rattle.qoi.specs.inner.block.Spelling.{IsBlock, HasSpelled};
 ghost use Rattle.qoi.specs.inner.block.State.{State, lanes_of, is_rep};
 
 use crate::encode::block::counting::count_repeats;
-use crate::encode::block::lanes::{greater, lesser, where_is};
+use crate::encode::block::lanes::{all_set, greater, lesser, where_is};
 use crate::encode::block::steps::{Changes, Steps};
 use std::simd::prelude::*;
 
@@ -24,7 +27,8 @@ pub(in crate::encode) struct Fits {
 }
 
 /// Of each of sixteen pixels: whether it repeats, 255 or 0; its chunk's first byte, the second one,
-/// if it has one, and its size; and how many repeats end with it.
+/// if it has one, and its size; and how many repeats end with it. `full`, whether it is known that an
+/// RGBA chunk gives each.
 #[derive(Clone, Copy)]
 pub(in crate::encode) struct Spelled {
     pub(in crate::encode) rep: u8x16,
@@ -32,6 +36,7 @@ pub(in crate::encode) struct Spelled {
     pub(in crate::encode) second: u8x16,
     pub(in crate::encode) size: u8x16,
     pub(in crate::encode) count: u8x16,
+    pub(in crate::encode) full: bool,
 }
 
 // Steps as a difference chunk has them: with 2 added.
@@ -185,5 +190,34 @@ pub(in crate::encode) fn spell_block(
         second: second_bytes(as_luma, red, fits.luma),
         size: with_none(sizes_of(fits, stands), rep),
         count,
+        full: false,
+    }
+}
+
+/// Whether an RGBA chunk gives each pixel: its alpha changes, and it doesn't stand at its index
+/// position.
+#[inline(always)]
+pub(in crate::encode) fn are_full(alpha: u8x16, stands: u8x16) -> bool
+    ensures { (ls : List Lane) → AreBy ls (λ l. (step_of l).a) alpha → AreBy ls stand_mask stands
+        → IsTrue result → AreFull ls }
+{
+    all_set(!(where_is(alpha, 0) | stands))
+}
+
+/// Spells out sixteen such pixels. They are constants but for the red that is passed, and for `rep`,
+/// of which no lane is set.
+#[inline(always)]
+pub(in crate::encode) fn spell_full(rep: u8x16, red: u8x16) -> Spelled
+    ensures { (style : Style) (s : State) (ps : List RgbaPixel) → AreSixteen ps → IsPixel s.last
+        → rep ≡ map (λ l. mask (is_rep l)) (lanes_of s.held s.last ps) → red ≡ reds ps
+        → AreFull (lanes_of s.held s.last ps) → HasSpelled style s ps result }
+{
+    Spelled {
+        rep,
+        first: u8x16::splat(0xff),
+        second: red,
+        size: u8x16::splat(5),
+        count: u8x16::splat(0),
+        full: true,
     }
 }

@@ -1,19 +1,22 @@
 //! The chunks of sixteen pixels, stored one after the other.
 ghost use Rattle.std.specs.Prelude.{◌≡◌, ◌≢◌, ◌+◌, ◌≤◌, ◌<◌, ℕ, List, ◌++◌, length, take, slice_index, IsTrue};
-ghost use Rattle.qoi.specs.Qoi.{RgbaPixel, IsPixel, run_max};
+ghost use Rattle.qoi.specs.Qoi.{IsPixel, run_max};
 ghost use Rattle.qoi.specs.Raw.{IsChannels};
 ghost use Rattle.qoi.specs.declared.types.Style.{Style};
-ghost use Rattle.qoi.specs.inner.block.Planes.{AreSixteen, ArePlanes};
+ghost use Rattle.qoi.specs.inner.block.Planes.{block_pixels};
 ghost use Rattle.qoi.specs.inner.block.Spelling.{HasSpelled};
 ghost use Rattle.qoi.specs.inner.block.State.{State, block_bytes};
 
 mod each;
+mod full;
 mod shuffled;
 
+use crate::encode::block::Block;
 use crate::encode::block::lanes::{all_set, where_is};
 use crate::encode::block::planes::{Planes, make_words};
 use crate::encode::block::spelling::Spelled;
 use crate::encode::block::storing::each::store_each;
+use crate::encode::block::storing::full::store_full;
 use crate::encode::block::storing::shuffled::store_shuffled;
 use std::simd::prelude::*;
 
@@ -32,17 +35,21 @@ pub(in crate::encode) fn store_sixteen<const N: usize>(
     out: &mut [u8],
     at: usize,
     x: Spelled,
-    p: Planes,
+    block: Block,
 ) -> usize
     requires channels { IsChannels N }
     requires room { at + 83 ≤ length out.old }
     ensures same { length out.new ≡ length out.old }
     ensures near { (at ≤ result) × (result ≤ at + 80) }
-    ensures written { (style : Style) (s : State) (ps : List RgbaPixel) → AreSixteen ps
-        → IsPixel s.last → ArePlanes ps p → HasSpelled style s ps x → s.carry + 16 < run_max
+    ensures written { (style : Style) (s : State) → IsPixel s.last
+        → HasSpelled style s (block_pixels block.words) x → s.carry + 16 < run_max
         → ((k : ℕ) → slice_index x.size k ≤ N + 1)
-        → take result out.new ≡ take at out.old ++ block_bytes style s ps }
+        → take result out.new ≡ take at out.old ++ block_bytes style s (block_pixels block.words) }
 {
+    if x.full {
+        return store_full(out, at, block.words);
+    }
+    let p = block.planes;
     // A lane's four bytes: the first, the second (a luma's, or red), green and blue.
     let words = make_words(Planes {
         r: x.first,

@@ -9,13 +9,14 @@ use Rattle.qoi.specs.inner.block.State.{State}
 use Rattle.qoi.specs.inner.block.Planes.{block_pixels}
 use Rattle.qoi.specs.inner.block.Spelling.{IsBlock, HasSpelled}
 use Rattle.qoi.proofs.encoding.blocks.PackedBlock.{block_sixteen}
+use Rattle.qoi.proofs.encoding.blocks.SpelledBlock.{stands_by}
 use Rattle.qoi.proofs.encode.block.Block.spell.Goals as goal
 
 -- in style Tight a block is spelled out as in style Reference
 plain : (style : Style) (s : State) (ps : List RgbaPixel) (x : Spelled) → (style ≡ Reference) ⊎ (style ≡ Tight) → HasSpelled Reference s ps x → HasSpelled style s ps x
 plain style s ps x (inl e) h = subst (λ z. HasSpelled z s ps x) (sym e) h
 plain style s ps x (inr e) h = subst (λ z. HasSpelled z s ps x) (sym e)
-    (record { rep_is = h.rep_is; first_is = h.first_is; second_is = h.second_is; size_is = h.size_is; count_is = h.count_is })
+    (record { rep_is = h.rep_is; first_is = h.first_is; second_is = h.second_is; size_is = h.size_is; count_is = h.count_is; full_is = h.full_is })
 
 pub returns-in-Reference : goal.returns-in-Reference
 returns-in-Reference g c = λ s last before changes carry placed stands places.

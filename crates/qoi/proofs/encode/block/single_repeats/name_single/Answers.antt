@@ -23,4 +23,5 @@ returns c = λ s ps sixteen placed stands places h.
       second_is = h.second_is;
       size_is = h.size_is;
       count_is = h.count_is;
+      full_is = h.full_is;
     }

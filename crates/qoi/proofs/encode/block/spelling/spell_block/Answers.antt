@@ -33,4 +33,5 @@ returns c = λ s ps carry changes b.
       second_is = (c.second_bytes.ensures ls as_luma red fits.luma_is).is;
       size_is = c.with_none.ensures ls size rep;
       count_is = count;
+      full_is = λ no. cc no;
     }

@@ -9,9 +9,11 @@ use Rattle.qoi.specs.Qoi.{RgbaPixel, IsPixel, run_max}
 use Rattle.qoi.specs.inner.block.Lanes.{Lane}
 use Rattle.qoi.specs.inner.block.State.{State, lanes_of, block_bytes}
 use Rattle.qoi.specs.inner.block.Shuffled.{HaveCodes, HasCode}
-use Rattle.qoi.specs.inner.block.Planes.{AreSixteen, ArePlanes, AreBlockWords}
+use Rattle.qoi.specs.inner.block.Planes.{AreSixteen, ArePlanes, AreBlockWords, block_pixels}
 use Rattle.qoi.specs.inner.block.Spelling.{HasSpelled}
 use Rattle.qoi.specs.inner.block.Storing.{sixteen_chunks}
+use Rattle.qoi.proofs.encoding.blocks.FullBlock.{full_written}
+use Rattle.qoi.proofs.encoding.blocks.PackedBlock.{block_sixteen}
 use Rattle.qoi.proofs.encoding.blocks.ReferenceBytes.{chunks_of}
 use Rattle.qoi.proofs.encoding.lanes.LaneTests.{themselves}
 use Rattle.qoi.proofs.encoding.stores.SizeCodes.{sizes_coded}
@@ -49,12 +51,25 @@ have_codes style s ps x sixteen spelled none = λ k.
     let is = ap (λ z. slice_index z k) spelled.size_is in
     subst HasCode (sym is) (sizes_coded s.held s.last ps sixteen.are k (λ e. none k (is ∙ e)))
 
+pub returns-then-x-clause-written : goal.returns-then-x-clause-written
+returns-then-x-clause-written g c = λ style s last spelled carry few.
+    let words = c.args.block.words in
+    let sixteen = block_sixteen words c.args.block.packed in
+    c.store_full.ensures.written
+    ∙ ap (λ z. take c.args.at c.args.out.now ++ z) (sym (full_written style s (block_pixels words) last sixteen.are (spelled.full_is c.if-x.true)))
+
 pub returns-then-are_short-clause-written : goal.returns-then-are_short-clause-written
-returns-then-are_short-clause-written g c = λ style s ps sixteen last planes spelled carry few.
-    c.store_shuffled.ensures.written c.args.p.a (have_codes style s ps c.args.x sixteen spelled (c.are_short.ensures c.if-are_short.true few))
-    ∙ ap (λ z. take c.args.at c.args.out.now ++ z) (block_is style s ps c.args.x c.args.p c.make_words-words.result sixteen last planes spelled carry c.make_words-words.ensures)
+returns-then-are_short-clause-written g c = λ style s last spelled carry few.
+    let block = c.args.block in
+    let ps = block_pixels block.words in
+    let sixteen = block_sixteen block.words block.packed in
+    c.store_shuffled.ensures.written block.planes.a (have_codes style s ps c.args.x sixteen spelled (c.are_short.ensures c.if-are_short.true few))
+    ∙ ap (λ z. take c.args.at c.args.out.now ++ z) (block_is style s ps c.args.x block.planes c.make_words-words.result sixteen last block.planes_are spelled carry c.make_words-words.ensures)
 
 pub returns-else-are_short-clause-written : goal.returns-else-are_short-clause-written
-returns-else-are_short-clause-written g c = λ style s ps sixteen last planes spelled carry few.
+returns-else-are_short-clause-written g c = λ style s last spelled carry few.
+    let block = c.args.block in
+    let ps = block_pixels block.words in
+    let sixteen = block_sixteen block.words block.packed in
     c.store_each.ensures.written (λ k. omega (arith, few k, c.requires.channels))
-    ∙ ap (λ z. take c.args.at c.args.out.now ++ z) (block_is style s ps c.args.x c.args.p c.make_words-words.result sixteen last planes spelled carry c.make_words-words.ensures)
+    ∙ ap (λ z. take c.args.at c.args.out.now ++ z) (block_is style s ps c.args.x block.planes c.make_words-words.result sixteen last block.planes_are spelled carry c.make_words-words.ensures)

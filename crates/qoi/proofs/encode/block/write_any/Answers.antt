@@ -23,7 +23,7 @@ use Rattle.qoi.proofs.encoding.blocks.PackedBlock.{block_sixteen, block_words}
 use Rattle.qoi.proofs.encoding.lanes.RereadLanes.{read_back, end_stays}
 use Rattle.qoi.proofs.encoding.stores.StoredBlock.{sizes_few}
 use Rattle.qoi.proofs.encoding.blocks.OpaqueBlock.{sizes_opaque}
-use Rattle.qoi.proofs.encode.block.write_block.Goals as goal
+use Rattle.qoi.proofs.encode.block.write_any.Goals as goal
 
 -- a chunk has at most as many bytes as a pixel has channels, and one more
 sizes_in : (n : ℕ) (s : State) (q : RgbaPixel) (ps : List RgbaPixel) (xs : List ℕ) → IsChannels n → (n ≡ 3 → AreOpaque ps) → (n ≡ 3 → q.a ≡ 255)
@@ -89,5 +89,5 @@ returns g c = λ ahead n rest more fits b.
     (subst (λ q. all_repeat q all ≡ false) (sym q_is) fits.mixed) planes now put.holds
     (λ t held same tight. fits.no_blank tight t (subst (Holds c.args.table.now) (sym held) b.state.table_is) (same ∙ b.state.last_is))
     c.carry.ensures.before c.carry.ensures.count (λ is. c.carry.ensures.placed (stand_tests s.held all) (c.style_of-style.ensures ∙ is) put.stands_are)
-    (λ t same last_is few. c.store_sixteen-end.ensures.written style t all sixteen (subst IsPixel (sym last_is) b.to_write.before_is) planes same (omega arith)
+    (λ t same last_is few. c.store_sixteen-end.ensures.written style t (subst IsPixel (sym last_is) b.to_write.before_is) same (omega arith)
     (sizes_in g.row.N t t.last all x.size carry.channels c.requires (λ three. ap (λ z. z.a) (last_is ∙ q_is) ∙ carry.opaque three) same.size_is))

@@ -1,0 +1,28 @@
+-- Four times four chunks.
+use Rattle.std.proofs.Common.{◌≡◌, ◌+◌, List, [], ◌∷◌, ◌++◌, take, refl, sym, ap, ◌∙◌, arith, append_assoc}
+use Rattle.qoi.specs.Qoi.{RgbaPixel}
+use Rattle.qoi.specs.inner.block.Full.{full_bytes}
+use Rattle.qoi.specs.inner.block.Planes.{pixels_of_words}
+use Rattle.qoi.proofs.encoding.stores.StoredParts.{four_stored}
+use Rattle.qoi.proofs.encode.block.storing.full.store_full.Goals as goal
+
+-- the chunks of pixels after others
+after : (ps qs : List RgbaPixel) → full_bytes (ps ++ qs) ≡ full_bytes ps ++ full_bytes qs
+after [] qs = refl
+after (p ∷ ps) qs = ap (λ z. 255 ∷ p.r ∷ p.g ∷ p.b ∷ p.a ∷ z) (after ps qs)
+
+pub returns-clause-written : goal.returns-clause-written
+returns-clause-written c =
+    let at = c.args.at in
+    let w = c.args.words in
+    let one = pixels_of_words w.one in
+    let two = pixels_of_words w.two in
+    let three = pixels_of_words w.three in
+    let four = pixels_of_words w.four in
+    four_stored at (at + 20) (at + 40) (at + 60) (at + 80)
+    c.args.out.now c.store_four_full.new.out c.store_four_full-2.new.out c.store_four_full-3.new.out c.store_four_full-4.new.out _ _ _ _
+    c.store_four_full.ensures.written (ap (λ n. take n c.store_four_full-2.new.out) (omega arith) ∙ c.store_four_full-2.ensures.written)
+    (ap (λ n. take n c.store_four_full-3.new.out) (omega arith) ∙ c.store_four_full-3.ensures.written)
+    (ap (λ n. take n c.store_four_full-4.new.out) (omega arith) ∙ c.store_four_full-4.ensures.written)
+    ∙ ap (λ z. take at c.args.out.now ++ z)
+    (sym (after one (two ++ (three ++ four)) ∙ ap (λ z. full_bytes one ++ z) (after two (three ++ four) ∙ ap (λ z. full_bytes two ++ z) (after three four))))
