@@ -2,7 +2,7 @@
 ghost use Rattle.std.specs.Prelude.{◌≡◌, ℕ, ◌*◌, ◌<◌, ◌≤◌, List, length, ◌⊎◌, Ok, Err, IsErrOf, IsOk, IsOkUnless, IfOk, IfErr};
 ghost use Rattle.qoi.specs.declared.header.Header.{Header};
 ghost use Rattle.qoi.specs.declared.encode.chunks.TheConstants.{FEW_BYTES};
-ghost use Rattle.qoi.specs.declared.encode.piece.TheConstants.{PAST, FULL_ROOM};
+ghost use Rattle.qoi.specs.declared.encode.piece.TheConstants.{SPARE, FULL_ROOM};
 ghost use Rattle.qoi.specs.declared.error.Error.{Error};
 ghost use Rattle.qoi.specs.declared.types.Channels.{Channels};
 ghost use Rattle.qoi.specs.declared.types.ColorSpace.{ColorSpace};
@@ -83,7 +83,7 @@ fn encode_image<W: Writer, const ROOM: usize>(
     header: &Header,
     data: &[u8],
 ) -> Result<usize>
-    requires piece { (2 * PAST ≤ ROOM) × (ROOM ≤ FULL_ROOM) }
+    requires piece { (2 * SPARE ≤ ROOM) × (ROOM ≤ FULL_ROOM) }
     requires valid { IsValid header.now }
     requires image { length «data».now ≡ image_byte_count header.now }
     requires room { max_file_len header.now ≤ W.room writer.old }

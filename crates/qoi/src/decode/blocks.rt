@@ -61,7 +61,7 @@ impl Progress {
         now
     }
 
-    // Decodes chunks while input and output have room ahead for `ROW` short ones and a full one.
+    // `chunks_ahead` from a state of the loop: in blocks if `ROW` is 8, else by `chunks_until`.
     #[inline(always)]
     fn chunks_in_room<const N: usize, const F: usize, const ROW: usize>(
         self,

@@ -265,7 +265,8 @@ impl Progress {
         }
     }
 
-    /// Decodes chunks while input and output have room ahead for `ROW` short ones and a full one.
+    /// Decodes chunks while input and output have room ahead for `ROW` short ones and a full one, up to
+    /// a run that has none.
     #[inline(always)]
     pub(super) fn chunks_until<const N: usize, const F: usize, const ROW: usize>(
         self,

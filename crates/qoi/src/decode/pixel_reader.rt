@@ -88,8 +88,8 @@ impl<R: Reader> Decoder<R> {
         }
     }
 
-    // `next_piece` once nothing is kept: asks the reader for the front of `out`, and returns how many
-    // bytes it has; the rest of `out`, and more, are kept. Not inlined: what `read` does for
+    // `next_piece` once nothing is kept: asks the reader for bytes, and returns how many are in `out`,
+    // maybe none; what it lacks, and more, is in `unread`. Not inlined: what `read` does for
     // bytes that are kept is then a few instructions.
     #[inline(never)]
     fn ask_reader(&mut self, unread: &mut Unread, out: &mut [u8]) -> PieceResult<usize>
@@ -268,7 +268,7 @@ impl<R: Reader> PixelReader<R> {
     }
 
     /// Gives back the decoder, whose reader is as it stands: behind the end marker if no bytes are
-    /// left, so that the decoder goes on there. Before that call `finish`, which takes the rest.
+    /// left, so that the decoder goes on there. Else call `finish` instead: it takes the rest.
     pub fn into_decoder(self) -> Decoder<R>
         ensures { result ≡ as_decoder self }
     {

@@ -114,9 +114,8 @@ pub trait Reader: Sized {
         ensures refused { IfErr result (RefusesIn conversion size in_memory
             (ahead self.old) (ahead self.new)) };
 
-    /// Decodes the next bytes of an image, while none are kept: into the front of `out`, and
-    /// returns how many; the rest of `out`, and more, are kept. With the last ones it takes the end
-    /// marker. After a refusal the error stands in `unread`.
+    /// Decodes an image's next bytes, while none are kept. Returns how many are in `out`, maybe none;
+    /// what it lacks, and more, goes to `unread`. With the last bytes it takes the end marker. After a refusal the error stands in `unread`.
     ///
     /// Only `PixelReader` can call it, and no other type can be a reader, since nobody else has an
     /// `Unread`.

@@ -17,8 +17,8 @@ use crate::consts::QOI_RUN_MAX;
 use crate::encode::block::planes::Planes;
 use crate::encode::block::{Block, write_block};
 use crate::encode::carry::{Carry, FRONT_CARRIED};
-use crate::encode::full::begin_full;
 use crate::encode::coder::{Coder, style_of};
+use crate::encode::full::begin_full;
 use crate::encode::last_pixel::LastPixel;
 use crate::encode::marked::{goes_by_marks, write_marked};
 use crate::encode::pairs::{go_by_pairs, write_pairs};
@@ -201,7 +201,7 @@ fn write_front<'a, 'p, const N: usize, const STYLE: u8, const ROOM: usize, const
 // Writes by blocks until the piece is full or fewer pixels than a block has are left. Returns the
 // rest, and what is carried.
 //
-// Each style has a loop of its own, and so have blocks of which an RGBA chunk is expected to give
+// Each style has a loop of its own, and another if `FULL`: where an RGBA chunk is expected to give
 // each pixel. The piece is a value, so that the compiler keeps its fields in registers.
 #[inline(always)]
 fn fill_by<'a, 'p, const N: usize, const STYLE: u8, const ROOM: usize, const FULL: bool>(
@@ -253,8 +253,8 @@ fn fill_full<'a, 'p, const N: usize, const STYLE: u8, const ROOM: usize>(
     fill_by::<N, STYLE, ROOM, true>(table, piece, raw, carry)
 }
 
-// Writes by blocks until the piece is full or fewer pixels than a block has are left. Returns the
-// rest, and what is carried.
+// `fill_by`, or `fill_full` if RGBA chunks give the first three pixels. Returns the rest, and what is
+// carried.
 #[inline(always)]
 fn fill<'a, 'p, const N: usize, const STYLE: u8, const ROOM: usize>(
     table: &mut PixelTable,

@@ -1,7 +1,7 @@
 //! The chunks of an image, through a piece to a writer (QOI specification 1.0, "Data"): all at once,
 //! or those of some raw bytes.
 ghost use Rattle.std.specs.Prelude.{◌≡◌, ℕ, ◌+◌, ◌-◌, ◌*◌, ◌/◌, ◌%◌, ◌<◌, ◌≤◌, List, length, take, IfOk, OnOk, IfErr};
-ghost use Rattle.qoi.specs.declared.encode.piece.TheConstants.{PAST, FULL_ROOM, FEW_ROOM};
+ghost use Rattle.qoi.specs.declared.encode.piece.TheConstants.{SPARE, FULL_ROOM, FEW_ROOM};
 ghost use Rattle.qoi.specs.declared.chunk.Chunk.{Chunk};
 ghost use Rattle.qoi.specs.Qoi.{channels_number, header_size, marker_size, header_bytes, file};
 ghost use Rattle.qoi.specs.Raw.{IsChannels, pixels_of};
@@ -36,7 +36,7 @@ fn write_blocks<'a, 'p, W: Writer, const N: usize, const STYLE: u8, const ROOM: 
     requires channels { IsChannels N }
     requires whole { length «data».now % N ≡ 0 }
     requires opaque { N ≡ 3 → pending.old.last.px.a ≡ 255 }
-    requires large { 2 * PAST ≤ ROOM }
+    requires large { 2 * SPARE ≤ ROOM }
     requires room { HasRoom (W.room writer.old) ROOM N (style_of STYLE) pending.old
         (kept_bytes piece.piece) «data».now }
     ensures stays { StaysIn N pending.old pending.new }
@@ -73,7 +73,7 @@ pub(super) fn write_whole<'a, 'p, W: Writer, const ROOM: usize>(
 ) -> Result<(&'a [u8], OpenPiece<'p, ROOM>)>
     requires whole { length «data».now % pixel_size pending.old ≡ 0 }
     requires opaque { pixel_size pending.old ≡ 3 → pending.old.last.px.a ≡ 255 }
-    requires large { 2 * PAST ≤ ROOM }
+    requires large { 2 * SPARE ≤ ROOM }
     requires room { HasRoom (W.room writer.old) ROOM (pixel_size pending.old)
         pending.old.style pending.old (kept_bytes piece.piece) «data».now }
     ensures stays { StaysIn (pixel_size pending.old) pending.old pending.new }
@@ -96,7 +96,7 @@ pub(super) fn write_whole<'a, 'p, W: Writer, const ROOM: usize>(
     }
 }
 
-// Writes an image's last pixels, fewer than a block has, into the piece.
+// Writes the repeats that wait and an image's last pixels, fewer than a block has, into the piece.
 #[inline(always)]
 fn write_rest<const N: usize, const ROOM: usize>(
     coder: Coder<N>,
@@ -107,7 +107,7 @@ fn write_rest<const N: usize, const ROOM: usize>(
     requires channels { IsChannels N }
     requires whole { length left.now % N ≡ 0 }
     requires few { length left.now < 16 * N }
-    requires not_full { piece.old.end < ROOM - PAST }
+    requires not_full { piece.old.end < ROOM - SPARE }
     ensures written { (ahead : List ℕ) → CoderBetween coder.entry.style ahead
         (pixels_of N left.now) table.old coder.entry.last (kept_bytes piece.old)
         → ahead ≡ kept_bytes piece.new }
@@ -117,14 +117,14 @@ fn write_rest<const N: usize, const ROOM: usize>(
     if rest.is_empty() {
         coder.write_last(piece);
     } else if ROOM == FEW_ROOM {
-        // Inlined, since it is most of what is done.
+        // As `write_few`, but inlined: it is most of what is done.
         coder.write_each(table, piece, rest);
     } else {
         coder.write_few(table, piece, rest);
     }
 }
 
-/// Writes an image's last pixels, fewer than a block has, and then the end marker.
+/// Writes the repeats that wait, an image's last pixels, fewer than a block has, and the end marker.
 pub(super) fn write_end<W: Writer, const ROOM: usize>(
     writer: &mut W,
     pending: &mut Pending,
@@ -134,8 +134,8 @@ pub(super) fn write_end<W: Writer, const ROOM: usize>(
     requires whole { length left.now % pixel_size pending.old ≡ 0 }
     requires few { length left.now < 16 * pixel_size pending.old }
     requires opaque { pixel_size pending.old ≡ 3 → pending.old.last.px.a ≡ 255 }
-    requires not_full { piece.old.end < ROOM - PAST }
-    requires large { 2 * PAST ≤ ROOM }
+    requires not_full { piece.old.end < ROOM - SPARE }
+    requires large { 2 * SPARE ≤ ROOM }
     requires room { HasRoom (W.room writer.old) ROOM (pixel_size pending.old)
         pending.old.style pending.old (kept_bytes piece.old) left.now }
     ensures same { (pending.new.channels ≡ pending.old.channels)
@@ -172,7 +172,7 @@ pub(super) fn encode_file<W: Writer, const ROOM: usize>(
     data: &[u8],
 ) -> Result<()>
     requires whole { length «data».now % channels_number header.now.channels ≡ 0 }
-    requires piece { (2 * PAST ≤ ROOM) × (ROOM ≤ FULL_ROOM) }
+    requires piece { (2 * SPARE ≤ ROOM) × (ROOM ≤ FULL_ROOM) }
     requires room { header_size + marker_size
         + (length «data».now + length «data».now / channels_number header.now.channels)
         ≤ W.room writer.old }

@@ -2,7 +2,7 @@
 //! "Data" and "Chunks").
 ghost use Rattle.std.specs.Prelude.{◌≡◌, ◌≢◌, ℕ, ◌+◌, ◌-◌, ◌*◌, ◌<◌, ◌≤◌, true, List, [], ◌∷◌, ◌++◌, Option, Some, length, take, drop, replicate, slice_get};
 ghost use Rattle.qoi.specs.declared.chunk.Chunk.{Chunk};
-ghost use Rattle.qoi.specs.declared.encode.piece.TheConstants.{PAST, RUNS_AT_ONCE};
+ghost use Rattle.qoi.specs.declared.encode.piece.TheConstants.{SPARE, RUNS_AT_ONCE};
 ghost use Rattle.qoi.specs.declared.types.Style.{Style};
 ghost use Rattle.qoi.specs.declared.types.Style.TheVariants.{Places, Tight};
 ghost use Rattle.qoi.specs.Qoi.{RgbaPixel, Past, run_max, chunk_max, marker_size, previous, seen, hash, IsChunk, bytes_of};
@@ -305,7 +305,7 @@ impl<const N: usize> Coder<N> {
         raw: Pixels<N>,
     )
         requires few { length (pixels_in raw) < 16 }
-        requires not_full { piece.old.end < ROOM - PAST }
+        requires not_full { piece.old.end < ROOM - SPARE }
         ensures written { (ahead : List ℕ)
             → CoderBetween self.old.style ahead (pixels_in raw.entry) table.old self.old.last
             (kept_bytes piece.old) → ahead ≡ kept_bytes piece.new }
@@ -323,7 +323,7 @@ impl<const N: usize> Coder<N> {
         raw: Pixels<N>,
     )
         requires few { length (pixels_in raw) < 16 }
-        requires not_full { piece.old.end < ROOM - PAST }
+        requires not_full { piece.old.end < ROOM - SPARE }
         ensures written { (ahead : List ℕ)
             → CoderBetween self.old.style ahead (pixels_in raw.entry) table.old self.old.last
             (kept_bytes piece.old) → ahead ≡ kept_bytes piece.new }
@@ -338,7 +338,7 @@ impl<const N: usize> Coder<N> {
     /// Writes the repeats that came before, if no pixel follows.
     #[inline(always)]
     pub(super) fn write_last<const ROOM: usize>(&self, piece: &mut Piece<ROOM>)
-        requires { piece.old.end < ROOM - PAST }
+        requires { piece.old.end < ROOM - SPARE }
         ensures { (ahead : List ℕ) (table : List RgbaPixel)
             → CoderBetween self.now.style ahead [] table self.now.last (kept_bytes piece.old)
             → ahead ≡ kept_bytes piece.new }

@@ -2,7 +2,7 @@
 //! "Chunks"). The fresh ones are marked by bits.
 ghost use Rattle.std.specs.Prelude.{◌≡◌, ℕ, ◌-◌, ◌%◌, ◌<◌, ◌≤◌, true, List, ◌++◌, Some, length, take, drop, slice_get, IsTrue};
 ghost use Rattle.qoi.specs.declared.encode.carry.TheConstants.{FRONT_CARRIED};
-ghost use Rattle.qoi.specs.declared.encode.piece.TheConstants.{PAST};
+ghost use Rattle.qoi.specs.declared.encode.piece.TheConstants.{SPARE};
 ghost use Rattle.qoi.specs.Qoi.{RgbaPixel};
 ghost use Rattle.qoi.specs.inner.CoderLoop.{CoderBetween};
 ghost use Rattle.qoi.specs.inner.Piece.{kept_bytes};
@@ -24,7 +24,7 @@ fn are_few(marks: u64) -> bool {
 }
 
 /// Whether a block with these marks goes pixel by pixel: if at most two are fresh. Not in three
-/// channels, where photographs take longer for it; nor the first block of a call's pixels, before
+/// channels, where photographs take longer for it; nor the first block that a loop meets, before
 /// which there may be no fresh one.
 #[inline(always)]
 pub(super) fn goes_by_marks<const N: usize>(
@@ -54,7 +54,7 @@ pub(super) fn write_marked<'a, const N: usize, const ROOM: usize>(
 ) -> Pixels<'a, N>
     requires few { slice_get (pixels_in block.front.raw) 0 ≡ Some coder.old.last.px
         → coder.old.last.repeats ≤ FRONT_CARRIED }
-    requires room { piece.old.end < ROOM - PAST }
+    requires room { piece.old.end < ROOM - SPARE }
     requires some { 0 < block.marks }
     requires marks { block.marks
         ≡ fresh_marks coder.old.last.px (take 16 (pixels_in block.front.raw)) }

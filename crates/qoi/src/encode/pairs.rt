@@ -1,7 +1,7 @@
 //! Pixels that stand twice each, or nearly: a repeat and a fresh pixel by turns (QOI specification
 //! 1.0, "Chunks").
 ghost use Rattle.std.specs.Prelude.{◌≡◌, ◌≢◌, ℕ, ◌-◌, ◌<◌, List, [], ◌++◌, length};
-ghost use Rattle.qoi.specs.declared.encode.piece.TheConstants.{PAST};
+ghost use Rattle.qoi.specs.declared.encode.piece.TheConstants.{SPARE};
 ghost use Rattle.qoi.specs.Qoi.{RgbaPixel};
 ghost use Rattle.qoi.specs.inner.CoderLoop.{CoderBetween};
 ghost use Rattle.qoi.specs.inner.CoderState.{style_of};
@@ -43,7 +43,7 @@ fn write_on<'a, const N: usize, const STYLE: u8, const ROOM: usize>(
     raw: Pixels<'a, N>,
 ) -> Pixels<'a, N>
     requires some { pixels_in raw ≢ [] }
-    requires room { piece.old.end < ROOM - PAST }
+    requires room { piece.old.end < ROOM - SPARE }
     ensures style { coder.new.style ≡ coder.old.style }
     ensures less { length (pixels_in result) < length (pixels_in raw.entry) }
     ensures written { (ahead : List ℕ) (more : List RgbaPixel)

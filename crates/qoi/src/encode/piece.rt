@@ -4,7 +4,7 @@ ghost use Rattle.std.specs.Prelude.{◌≡◌, ◌+◌, ◌-◌, ◌*◌, ◌/�
 ghost use Rattle.std.specs.List.{copy_within};
 ghost use Rattle.qoi.specs.declared.chunk.Chunk.{Chunk};
 ghost use Rattle.qoi.specs.declared.chunk.Chunk.TheVariants.{Run};
-ghost use Rattle.qoi.specs.declared.encode.piece.TheConstants.{PAST, RUNS_AT_ONCE, REPEATS_AT_ONCE};
+ghost use Rattle.qoi.specs.declared.encode.piece.TheConstants.{SPARE, RUNS_AT_ONCE, REPEATS_AT_ONCE};
 ghost use Rattle.qoi.specs.Qoi.{run_max, chunk_max, header_bytes, marker_size, end_marker, bytes_of, chunk_bytes};
 ghost use Rattle.qoi.specs.Raw.{IsChannels};
 ghost use Rattle.qoi.specs.Runs.{runs_by};
@@ -20,21 +20,21 @@ use std::simd::prelude::*;
 /// How many bytes of a piece's room come after a full piece: for what goes past it (the chunks of
 /// a block, runs, or the last chunks and the end marker), and for what is stored after that and
 /// means nothing, such as a block's index positions.
-pub(super) const PAST: usize = 128;
+pub(super) const SPARE: usize = 128;
 
 /// The room of a piece of 4096 bytes, for all images that go to a writer, and for large ones. A
 /// writer is sent a full one at once.
-pub(super) const FULL_ROOM: usize = 4096 + PAST;
+pub(super) const FULL_ROOM: usize = 4096 + SPARE;
 
 /// The room of a piece of 512 bytes, for a small image that goes to memory: zeroing more takes a
 /// good part of the time.
-pub(super) const SMALL_ROOM: usize = 512 + PAST;
+pub(super) const SMALL_ROOM: usize = 512 + SPARE;
 
 /// The least room, of a piece of 128 bytes, for a tiny image that goes to memory.
-pub(super) const TINY_ROOM: usize = 128 + PAST;
+pub(super) const TINY_ROOM: usize = 128 + SPARE;
 
 /// The room for the file of an image of fewer than sixteen pixels: header, chunks and end marker.
-pub(super) const FEW_ROOM: usize = 16 + PAST;
+pub(super) const FEW_ROOM: usize = 16 + SPARE;
 
 /// The most runs that are kept at a time, stored at once as a vector.
 pub(super) const RUNS_AT_ONCE: usize = 16;
@@ -43,12 +43,12 @@ pub(super) const RUNS_AT_ONCE: usize = 16;
 pub(super) const REPEATS_AT_ONCE: usize = RUNS_AT_ONCE * QOI_RUN_MAX;
 
 /// Bytes that are kept: the first `end` ones of a room of `ROOM` bytes. Those after them mean
-/// nothing, and there is room for the end marker. A full piece has `ROOM - PAST` bytes.
+/// nothing, and there is room for the end marker. A full piece has `ROOM - SPARE` bytes.
 #[derive(Drop)]
 pub(super) struct Piece<'a, const ROOM: usize> {
     pub(super) bytes: &'a mut [u8],
     pub(super) end: usize,
-    ghost large: { PAST ≤ ROOM },
+    ghost large: { SPARE ≤ ROOM },
     ghost within: { end + marker_size ≤ ROOM },
     ghost room: { length bytes.now ≡ ROOM },
 }
@@ -57,7 +57,7 @@ pub(super) struct Piece<'a, const ROOM: usize> {
 #[derive(Drop)]
 pub(super) struct OpenPiece<'a, const ROOM: usize> {
     pub(super) piece: Piece<'a, ROOM>,
-    ghost not_full: { piece.end < ROOM - PAST },
+    ghost not_full: { piece.end < ROOM - SPARE },
 }
 
 impl<'a, const ROOM: usize> Piece<'a, ROOM> {
@@ -66,7 +66,7 @@ impl<'a, const ROOM: usize> Piece<'a, ROOM> {
     /// An empty piece in this room.
     #[inline(always)]
     pub(super) fn new(room: &'a mut [u8]) -> Piece<'a, ROOM>
-        requires large { PAST ≤ ROOM }
+        requires large { SPARE ≤ ROOM }
         requires room { length room.old ≡ ROOM }
         ensures { kept_bytes result ≡ [] }
     {
@@ -79,7 +79,7 @@ impl<'a, const ROOM: usize> Piece<'a, ROOM> {
     /// A piece in this room, with a header.
     #[inline(always)]
     pub(super) fn with_header(room: &'a mut [u8], header: &Header) -> Piece<'a, ROOM>
-        requires large { PAST ≤ ROOM }
+        requires large { SPARE ≤ ROOM }
         requires room { length room.old ≡ ROOM }
         ensures { kept_bytes result ≡ header_bytes header.now }
     {
@@ -91,16 +91,16 @@ impl<'a, const ROOM: usize> Piece<'a, ROOM> {
     /// Whether there are enough bytes for a full piece.
     #[inline(always)]
     pub(super) fn is_full(&self) -> bool
-        ensures full { IsTrue result → ROOM - PAST ≤ self.now.end }
-        ensures room { IsFalse result → self.now.end < ROOM - PAST }
+        ensures full { IsTrue result → ROOM - SPARE ≤ self.now.end }
+        ensures room { IsFalse result → self.now.end < ROOM - SPARE }
     {
-        self.end >= ROOM - PAST
+        self.end >= ROOM - SPARE
     }
 
     /// The piece, which isn't full.
     #[inline(always)]
     pub(super) fn open(self) -> OpenPiece<'a, ROOM>
-        requires { self.end < ROOM - PAST }
+        requires { self.end < ROOM - SPARE }
         ensures { kept_bytes result.piece ≡ kept_bytes self.entry }
     {
         OpenPiece { piece: self }
@@ -160,19 +160,19 @@ impl<'a, const ROOM: usize> Piece<'a, ROOM> {
     /// Sends a full piece to a writer; the bytes after it are kept.
     #[inline(always)]
     pub(super) fn send<W: Writer>(&mut self, writer: &mut W) -> Result<()>
-        requires full { ROOM - PAST ≤ self.old.end }
-        requires room { ROOM - PAST ≤ W.room writer.old }
-        requires large { 2 * PAST ≤ ROOM }
+        requires full { ROOM - SPARE ≤ self.old.end }
+        requires room { ROOM - SPARE ≤ W.room writer.old }
+        requires large { 2 * SPARE ≤ ROOM }
         ensures written { OnOk result
-            (W.wrote writer.old (take (ROOM - PAST) (kept_bytes self.old)) writer.new) }
+            (W.wrote writer.old (take (ROOM - SPARE) (kept_bytes self.old)) writer.new) }
         ensures kept { OnOk result
-            (kept_bytes self.new ≡ drop (ROOM - PAST) (kept_bytes self.old)) }
-        ensures room { OnOk result (self.new.end < ROOM - PAST) }
+            (kept_bytes self.new ≡ drop (ROOM - SPARE) (kept_bytes self.old)) }
+        ensures room { OnOk result (self.new.end < ROOM - SPARE) }
         ensures refused { IfErr result (λ e. W.IsFault e
             × WroteBeginning W.wrote writer.old (kept_bytes self.old) writer.new) }
     {
         send_front::<W, ROOM>(writer, self.bytes)?;
-        self.end -= ROOM - PAST;
+        self.end -= ROOM - SPARE;
         Ok(())
     }
 
@@ -206,16 +206,16 @@ impl<'a, const ROOM: usize> Piece<'a, ROOM> {
     #[inline(always)]
     pub(super) fn finish<W: Writer>(&mut self, writer: &mut W) -> Result<()>
         requires room { self.old.end + marker_size ≤ W.room writer.old }
-        requires large { 2 * PAST ≤ ROOM }
+        requires large { 2 * SPARE ≤ ROOM }
         ensures written { OnOk result
             (W.wrote writer.old (kept_bytes self.old ++ end_marker) writer.new) }
         ensures refused { IfErr result (λ e. W.IsFault e
             × WroteBeginning W.wrote writer.old (kept_bytes self.old ++ end_marker) writer.new) }
     {
         let mut end = copy_after(self.bytes, self.end, &QOI_PADDING);
-        if end >= ROOM - PAST {
+        if end >= ROOM - SPARE {
             send_front::<W, ROOM>(writer, self.bytes)?;
-            end -= ROOM - PAST;
+            end -= ROOM - SPARE;
         }
         writer.write_many(&self.bytes[..end])
     }
@@ -224,16 +224,16 @@ impl<'a, const ROOM: usize> Piece<'a, ROOM> {
 // Sends a full piece to a writer, and moves the bytes after it to the front.
 #[inline(never)]
 fn send_front<W: Writer, const ROOM: usize>(writer: &mut W, bytes: &mut [u8]) -> Result<()>
-    requires large { 2 * PAST ≤ ROOM }
+    requires large { 2 * SPARE ≤ ROOM }
     requires size { length bytes.old ≡ ROOM }
-    requires room { ROOM - PAST ≤ W.room writer.old }
-    ensures written { OnOk result (W.wrote writer.old (take (ROOM - PAST) bytes.old) writer.new) }
-    ensures moved { OnOk result (bytes.new ≡ copy_within bytes.old (ROOM - PAST) ROOM 0) }
+    requires room { ROOM - SPARE ≤ W.room writer.old }
+    ensures written { OnOk result (W.wrote writer.old (take (ROOM - SPARE) bytes.old) writer.new) }
+    ensures moved { OnOk result (bytes.new ≡ copy_within bytes.old (ROOM - SPARE) ROOM 0) }
     ensures refused { IfErr result (λ e. W.IsFault e
-        × WroteBeginning W.wrote writer.old (take (ROOM - PAST) bytes.old) writer.new) }
+        × WroteBeginning W.wrote writer.old (take (ROOM - SPARE) bytes.old) writer.new) }
 {
-    writer.write_many(&bytes[..ROOM - PAST])?;
-    bytes.copy_within(ROOM - PAST.., 0);
+    writer.write_many(&bytes[..ROOM - SPARE])?;
+    bytes.copy_within(ROOM - SPARE.., 0);
     Ok(())
 }
 

@@ -30,7 +30,7 @@ pub(super) struct Group<'a, const N: usize> {
     ghost inside: { ahead < length (pixels_of N raw.bytes.now) },
 }
 
-/// Pixels that begin with a block, sixteen or more: what is left of a call's pixels, `whole`.
+/// Pixels that begin with a block, sixteen or more: what is left of `whole`, a loop's pixels.
 #[derive(Clone, Copy)]
 pub(super) struct FrontBlock<'a, const N: usize> {
     pub(super) raw: Pixels<'a, N>,

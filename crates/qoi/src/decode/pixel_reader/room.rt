@@ -1,4 +1,4 @@
-//! How many bytes of an image are decoded at once, and into which.
+//! How many bytes of an image are decoded at once, and the calls that do it.
 ghost use Rattle.std.specs.Io.KnownBytes.{Consumes};
 ghost use Rattle.std.specs.Prelude.{true, ◌≡◌, ℕ, ◌+◌, ◌-◌, ◌%◌, ◌<◌, ◌≤◌, ◌++◌, length, take, reverse, Option, List, IfOk, IfErr, OnOk};
 ghost use Rattle.qoi.specs.Decoding.{ReadsImage};

@@ -15,9 +15,9 @@ use crate::decode::reached::Reached;
 use crate::decode::table::TermTable;
 use crate::error::Error;
 
-/// What is unread of an image: bytes that are decoded and weren't given yet, and how many others there
-/// are, of which the first `run` are copies of the last pixel. Table and last pixel are those behind
-/// all chunks so far. After a refusal its error stands in `fault`, until it is returned.
+/// What is unread of an image: the decoded `bytes` from `from` to `to`, and `undecoded` others, of which
+/// the first `run` are copies of the last pixel, the rest of its run. Table and last pixel are those
+/// behind all chunks so far. After a refusal its error stands in `fault`, until it is returned.
 #[derive(Drop)]
 pub struct Unread {
     pub(super) table: TermTable,
@@ -138,8 +138,8 @@ impl Unread {
         size
     }
 
-    // Whether a piece of so many bytes is decoded in place to the last chunk that stands in memory:
-    // it isn't short, and not at the end of the image.
+    // Whether a piece of so many bytes goes by `piece_in_place`: it isn't short, and 256 bytes of the
+    // image follow. Else `long_piece` may fill it.
     #[inline(always)]
     fn goes_in_place(&self, size: usize) -> bool
         requires { size ≤ self.now.undecoded }
@@ -328,8 +328,8 @@ impl Unread {
         Ok(())
     }
 
-    /// Decodes the next bytes of an image, while none are kept: into the front of `out`, and
-    /// returns how many; the rest of `out`, and more, are kept.
+    /// Decodes an image's next bytes, while none are kept. Returns how many are in `out`, maybe none;
+    /// what it lacks, and more, is kept.
     pub(in crate::decode) fn decode_more<R: Chunks<N, F>, const N: usize, const F: usize>(
         &mut self,
         reader: &mut R,

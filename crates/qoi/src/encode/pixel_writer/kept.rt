@@ -41,8 +41,7 @@ impl Kept {
     }
 }
 
-/// What is known of the raw bytes that came: what is pending behind those that are encoded, and the
-/// others.
+/// The coder's state after the raw bytes that are encoded, and the raw bytes that came after those.
 #[derive(Drop)]
 pub(super) struct Came {
     pub(super) pending: Pending,

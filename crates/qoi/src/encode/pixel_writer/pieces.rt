@@ -101,7 +101,7 @@ fn write_more<'a, 'p, W: Writer>(
     Ok((rest, piece))
 }
 
-// Takes raw bytes of an image, if there is no room for them: writes those that were held first.
+// Encodes what was held, then raw bytes until `Held` takes the rest, and sends the piece.
 #[inline(never)]
 fn take_raw<W: Write>(writer: &mut W, kept: &mut Kept, raw: &[u8]) -> Result<()>
     requires opaque { pixel_size kept.old.came.pending ≡ 3
@@ -132,7 +132,7 @@ fn take_raw<W: Write>(writer: &mut W, kept: &mut Kept, raw: &[u8]) -> Result<()>
     Ok(())
 }
 
-/// Takes raw bytes of an image: holds them if there is room, else first writes those that were held.
+/// Takes raw bytes of an image: holds them if `Held::takes` says so, else encodes them (`take_raw`).
 #[inline(always)]
 pub(super) fn take_any<W: Write>(writer: &mut W, kept: &mut Kept, raw: &[u8]) -> Result<()>
     requires opaque { pixel_size kept.old.came.pending ≡ 3

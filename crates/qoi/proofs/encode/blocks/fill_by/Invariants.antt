@@ -1,6 +1,6 @@
 -- The pixels up to here are written, but for the repeats that are carried.
 use Rattle.std.proofs.Common.{◌≡◌, ◌⊎◌, ℕ, List, ◌-◌, ◌<◌, ◌≤◌, length}
-use Rattle.qoi.specs.declared.encode.piece.TheConstants.{PAST}
+use Rattle.qoi.specs.declared.encode.piece.TheConstants.{SPARE}
 use Rattle.qoi.specs.Qoi.{RgbaPixel}
 use Rattle.qoi.specs.inner.BlockLoop.{InBlocks}
 use Rattle.qoi.specs.inner.CoderState.{style_of}
@@ -10,7 +10,7 @@ use Rattle.qoi.proofs.encode.blocks.fill_by.Given as goal
 
 abbrev pub invariant-loop-rest : goal.invariant-loop-rest
 invariant-loop-rest g l = record {
-  less : (length (pixels_in l.rest) < length (pixels_in l.raw)) ⊎ ((length (pixels_in l.rest) ≡ length (pixels_in l.raw)) × (l.piece.end < g.row.ROOM - PAST));
+  less : (length (pixels_in l.rest) < length (pixels_in l.raw)) ⊎ ((length (pixels_in l.rest) ≡ length (pixels_in l.raw)) × (l.piece.end < g.row.ROOM - SPARE));
   written : (ahead : List ℕ) (n : ℕ) (more : List RgbaPixel) → length (pixels_in l.raw) ≤ n → InBlocks (style_of g.row.STYLE) ahead n (pixels_in l.raw) more l.fn.table l.fn.carry (kept_bytes l.fn.piece.piece)
       → InBlocks (style_of g.row.STYLE) ahead n (pixels_in l.rest) more l.table l.now (kept_bytes l.piece);
 }

@@ -2,7 +2,7 @@
 use Rattle.std.proofs.Common.{◌-◌, ◌++◌, take, drop, sym, ap, take-append-drop, subst, arith}
 use Rattle.std.proofs.lemmas.List.{take-take}
 use Rattle.std.proofs.lemmas.Result.{err_from_is_err_and}
-use Rattle.qoi.specs.declared.encode.piece.TheConstants.{PAST}
+use Rattle.qoi.specs.declared.encode.piece.TheConstants.{SPARE}
 use Rattle.qoi.specs.Qoi.{end_marker}
 use Rattle.qoi.specs.inner.Piece.{kept_bytes}
 use Rattle.qoi.specs.writers.Writes.{WroteBut, WroteBeginning}
@@ -21,7 +21,7 @@ returns-in_err-send_front-clause-refused g c =
     let bytes = c.copy_after-end.new.buf in
     let end = c.copy_after-end.result in
     let all = take end bytes in
-    let piece = g.row.ROOM - PAST in
+    let piece = g.row.ROOM - SPARE in
     let some = subst (λ z. WroteBeginning g.W.Writer.wrote a z c.send_front.new.writer) (sym (take-take piece end bytes c.if-end.true)) r.1 in
     rw (p.1, p.2) (
       r.0,
@@ -38,7 +38,7 @@ all_but_kept g c =
     let a = c.args.writer.now in
     let bytes = c.copy_after-end.new.buf in
     let end = c.copy_after-end.result in
-    let piece = g.row.ROOM - PAST in
+    let piece = g.row.ROOM - SPARE in
     subst (λ z. WroteBut wrote a z (take c.if-end.end c.if-end.self.bytes.now) c.if-end.writer) c.copy_after-end.ensures.front
     (elim c.if-end.branch [
       | then-end+in_ok-send_front w ↦

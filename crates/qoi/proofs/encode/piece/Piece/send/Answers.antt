@@ -2,7 +2,7 @@
 use Rattle.std.proofs.Common.{◌-◌, sym, subst, arith}
 use Rattle.std.proofs.lemmas.List.{take-take}
 use Rattle.std.proofs.lemmas.Result.{err_from_is_err_and}
-use Rattle.qoi.specs.declared.encode.piece.TheConstants.{PAST}
+use Rattle.qoi.specs.declared.encode.piece.TheConstants.{SPARE}
 use Rattle.qoi.specs.inner.Piece.{kept_bytes}
 use Rattle.qoi.specs.writers.Writes.{WroteBeginning}
 use Rattle.qoi.proofs.encoding.piece.PieceSent.{moved_front, part_of_all}
@@ -13,7 +13,7 @@ returns-in_err-send_front-clause-refused g c =
     let p = err_from_is_err_and c.from_residual.result c.from_residual.ensures.1 in
     let r = c.in_err-send_front.ensures.refused in
     let s = c.args.self.now in
-    let full = g.row.ROOM - PAST in
+    let full = g.row.ROOM - SPARE in
     rw (p.1, p.2) (
       r.0,
       part_of_all g.met.W.Writer.laws c.args.writer.now c.send_front.new.writer full (kept_bytes s)
@@ -23,10 +23,10 @@ returns-in_err-send_front-clause-refused g c =
 pub returns-clause-written : goal.returns-clause-written
 returns-clause-written g c =
     let s = c.args.self.now in
-    subst (λ z. g.W.Writer.wrote c.args.writer.now z c.send_front.new.writer) (sym (take-take (g.row.ROOM - PAST) s.end s.bytes.now c.requires.full))
+    subst (λ z. g.W.Writer.wrote c.args.writer.now z c.send_front.new.writer) (sym (take-take (g.row.ROOM - SPARE) s.end s.bytes.now c.requires.full))
     c.in_ok-send_front.ensures.written
 
 pub returns-clause-kept : goal.returns-clause-kept
 returns-clause-kept g c =
     let s = c.args.self.now in
-    rw c.in_ok-send_front.ensures.moved (moved_front s.bytes.now (g.row.ROOM - PAST) g.row.ROOM s.end s.room c.requires.full (omega (arith, s.within)))
+    rw c.in_ok-send_front.ensures.moved (moved_front s.bytes.now (g.row.ROOM - SPARE) g.row.ROOM s.end s.room c.requires.full (omega (arith, s.within)))
