@@ -433,6 +433,6 @@ fn each_allocation(rt: HostRuntime) {
     let refusal = starved(alloc, 0, &mut file).err();
     assert_refused(&rt, alloc, refusal, "out of memory");
     assert_bytes(&rt, &file, &[0xaa; 26]);
-    starved(alloc, 12_760, &mut file).expect(&rt, "refused");
+    starved(alloc, 12_768, &mut file).expect(&rt, "refused");
     assert_bytes(&rt, &file, &ONE_RGB_PIXEL);
 }
