@@ -1,5 +1,5 @@
 -- Whole bytes have one image and one rest, which are functions of them.
-use Rattle.std.proofs.Common.{◌≡◌, ℕ, zero, suc, ◌+◌, ◌*◌, ◌<◌, ◌≤◌, List, [], ◌∷◌, ◌++◌, length, take, drop, arith, refl, ap, sym, ◌∙◌, subst, append_assoc, length-append, replicate, Ok, Option, Some, None, IfSome}
+use Rattle.std.proofs.Common.{◌≡◌, ℕ, zero, suc, ◌+◌, ◌*◌, ◌<◌, ◌≤◌, List, [], ◌∷◌, ◌++◌, length, take, drop, arith, refl, ap, sym, ◌∙◌, append_assoc, length-append, replicate, Ok}
 use Rattle.std.specs.Prelude.{nat_le, if◌then◌else◌}
 use Rattle.std.proofs.lemmas.Bool.Decides.{nat_tests}
 use Rattle.std.proofs.lemmas.List.{length-replicate}
@@ -12,11 +12,9 @@ use Rattle.qoi.specs.declared.chunk.Chunk.TheVariants.{Place, Diff, Luma, Run, R
 use Rattle.qoi.specs.Qoi.{Past, IsChunk, AreChunks, bytes_of, chunk_bytes, then_chunk, then_chunks, pixel_after, times, meaning, end_marker, header_of, header_size, pixel_count, channels_number}
 use Rattle.qoi.specs.Raw.{output, without_fourth}
 use Rattle.qoi.specs.Verdicts.{IsWhole}
-use Rattle.qoi.specs.Decoding.{DecodesFile, TakesHeader}
+use Rattle.qoi.specs.Decoding.{DecodesFile}
 use Rattle.qoi.specs.Reading.{IsImage}
 use Rattle.qoi.specs.Images.{file_image_in, image_in_by, front_chunk, chunks_after, front_chunks, front_image, front_rest, image_by, rest_by, file_image, file_rest}
-use Rattle.qoi.proofs.decoding.Ahead.{header_read_from}
-use Rattle.qoi.proofs.decoding.LeastBytes.{nine_taken}
 use Rattle.qoi.proofs.decoding.OneFile.{decodes_more}
 use Rattle.qoi.proofs.decoding.PieceSteps.{longer}
 use Rattle.qoi.proofs.decoding.StreamVerdicts.{rgb_is_without_fourth}
@@ -54,6 +52,21 @@ if_holds m n x y h = grind (arith, nat_tests)
 if_fails : {A : Type 0} (m n : ℕ) (x y : A) → n < m → (if nat_le m n then x else y) ≡ y
 if_fails m n x y h = grind (arith, nat_tests)
 
+-- a chunk at the front is found there, and then those behind it
+first_found : (left n : ℕ) (past : Past) (c : Chunk) (cs : List Chunk) (x : List ℕ) → IsChunk c → length past < n
+    → chunks_after (suc left) n past (chunk_bytes (c ∷ cs) ++ x) ≡ c ∷ chunks_after left n (then_chunk past c) (chunk_bytes cs ++ x)
+unfolding chunks_after
+first_found left n past c cs x is few =
+    let bytes = chunk_bytes (c ∷ cs) ++ x in
+    let rest = chunk_bytes cs ++ x in
+    let split : bytes ≡ bytes_of c ++ rest = append_assoc (bytes_of c) (chunk_bytes cs) x in
+    let front : front_chunk bytes ≡ c = ap front_chunk split ∙ front_is c rest is in
+    let F : Chunk → List ℕ → List Chunk = λ d z. d ∷ chunks_after left n (then_chunk past d) z in
+    if_fails n (length past) [] (F (front_chunk bytes) (drop (length (bytes_of (front_chunk bytes))) bytes)) few
+    ∙ ap (λ d. F d (drop (length (bytes_of d)) bytes)) front
+    ∙ ap (λ z. F c (drop (length (bytes_of c)) z)) split
+    ∙ ap (F c) (drop-append_seam (bytes_of c) rest)
+
 -- the chunks that stand at the front are those that are found there
 after_is : (left n : ℕ) (past : Past) (cs : List Chunk) (x : List ℕ) → AreChunks cs → StayBelowAfter n past cs
     → n ≤ length (then_chunks past cs) → n ≤ length past + left → chunks_after left n past (chunk_bytes cs ++ x) ≡ cs
@@ -62,39 +75,17 @@ after_is zero n past [] x hc below enough room = refl
 after_is zero n past (c ∷ cs) x hc below enough room = let l = below.0 in absurd (omega arith)
 after_is (suc left) n past [] x hc below enough room = if_holds n (length past) _ _ enough
 after_is (suc left) n past (c ∷ cs) x hc below enough room =
-    let bytes = chunk_bytes (c ∷ cs) ++ x in
-    let rest = chunk_bytes cs ++ x in
-    let split : bytes ≡ bytes_of c ++ rest = append_assoc (bytes_of c) (chunk_bytes cs) x in
-    let front : front_chunk bytes ≡ c = ap front_chunk split ∙ front_is c rest hc.0 in
-    let F : Chunk → List ℕ → List Chunk = λ d z. d ∷ chunks_after left n (then_chunk past d) z in
-    let more = after_is left n (then_chunk past c) cs x hc.1 below.1 enough (omega (arith, grows past c hc.0)) in
-    if_fails n (length past) [] (F (front_chunk bytes) (drop (length (bytes_of (front_chunk bytes))) bytes)) below.0
-    ∙ ap (λ d. F d (drop (length (bytes_of d)) bytes)) front
-    ∙ ap (λ z. F c (drop (length (bytes_of c)) z)) split
-    ∙ ap (F c) (drop-append_seam (bytes_of c) rest)
-    ∙ ap (λ z. c ∷ z) more
+    first_found left n past c cs x hc.0 below.0
+    ∙ ap (λ z. c ∷ z) (after_is left n (then_chunk past c) cs x hc.1 below.1 enough (omega (arith, grows past c hc.0)))
 
 -- chunks at the front that reach no n pixels are the first ones that are found there
 after_begins : (left n : ℕ) (past : Past) (cs : List Chunk) (x : List ℕ) → AreChunks cs → length (then_chunks past cs) < n → n ≤ length past + left
     → (more : List Chunk) × (chunks_after left n past (chunk_bytes cs ++ x) ≡ cs ++ more)
-unfolding chunks_after
 after_begins left n past [] x hc short room = (chunks_after left n past x, refl)
 after_begins zero n past (c ∷ cs) x hc short room = absurd (omega (arith, longer past (c ∷ cs), short, room))
 after_begins (suc left) n past (c ∷ cs) x hc short room =
-    let bytes = chunk_bytes (c ∷ cs) ++ x in
-    let rest = chunk_bytes cs ++ x in
-    let split : bytes ≡ bytes_of c ++ rest = append_assoc (bytes_of c) (chunk_bytes cs) x in
-    let front : front_chunk bytes ≡ c = ap front_chunk split ∙ front_is c rest hc.0 in
-    let F : Chunk → List ℕ → List Chunk = λ d z. d ∷ chunks_after left n (then_chunk past d) z in
-    let few : length past < n = omega (arith, longer past (c ∷ cs), short) in
-    let (more, is) = after_begins left n (then_chunk past c) cs x hc.1 short (omega (arith, room, grows past c hc.0)) in (
-      more,
-      if_fails n (length past) [] (F (front_chunk bytes) (drop (length (bytes_of (front_chunk bytes))) bytes)) few
-          ∙ ap (λ d. F d (drop (length (bytes_of d)) bytes)) front
-          ∙ ap (λ z. F c (drop (length (bytes_of c)) z)) split
-          ∙ ap (F c) (drop-append_seam (bytes_of c) rest)
-          ∙ ap (λ z. c ∷ z) is,
-    )
+    let (more, is) = after_begins left n (then_chunk past c) cs x hc.1 short (omega (arith, room, grows past c hc.0)) in
+    (more, first_found left n past c cs x hc.0 (omega (arith, longer past (c ∷ cs), short)) ∙ ap (λ z. c ∷ z) is)
 
 -- so an image's bytes begin with the pixels of chunks at the front
 pub image_begins : (channels : Channels) (h : Header) (cs : List Chunk) (left : List ℕ) → AreChunks cs → length (then_chunks [] cs) < pixel_count h
@@ -161,50 +152,19 @@ image_after channels h bytes read own =
       ap (λ r. rest_by r after) (sym read),
     )
 
--- so they do if a stream's header was read
-pub image_after_read : (old left : Option (List ℕ)) (h : Header) → TakesHeader old left h → IfSome old (λ bytes. IfSome left (λ ahead.
-    (front_image h.channels h ahead ≡ file_image bytes) × (front_rest h ahead ≡ file_rest bytes)))
-image_after_read None left h r = tt
-image_after_read (Some bytes) None h r = tt
-image_after_read (Some bytes) (Some ahead) h r =
-    let read = header_read_from (Some bytes) (Some ahead) bytes h r refl in
-    let P : List ℕ → Type 0 = λ z. (front_image h.channels h z ≡ file_image bytes) × (front_rest h z ≡ file_rest bytes) in
-    let same : ahead ≡ drop header_size bytes = cc read.1 in
-    subst P (sym same) (image_after h.channels h bytes read.0 refl)
-
 -- after a header stands the file's image, in any channels
 pub image_in_after : (channels : Channels) (h : Header) (bytes : List ℕ) → header_of bytes ≡ Ok h
     → front_image channels h (drop header_size bytes) ≡ file_image_in channels bytes
 unfolding file_image_in
 image_in_after channels h bytes read = ap (λ r. image_in_by channels r (drop header_size bytes)) (sym read)
 
--- so it does if a stream's header was read
-pub image_in_after_read : (old left : Option (List ℕ)) (h : Header) → TakesHeader old left h → IfSome old (λ bytes. IfSome left (λ ahead.
-    (channels : Channels) → front_image channels h ahead ≡ file_image_in channels bytes))
-image_in_after_read None left h r = tt
-image_in_after_read (Some bytes) None h r = tt
-image_in_after_read (Some bytes) (Some ahead) h r = λ channels.
-    let read = header_read_from (Some bytes) (Some ahead) bytes h r refl in
-    let same : ahead ≡ drop header_size bytes = cc read.1 in
-    ap (front_image channels h) same ∙ image_in_after channels h bytes read.0
-
 -- in its own channels it is the one that `file_image` gives
 pub image_in_own : (h : Header) (bytes : List ℕ) → header_of bytes ≡ Ok h → file_image_in h.channels bytes ≡ file_image bytes
 unfolding file_image
 image_in_own h bytes read = sym (image_in_after h.channels h bytes read) ∙ ap (λ r. image_by r (drop header_size bytes)) (sym read)
 
--- what is read of bytes, if they are known, is the image at their front, and what follows it is
--- left
-pub front_read : (channels : Channels) (h : Header) (old left : Option (List ℕ)) (out : List ℕ)
-    → ((bytes : List ℕ) → old ≡ Some bytes → (rest : List ℕ) × (left ≡ Some rest) × IsImage channels bytes h rest out)
-    → IfSome old (λ bytes. (out ≡ front_image channels h bytes) × (left ≡ Some (front_rest h bytes)))
-front_read channels h None left out reads = tt
-front_read channels h (Some bytes) left out reads =
-    let r = reads bytes refl in
-    (image_is channels h bytes r.0 out r.2, r.1 ∙ ap Some (rest_is channels h bytes r.0 out r.2))
-
 -- in three channels it is the image in four without each fourth byte
-three_of_front : (h : Header) (bytes : List ℕ) → front_image OfChannels.Rgb h bytes ≡ without_fourth (front_image OfChannels.Rgba h bytes)
+pub three_of_front : (h : Header) (bytes : List ℕ) → front_image OfChannels.Rgb h bytes ≡ without_fourth (front_image OfChannels.Rgba h bytes)
 unfolding front_image
 three_of_front h bytes = rgb_is_without_fourth (channels_number h.channels) (take (pixel_count h) (meaning (front_chunks h bytes)))
 
@@ -214,28 +174,7 @@ pub three_of_file : (h : Header) (bytes : List ℕ) → header_of bytes ≡ Ok h
 three_of_file h bytes read =
     sym (image_in_after OfChannels.Rgb h bytes read) ∙ three_of_front h (drop header_size bytes) ∙ ap without_fourth (image_in_after OfChannels.Rgba h bytes read)
 
--- so is the image that was read
-pub three_read : (channels : Channels) (h : Header) (old left : Option (List ℕ)) (out : List ℕ) → channels ≡ OfChannels.Rgb
-    → ((bytes : List ℕ) → old ≡ Some bytes → (rest : List ℕ) × (left ≡ Some rest) × IsImage channels bytes h rest out)
-    → IfSome old (λ bytes. out ≡ without_fourth (front_image OfChannels.Rgba h bytes))
-three_read channels h None left out three reads = tt
-three_read channels h (Some bytes) left out three reads =
-    let r = reads bytes refl in
-    image_is channels h bytes r.0 out r.2 ∙ ap (λ c. front_image c h bytes) three ∙ three_of_front h bytes
-
 -- an image that has a byte has a pixel
 pub some_pixels : (n k : ℕ) → 3 ≤ n * k → 1 ≤ n
 some_pixels zero k h = absurd (omega arith)
 some_pixels (suc n) k h = omega arith
-
--- what is read of bytes, if they are known, is nine of them at least
-pub nine_read : (channels : Channels) (h : Header) (old left : Option (List ℕ)) (out : List ℕ) → 1 ≤ pixel_count h
-    → ((bytes : List ℕ) → old ≡ Some bytes → (rest : List ℕ) × (left ≡ Some rest) × IsImage channels bytes h rest out)
-    → IfSome old (λ bytes. IfSome left (λ rest. length rest + 9 ≤ length bytes))
-nine_read channels h None left out some reads = tt
-nine_read channels h (Some bytes) None out some reads = tt
-nine_read channels h (Some bytes) (Some left) out some reads =
-    let r = reads bytes refl in
-    let told = r.1 in
-    let same : left ≡ r.0 = cc in
-    subst (λ z. length z + 9 ≤ length bytes) (sym same) (nine_taken (pixel_count h) bytes r.2.cs r.0 some r.2.whole)

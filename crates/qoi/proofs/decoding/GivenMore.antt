@@ -1,14 +1,18 @@
 -- Steps over the pieces of an image, one after another.
-use Rattle.std.proofs.Common.{◌≡◌, ℕ, ◌+◌, ◌-◌, ◌≤◌, List, [], ◌++◌, length, take, drop, min, Bool, Option, Result, arith, refl, sym, ap, ◌∙◌, subst, append-nil, length-append}
+use Rattle.std.proofs.Common.{◌≡◌, ℕ, ◌+◌, ◌-◌, ◌≤◌, List, [], ◌++◌, length, take, drop, min, Bool, Option, Some, Result, arith, refl, sym, ap, ◌∙◌, subst, append-nil, length-append}
 use Rattle.std.proofs.lemmas.List.{length-take-le, take_at}
 use Rattle.std.proofs.lemmas.Result.{MatchResult-weaker}
 use borrow.Rule.Slice.PartMut.{put_mid, mid_of, mid_len, same_len_mid}
 use Rattle.qoi.specs.declared.error.Error.{Error}
 use Rattle.qoi.specs.declared.decode.pixel_reader.unread.Unread.{Unread}
 use Rattle.qoi.specs.declared.decode.pixel_reader.unread.Refused.{Refused}
-use Rattle.qoi.specs.pieces.Unread.{kept_raw, bytes_left, KeepsPixels, IsUnread, GivesMore, RefusesMore, Steps}
-use Rattle.qoi.proofs.decoding.PieceSteps.{gives, kept_long, read_two}
-use Rattle.qoi.proofs.decoding.PixelPieces.{three_of_four, four_as_three}
+use Rattle.qoi.specs.declared.decode.conversion.Conversion.{Conversion}
+use Rattle.qoi.specs.declared.types.Channels.TheVariants.{Rgb, Rgba}
+use Rattle.qoi.specs.inner.Chunks.{RefusesFilling, HasFault}
+use Rattle.qoi.specs.inner.Filling.{reached, filling}
+use Rattle.qoi.specs.pieces.Unread.{kept_raw, bytes_left, KeepsPixels, IsUnread, GivesMore, RefusesMore, Steps, StepsIn}
+use Rattle.qoi.proofs.decoding.PieceSteps.{Lent, gives, kept_long, read_two}
+use Rattle.qoi.proofs.decoding.PixelPieces.{in_three}
 
 -- a step that gives none
 pub gives_none : {f c : ℕ} {ahead rest : Option (List ℕ)} {old new : Unread}
@@ -53,47 +57,34 @@ pub refused_after : {f c : ℕ} {in_memory : Bool} {ahead middle rest : Option (
     → GivesMore f c ahead middle old between out size → RefusesMore f c in_memory middle rest between fault → RefusesMore f c in_memory ahead rest old fault
 refused_after one two = record { refused = λ n start given h. two.refused n start _ (one.read n start given h) }
 
--- the same step, of values that are equal
-pub gives_as : {f g c k : ℕ} {ahead other rest : Option (List ℕ)} {old new : Unread} {out : List ℕ} {size : ℕ} → f ≡ g → c ≡ k → ahead ≡ other
-    → GivesMore g k other rest old new out size → GivesMore f c ahead rest old new out size
-gives_as {f} {g} {c} {k} {ahead} {other} {rest} {old} {new} {out} {size} file channels same h =
-    subst (λ z. GivesMore z c ahead rest old new out size) (sym file)
-    (subst (λ z. GivesMore g z ahead rest old new out size) (sym channels)
-    (subst (λ z. GivesMore g k z rest old new out size) (sym same) h))
-
--- the same refusal
-pub refuses_as : {f g c k : ℕ} {in_memory : Bool} {ahead other rest : Option (List ℕ)} {old : Unread} {fault : Option Error} → f ≡ g → c ≡ k → ahead ≡ other
-    → RefusesMore g k in_memory other rest old fault → RefusesMore f c in_memory ahead rest old fault
-refuses_as {f} {g} {c} {k} {in_memory} {ahead} {other} {rest} {old} {fault} file channels same h =
-    subst (λ z. RefusesMore z c in_memory ahead rest old fault) (sym file)
-    (subst (λ z. RefusesMore g z in_memory ahead rest old fault) (sym channels)
-    (subst (λ z. RefusesMore g k in_memory z rest old fault) (sym same) h))
-
--- three channels of a file of four are those of a file of three
-pub gives_of_four : {ahead rest : Option (List ℕ)} {old new : Unread} {out : List ℕ} {size : ℕ}
-    → GivesMore 3 3 ahead rest old new out size → GivesMore 4 3 ahead rest old new out size
-gives_of_four h = record {
-  read = λ n start given before. four_as_three (h.read n start given (three_of_four before));
-  within = h.within;
-  pixels = h.pixels;
-  left = h.left;
-  fault = h.fault;
-}
-
--- and so are they if they are refused
-pub refuses_of_four : {in_memory : Bool} {ahead rest : Option (List ℕ)} {old : Unread} {fault : Option Error}
-    → RefusesMore 3 3 in_memory ahead rest old fault → RefusesMore 4 3 in_memory ahead rest old fault
-refuses_of_four h = record { refused = λ n start given before. h.refused n start given (three_of_four before) }
-
 -- the same step, in values that are equal
 pub steps_as : {f g c k : ℕ} {ahead other : Option (List ℕ)} (in_memory : Bool) (rest : Option (List ℕ)) (old new : Unread) (out : List ℕ) (result : Result ℕ Refused)
     → f ≡ g → c ≡ k → ahead ≡ other → Steps g k in_memory other rest old new out result → Steps f c in_memory ahead rest old new out result
-steps_as in_memory rest old new out result file channels same h = MatchResult-weaker result h (λ size. gives_as file channels same) (λ e. refuses_as file channels same)
+steps_as in_memory rest old new out result file channels same h = rw (file, channels, same) h
 
 -- a step into three channels of a file of four
-pub steps_of_four : (in_memory : Bool) (ahead rest : Option (List ℕ)) (old new : Unread) (out : List ℕ) (result : Result ℕ Refused)
-    → Steps 3 3 in_memory ahead rest old new out result → Steps 4 3 in_memory ahead rest old new out result
-steps_of_four in_memory ahead rest old new out result h = MatchResult-weaker result h (λ size. gives_of_four) (λ e. refuses_of_four)
+pub steps_in_three : (in_memory : Bool) (ahead rest : Option (List ℕ)) (old new : Unread) (out : List ℕ) (result : Result ℕ Refused) (k : Conversion)
+    → k.channels ≡ Rgb → k.file_channels ≡ Rgba → Steps 3 3 in_memory ahead rest old new out result → StepsIn k in_memory ahead rest old new out result
+steps_in_three in_memory ahead rest old new out result k three four h =
+    rw (three, four) (MatchResult-weaker result h
+    (λ size m. record {
+      read = λ n start given before. in_three (m.read n start given (in_three before));
+      within = m.within;
+      pixels = m.pixels;
+      left = m.left;
+      fault = m.fault;
+    })
+    (λ e m. record { refused = λ n start given before. m.refused n start given (in_three before) }))
+
+-- the error of a refusal stands in its place
+pub faulted : (Why : Error → Type 0) {fault : Option Error} {e : Error} → fault ≡ Some e → Why e → HasFault Why fault
+faulted Why is why = rw is why
+
+-- chunks were refused for an output that was lent
+pub refuses_lent : {f c m at : ℕ} {in_memory : Bool} {ahead rest : Option (List ℕ)} {p : Unread} {out : List ℕ} {fault : Option Error} {e : Error}
+    → ((n : ℕ) (start : Option (List ℕ)) (given : List ℕ) → IsUnread f c n start ahead given p → Lent f c n m start ahead given p out at)
+    → RefusesFilling f c in_memory ahead rest (filling p.table (reached p.last at) out) e → fault ≡ Some e → RefusesMore f c in_memory ahead rest p fault
+refuses_lent lends why is = record { refused = λ n start given h. let l = lends n start given h in faulted _ is (why l.gone _ _ l.before n l.most) }
 
 -- a step after one that gives none
 pub gives_after_none : {f c : ℕ} {ahead middle rest : Option (List ℕ)} {old between new : Unread} {out : List ℕ} {size : ℕ}

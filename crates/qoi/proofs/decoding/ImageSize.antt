@@ -14,13 +14,7 @@ pub channels_are : (c : Channels) (n : ℕ) → n ≡ channels_number c → IsCh
 channels_are Rgb n e = inl e
 channels_are Rgba n e = inr e
 
--- as many pixels as the image's bytes have room for
-pub image_pixels : (h : Header) (c : Channels) (size n : ℕ) (buf : List ℕ) → size ≡ byte_count h (channels_number c) → size ≤ length buf
-    → n ≡ channels_number c → length (take size buf) / n ≡ pixel_count h
-image_pixels h Rgb size n buf e le is = rw (length-take-le size buf le, is) (omega arith)
-image_pixels h Rgba size n buf e le is = rw (length-take-le size buf le, is) (omega arith)
-
--- the same of that many bytes
+-- as many pixels as have so many bytes
 pub pixels_of_size : (h : Header) (c : Channels) (size n : ℕ) → size ≡ byte_count h (channels_number c) → n ≡ channels_number c → size / n ≡ pixel_count h
 pixels_of_size h Rgb size n e is = rw (e, is) (omega arith)
 pixels_of_size h Rgba size n e is = rw (e, is) (omega arith)

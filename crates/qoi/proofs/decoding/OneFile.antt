@@ -67,32 +67,22 @@ decodes_file h cs bytes rest out f split out_is = record {
   whole = file_is_whole h cs bytes rest f split;
 }
 
--- a header and the image that is read after it are a file
-decodes_read : (h : Header) (bytes rest out : List ℕ) → AreBytes bytes → header_of bytes ≡ Ok h
-    → ReadsImage (channels_number h.channels) (channels_number h.channels) (pixel_count h) (Some (drop header_size bytes)) (Some rest) out
-    → DecodesFile bytes h rest out
-decodes_read h bytes rest out fits read r =
-    let taken : drop header_size bytes ≡ chunk_bytes r.cs ++ (end_marker ++ rest) = r.taken ∙ append_assoc (chunk_bytes r.cs) end_marker rest in
-    let whole : IsWhole (pixel_count h) (drop header_size bytes) r.cs rest = record {
-      has = record { chunks = r.chunks; stays_below = r.reaches.stays_below; split = taken };
-      enough = r.reaches.enough;
-    } in
-    let front = file_from_whole h r.cs bytes rest fits read whole in
-    decodes_file h r.cs bytes rest out front.0 front.1 r.out_is
-
 -- what is appended never changes the reading
 pub decodes_more : (bytes more : List ℕ) (h : Header) (rest out : List ℕ) → DecodesFile bytes h rest out → DecodesFile (bytes ++ more) h (rest ++ more) out
 decodes_more bytes more h rest out f =
     decodes_file h f.cs (bytes ++ more) (rest ++ more) out f.is_file (ap (λ z. z ++ more) f.split ∙ append_assoc (file h f.cs) rest more) f.out_is
 
--- so they are when a decoder reads it, in the file's own channels
+-- a header and the image that a decoder reads after it are a file, in the file's own channels
 pub decodes_after : (bytes : List ℕ) (d : DecoderState (List ℕ)) (rest out : List ℕ) → AreBytes bytes → header_of bytes ≡ Ok d.header
     → d.channels ≡ d.header.channels → d.reader ≡ drop header_size bytes
     → ReadsImage (channels_number d.header.channels) (channels_number d.channels) (pixel_count d.header) (Some d.reader) (Some rest) out
     → DecodesFile bytes d.header rest out
-decodes_after bytes d rest out fits read own after r =
-    let own_channels = subst (λ k. ReadsImage (channels_number d.header.channels) (channels_number k) (pixel_count d.header) (Some d.reader)
-    (Some rest) out) own r in
-    decodes_read d.header bytes rest out fits read
-    (subst (λ z. ReadsImage (channels_number d.header.channels) (channels_number d.header.channels) (pixel_count d.header) (Some z)
-    (Some rest) out) after own_channels)
+decodes_after bytes d rest out fits read own after reads =
+    let r = rw (own, after) at reads in
+    let taken : drop header_size bytes ≡ chunk_bytes r.cs ++ (end_marker ++ rest) = r.taken ∙ append_assoc (chunk_bytes r.cs) end_marker rest in
+    let whole : IsWhole (pixel_count d.header) (drop header_size bytes) r.cs rest = record {
+      has = record { chunks = r.chunks; stays_below = r.reaches.stays_below; split = taken };
+      enough = r.reaches.enough;
+    } in
+    let front = file_from_whole d.header r.cs bytes rest fits read whole in
+    decodes_file d.header r.cs bytes rest out front.0 front.1 r.out_is

@@ -16,7 +16,7 @@ use Rattle.qoi.specs.Raw.{IsChannels, pixel_bytes, output}
 use Rattle.qoi.specs.Decoding.{TakesImagePixels, ReadsImage}
 use Rattle.qoi.specs.inner.Filling.{HasSeen, HasWritten, IsFillable, upto, reached, filling, DecoderBetween}
 use Rattle.qoi.specs.inner.Hashed.{pixel_of_lanes}
-use Rattle.qoi.specs.pieces.InPlace.{TakesPiece, IsInPlace}
+use Rattle.qoi.specs.pieces.InPlace.{TakesPiece}
 use Rattle.qoi.specs.pieces.Unread.{kept_raw, bytes_left, copies, KeepsWithin, KeepsNothing, AreWhole, DecoderAfter, IsUnread}
 use Rattle.qoi.proofs.format.ChunkSteps.{times_some, reverse-replicate}
 use Rattle.qoi.proofs.format.WholePixels.{by_channels, whole_pixels, length-output, take_whole}
@@ -38,25 +38,6 @@ stay_within m past (c ∷ cs) are most =
       omega (arith, most, longer (then_chunk past c) cs, length-append (replicate (times c) p) past, length-replicate (times c) p, times_some c are.0),
       stay_within m (then_chunk past c) cs are.1 most,
     )
-
--- pixels that are gone, and an empty output
-pub opens : {f c : ℕ} {gone : Past} {Taken : List ℕ → Type 0} {table : List ℕ} {last : ℕ} (n : ℕ) (out : List ℕ) → IsChannels c
-    → DecoderAfter Taken table last gone → length out ≡ c * n → DecoderBetween f c gone n Taken (filling table (reached last 0) out)
-opens {f} {c} {gone} {Taken} {table} {last} n out is s size = record {
-  cs = s.cs;
-  chunks = s.chunks;
-  recent = [];
-  pixels = s.pixels;
-  stays_below = stay_within (length gone + n) [] s.cs s.chunks (omega (arith, ap length s.pixels));
-  taken = s.taken;
-  filled = record { room = size; at_is = none; same = refl };
-  has_seen = subst (HasSeen (filling table (reached last 0) out)) (sym s.pixels) (record { table_is = s.table_is; last_is = s.last_is });
-  within = omega arith;
-  whole = none_written c is;
-}
-  where
-    none : 0 ≡ c * min n 0
-    none = by_channels (λ k. 0 ≡ k * min n 0) is (omega arith) (omega arith)
 
 -- what stands after an output that isn't full
 abbrev pub Closed : (f c : ℕ) (gone : Past) (Taken : List ℕ → Type 0) (table : List ℕ) (now : Reached) (given out : List ℕ) → Type 0
@@ -117,11 +98,6 @@ with_marker {old = old} {middle = middle} {new = new} s took = record {
   out_is = s.out_is;
 }
 
--- what stands at the front of an output stands at that of its whole pixels
-pub front_run : {f c : ℕ} {ps : List RgbaPixel} (before out : List ℕ) (run size : ℕ) → run ≤ size
-    → HasWritten f c (upto before 0) (upto out run) ps → HasWritten f c (upto before 0) (upto (take size out) run) ps
-front_run before out run size fits w = record { at_is = w.at_is; same = take-take run size out fits ∙ w.same }
-
 -- from the beginning on
 none_off : (n : ℕ) → n - 0 ≡ n
 none_off n = omega arith
@@ -133,10 +109,6 @@ from_none n = omega arith
 -- no bytes, no copies
 pub no_copies : (c run last : ℕ) (gone : Past) → IsChannels c → run ≡ 0 → copies c run last ++ gone ≡ gone
 no_copies c run last gone is none = ap (λ z. z ++ gone) (by_channels (λ d. run ≡ 0 → copies d run last ≡ []) is (λ e. rw e refl) (λ e. rw e refl) none)
-
--- a run fits where the vectors of any run do
-run_fits : (c run size : ℕ) → IsChannels c → run ≤ c * 62 → 256 ≤ size → run ≤ size
-run_fits c run size is = by_channels (λ d. run ≤ d * 62 → 256 ≤ size → run ≤ size) is (λ a b. omega (arith, a, b)) (λ a b. omega (arith, a, b))
 
 -- with nothing kept, what is left isn't decoded
 only_undecoded : (g l u t : ℕ) → l ≡ 0 → g + (l + u) ≡ t → g + u ≡ t
@@ -161,29 +133,15 @@ pub record Lent (f c n m : ℕ) (start old : Option (List ℕ)) (given : List �
   pub so_far : given ≡ output f c (reverse gone)
   pub most : length gone + m ≤ n
 
-pub lent : {f c n : ℕ} {start old : Option (List ℕ)} {given : List ℕ} {p : Unread} (m : ℕ) (out : List ℕ) → IsChannels c → IsUnread f c n start old given p
-    → KeepsNothing p → 0 < p.undecoded → length out ≡ c * m → length out ≤ p.undecoded → Lent f c n m start old given p out 0
-lent {f} {c} {n} {start} {old} {given} {p} m out is h none some size fits =
-    let (gone, stands, all) = h.goes_on some in
-    let so_far : given ≡ output f c (reverse gone) = sym (none_kept p given none.0) ∙ all in
-    record {
-      gone = gone;
-      before = opens m out is (subst (DecoderAfter (Consumes start old) p.table p.last) (no_copies c p.run p.last gone is none.1) stands) size;
-      so_far = so_far;
-      most = gone_most f c n m gone given p.undecoded is so_far (only_undecoded (length given) (p.to - p.from) p.undecoded (c * n) (omega (arith, none)) h.size) (subst (λ k. k ≤ p.undecoded) size fits);
-    }
-
 -- as many copies of the last pixel as are left of a run, at the front of an output
-begun : {f c : ℕ} {gone : Past} {Taken : List ℕ → Type 0} {table : List ℕ} {last : ℕ} (m run : ℕ) (before out : List ℕ) → IsChannels c
-    → DecoderAfter Taken table last (copies c run last ++ gone) → length out ≡ c * m → run % c ≡ 0 → run ≤ length out
-    → HasWritten f c (upto before 0) (upto out (0 + c * (run / c))) (replicate (run / c) (pixel_of_lanes last))
+begun : {f c : ℕ} {gone : Past} {Taken : List ℕ → Type 0} {table : List ℕ} {last : ℕ} (m run : ℕ) (out : List ℕ) → IsChannels c
+    → DecoderAfter Taken table last (copies c run last ++ gone) → length out ≡ c * m → run % c ≡ 0 → run ≤ length out → take run out ≡ output f c (copies c run last)
     → DecoderBetween f c gone m Taken (filling table (reached last run) out)
-begun {f} {c} {gone} {Taken} {table} {last} m run before out is s size whole fits written =
+begun {f} {c} {gone} {Taken} {table} {last} m run out is s size whole fits bytes =
     let recent = copies c run last in
     let many : run ≡ c * (run / c) = whole_pixels c run is whole in
     let few : run / c ≤ m = by_channels (λ d. run ≤ length out → length out ≡ d * m → run / d ≤ m) is (λ a b. omega (arith, a, b)) (λ a b. omega (arith, a, b)) fits size in
     let count : length recent ≡ run / c = length-replicate (run / c) (pixel_of_lanes last) in
-    let bytes : take run out ≡ output f c recent = ap (λ k. take k out) (many ∙ from_none (c * (run / c))) ∙ written.same in
     let long : length (output f c recent) ≡ run = length-output f c recent is ∙ ap (λ k. c * k) count ∙ sym many in
     record {
       cs = s.cs;
@@ -206,21 +164,27 @@ begun {f} {c} {gone} {Taken} {table} {last} m run before out is s size whole fit
     least m k le = omega (arith, le)
 
 -- the same of what is unread
-pub run_lent : {f c n : ℕ} {start old : Option (List ℕ)} {given : List ℕ} (p : Unread) (m : ℕ) (before out : List ℕ) → IsChannels c → IsUnread f c n start old given p
-    → p.from ≡ p.to → AreWhole c p → 256 ≤ length out → length out ≡ c * m → length out + 256 ≤ p.undecoded
-    → HasWritten f c (upto before 0) (upto out (0 + c * (p.run / c))) (replicate (p.run / c) (pixel_of_lanes p.last)) → Lent f c n m start old given p out p.run
-run_lent {f} {c} {n} {start} {old} {given} p m before out is h same whole long size fits written =
-    let (gone, stands, all) = h.goes_on (omega (arith, fits)) in
+run_lent : {f c n : ℕ} {start old : Option (List ℕ)} {given : List ℕ} (p : Unread) (m : ℕ) (out : List ℕ) → IsChannels c → IsUnread f c n start old given p
+    → p.from ≡ p.to → 0 < p.undecoded → length out ≡ c * m → length out ≤ p.undecoded → p.run % c ≡ 0 → p.run ≤ length out → take p.run out ≡ output f c (copies c p.run p.last)
+    → Lent f c n m start old given p out p.run
+run_lent {f} {c} {n} {start} {old} {given} p m out is h same some size fits whole inside bytes =
+    let (gone, stands, all) = h.goes_on some in
     let so_far : given ≡ output f c (reverse gone) = sym (none_kept p given same) ∙ all in
     record {
       gone = gone;
-      before = begun m p.run before out is stands size whole.1 (run_fits c p.run (length out) is whole.2 long) written;
+      before = begun m p.run out is stands size whole inside bytes;
       so_far = so_far;
-      most = gone_most f c n m gone given p.undecoded is so_far (only_undecoded (length given) (p.to - p.from) p.undecoded (c * n) (omega (arith, same)) h.size)
-          (subst (λ k. k ≤ p.undecoded) size (omega (arith, fits)));
+      most = gone_most f c n m gone given p.undecoded is so_far (only_undecoded (length given) (p.to - p.from) p.undecoded (c * n) (omega (arith, same)) h.size) (subst (λ k. k ≤ p.undecoded) size fits);
     }
 
--- the same in the whole pixels of an output, of which so many bytes are lent
+-- with no run
+pub lent : {f c n : ℕ} {start old : Option (List ℕ)} {given : List ℕ} {p : Unread} (m : ℕ) (out : List ℕ) → IsChannels c → IsUnread f c n start old given p
+    → KeepsNothing p → 0 < p.undecoded → length out ≡ c * m → length out ≤ p.undecoded → Lent f c n m start old given p out 0
+lent {f} {c} {n} {start} {old} {given} {p} m out is h none some size fits =
+    subst (Lent f c n m start old given p out) none.1 (run_lent p m out is h none.0 some size fits (rw none.1 (none_written c is)) (omega (arith, none))
+    (by_channels (λ d. take p.run out ≡ output f c (copies d p.run p.last)) is (rw none.1 refl) (rw none.1 refl)))
+
+-- the whole pixels of an output with a run in front are lent
 pub piece_lent : {f c n : ℕ} {start old : Option (List ℕ)} {given : List ℕ} (p : Unread) (before out : List ℕ) → IsChannels c → IsUnread f c n start old given p
     → p.from ≡ p.to → AreWhole c p → 512 ≤ length before → length before + 256 ≤ p.undecoded → length out ≡ length before
     → HasWritten f c (upto before 0) (upto out (0 + c * (p.run / c))) (replicate (p.run / c) (pixel_of_lanes p.last))
@@ -228,11 +192,11 @@ pub piece_lent : {f c n : ℕ} {start old : Option (List ℕ)} {given : List ℕ
 piece_lent {c = c} p before out is h same whole long fits same_size written =
     let size = length before / c * c in
     let within = whole_within c (length before) is in
-    let room : 256 ≤ size = by_channels (λ d. 256 ≤ length before / d * d) is (omega (arith, long)) (omega (arith, long)) in
     let all : length (take size out) ≡ size = length-take-le size out (omega (arith, same_size, within)) in
-    let run : 0 + c * (p.run / c) ≤ size = by_channels (λ d. p.run ≤ d * 62 → 0 + d * (p.run / d) ≤ size) is (λ a. omega (arith, a, room)) (λ a. omega (arith, a, room)) whole.2 in
-    run_lent p (length before / c) before (take size out) is h same whole (omega (arith, all, room)) (all ∙ whole_times c (length before) is) (omega (arith, all, within, fits))
-    (front_run before out (0 + c * (p.run / c)) size run written)
+    let room : 256 ≤ size = by_channels (λ d. 256 ≤ length before / d * d) is (omega (arith, long)) (omega (arith, long)) in
+    let run : p.run ≤ size = by_channels (λ d. p.run ≤ d * 62 → p.run ≤ size) is (λ a. omega (arith, a, room)) (λ a. omega (arith, a, room)) whole.2 in
+    let stored = take-take p.run size out run ∙ ap (λ k. take k out) (whole_pixels c p.run is whole.1 ∙ from_none (c * (p.run / c))) ∙ written.same in
+    run_lent p (length before / c) (take size out) is h same (omega (arith, fits)) (all ∙ whole_times c (length before) is) (omega (arith, all, within, fits)) whole.1 (omega (arith, all, run)) stored
 
 -- the rest of a run is kept
 pub run_kept : {f c n : ℕ} {start now : Option (List ℕ)} {given : List ℕ} (p : Unread) (bytes : List ℕ) → IsChannels c → IsUnread f c n start now given p
@@ -281,47 +245,40 @@ front_lent {c = c} p out is h none fits some =
 pub moved_size : (g k l u a t : ℕ) → g + (l + u) ≡ t → a ≤ u → k ≡ a → (g + k) + (l + (u - a)) ≡ t
 moved_size g k l u a t e le same = omega arith
 
--- chunks were decoded into what was lent
-pub long_read : {f c n m : ℕ} {start old new : Option (List ℕ)} {given : List ℕ} {p : Unread} {out : List ℕ} {table : List ℕ} {to : Reached}
-    (now rest : List ℕ) → IsChannels c → IsUnread f c n start old given p → KeepsNothing p → (l : Lent f c n m start old given p out 0)
-    → DecoderBetween f c l.gone m (Consumes start new) (filling table to now) → to.at < length now → length now ≤ p.undecoded
-    → IsUnread f c n start new (given ++ take to.at (now ++ rest)) (record p { table = table; last = to.last; undecoded = p.undecoded - to.at })
-long_read {f} {c} {n} {m} {start} {old} {new} {given} {p} {out} {table} {to} now rest is h same l after inside fits =
-    let (all, stands, e) = closes given now is after inside l.so_far in
-    let front : take to.at (now ++ rest) ≡ take to.at now = take-append-le to.at now rest (omega (arith, inside)) in
-    let then : Unread = record p { table = table; last = to.last; undecoded = p.undecoded - to.at } in
-    let more = given ++ take to.at (now ++ rest) in
-    let size : length more ≡ length given + to.at =
-    length-append given (take to.at (now ++ rest)) ∙ ap (λ k. length given + k) (ap length front ∙ length-take-le to.at now (omega (arith, inside))) in
-    record {
-      size = ap (λ k. k + (p.to - p.from + (p.undecoded - to.at))) size ∙ moved_size (length given) to.at (p.to - p.from) p.undecoded to.at (c * n) h.size (omega (arith, inside, fits)) refl;
-      goes_on = λ some. (all, subst (DecoderAfter (Consumes start new) table to.last) (sym (no_copies c p.run to.last all is same.1)) stands, none_kept then more same.0 ∙ ap (λ z. given ++ z) front ∙ e);
-      ends = λ none. absurd (omega (arith, none, inside, fits));
-    }
-
 -- no more than the output's bytes are lent
 pub placed_most : (c : ℕ) (before out : List ℕ) → IsChannels c → length (take (length before / c * c) out) ≤ length before
 placed_most c before out is =
     omega (arith, length-take (length before / c * c) out, whole_within c (length before) is)
 
 -- a piece of what was lent was taken
-pub piece_read : {f c n m : ℕ} {start old new : Option (List ℕ)} {given : List ℕ} {p : Unread} {out : List ℕ} {table : List ℕ}
-    (now rest : List ℕ) (placed : InPlace) → IsChannels c → IsUnread f c n start old given p → p.from ≡ p.to → (l : Lent f c n m start old given p out p.run)
-    → TakesPiece f c l.gone (Consumes start new) table now placed → IsInPlace c (length now) placed → length now + 256 ≤ p.undecoded
+pub piece_read : {f c n : ℕ} {start old new : Option (List ℕ)} {given : List ℕ} {p : Unread} {table : List ℕ} (gone : Past)
+    (now rest : List ℕ) (placed : InPlace) → IsUnread f c n start old given p → p.from ≡ p.to → given ≡ output f c (reverse gone)
+    → TakesPiece f c gone (Consumes start new) table now placed → placed.reached.at ≤ length now → placed.reached.at < p.undecoded
     → IsUnread f c n start new (given ++ take placed.reached.at (now ++ rest))
     (record p { table = table; last = placed.reached.last; run = placed.run; undecoded = p.undecoded - placed.reached.at })
-piece_read {f} {c} {n} {m} {start} {old} {new} {given} {p} {out} {table} now rest placed is h same l t sizes fits =
+piece_read {f} {c} {n} {start} {old} {new} {given} {p} {table} gone now rest placed h same so_far t inside fits =
     let at = placed.reached.at in
-    let inside = sizes.within in
     let front : take at (now ++ rest) ≡ take at now = take-append-le at now rest inside in
     let then : Unread = record p { table = table; last = placed.reached.last; run = placed.run; undecoded = p.undecoded - at } in
     let more = given ++ take at (now ++ rest) in
     let size : length more ≡ length given + at = length-append given (take at (now ++ rest)) ∙ ap (λ k. length given + k) (ap length front ∙ length-take-le at now inside) in
     record {
-      size = ap (λ k. k + (p.to - p.from + (p.undecoded - at))) size ∙ moved_size (length given) at (p.to - p.from) p.undecoded at (c * n) h.size (omega (arith, inside, fits)) refl;
-      goes_on = λ some. (t.all, t.after, none_kept then more same ∙ ap (λ z. given ++ z) front ∙ ap (λ z. z ++ take at now) l.so_far ∙ t.bytes_are);
-      ends = λ none. absurd (omega (arith, none, inside, fits));
+      size = ap (λ k. k + (p.to - p.from + (p.undecoded - at))) size ∙ moved_size (length given) at (p.to - p.from) p.undecoded at (c * n) h.size (omega (arith, fits)) refl;
+      goes_on = λ some. (t.all, t.after, none_kept then more same ∙ ap (λ z. given ++ z) front ∙ ap (λ z. z ++ take at now) so_far ∙ t.bytes_are);
+      ends = λ none. absurd (omega (arith, none, fits));
     }
+
+-- chunks were decoded into what was lent
+pub long_read : {f c n m : ℕ} {start old new : Option (List ℕ)} {given : List ℕ} {p : Unread} {out : List ℕ} {table : List ℕ} {to : Reached}
+    (now rest : List ℕ) → IsChannels c → IsUnread f c n start old given p → KeepsNothing p → (l : Lent f c n m start old given p out 0)
+    → DecoderBetween f c l.gone m (Consumes start new) (filling table to now) → to.at < length now → length now ≤ p.undecoded
+    → IsUnread f c n start new (given ++ take to.at (now ++ rest)) (record p { table = table; last = to.last; undecoded = p.undecoded - to.at })
+long_read {f} {c} {n} {m} {start} {old} {new} {given} {p} {out} {table} {to} now rest is h same l after inside fits =
+    let (all, stands, e) = closes (output f c (reverse l.gone)) now is after inside refl in
+    let placed : InPlace = record { taken = 0; reached = to; run = 0 } in
+    let t : TakesPiece f c l.gone (Consumes start new) table now placed = record { all = all; after = subst (DecoderAfter (Consumes start new) table to.last) (sym (no_copies c 0 to.last all is refl)) stands; bytes_are = e } in
+    subst (λ k. IsUnread f c n start new (given ++ take to.at (now ++ rest)) (record p { table = table; last = to.last; run = k; undecoded = p.undecoded - to.at })) (sym same.1)
+    (piece_read l.gone now rest placed h same.0 l.so_far t (omega (arith, inside)) (omega (arith, inside, fits)))
 
 -- chunks were decoded into the front of what is kept
 pub kept_read : {f c n m : ℕ} {start old new : Option (List ℕ)} {given : List ℕ} {p : Unread} {out : List ℕ} {table : List ℕ} {to : Reached}

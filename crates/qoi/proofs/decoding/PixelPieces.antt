@@ -1,5 +1,5 @@
 -- What was given of an image, as a caller sees it.
-use Rattle.std.proofs.Common.{◌≡◌, ℕ, ◌+◌, ◌<◌, ◌≤◌, ◌^◌, List, length, Bool, true, false, Option, arith, refl, sym, ap, ◌∙◌, subst}
+use Rattle.std.proofs.Common.{◌≡◌, ℕ, ◌+◌, ◌<◌, ◌≤◌, ◌^◌, List, length, Bool, true, false, Option, arith, refl, ◌∙◌, subst}
 use Rattle.std.proofs.Math.Nat.{mul_comm}
 use Rattle.std.proofs.KnownBytes.{Keeps-refl}
 use Rattle.qoi.specs.declared.error.Error.{Error}
@@ -54,35 +54,16 @@ pub refuses_pixels : {R : Type 0} (in_memory : Bool) (d : DecoderState R) (start
 refuses_pixels true d start now e why = has_refused true d start start e (Keeps-refl start, why)
 refuses_pixels false d start now e why = has_refused false d start now e why
 
+-- three channels don't show how many the file has
+pub in_three : {f g n : ℕ} {start now : Option (List ℕ)} {given : List ℕ} {p : Unread} → IsUnread f 3 n start now given p → IsUnread g 3 n start now given p
+in_three h = record {
+  size = h.size;
+  goes_on = λ some. let (gone, stands, e) = h.goes_on some in (gone, stands, e);
+  ends = λ none. let r = h.ends none in record { cs = r.cs; chunks = r.chunks; reaches = r.reaches; taken = r.taken; out_is = r.out_is };
+}
+
 -- the same of values that are equal
-pub unread_as : {n : ℕ} {start : Option (List ℕ)} {given : List ℕ} {f g c k : ℕ} {now other : Option (List ℕ)} {p q : Unread} → f ≡ g → c ≡ k → now ≡ other → p ≡ q
-    → IsUnread g k n start other given q → IsUnread f c n start now given p
-unread_as {n} {start} {given} {f} {g} {c} {k} {now} {other} {p} {q} file channels ahead unread h =
-    subst (λ z. IsUnread z c n start now given p) (sym file)
-    (subst (λ z. IsUnread g z n start now given p) (sym channels)
-    (subst (λ z. IsUnread g k n start z given p) (sym ahead)
-    (subst (λ z. IsUnread g k n start other given z) (sym unread) h)))
-
--- three channels of a file of four
-pub three_of_four : {n : ℕ} {start now : Option (List ℕ)} {given : List ℕ} {p : Unread} → IsUnread 4 3 n start now given p → IsUnread 3 3 n start now given p
-three_of_four h = record {
-  size = h.size;
-  goes_on = λ some. let (gone, stands, e) = h.goes_on some in (gone, stands, e);
-  ends = λ none. let r = h.ends none in record { cs = r.cs; chunks = r.chunks; reaches = r.reaches; taken = r.taken; out_is = r.out_is };
-}
-
--- and back
-pub four_as_three : {n : ℕ} {start now : Option (List ℕ)} {given : List ℕ} {p : Unread} → IsUnread 3 3 n start now given p → IsUnread 4 3 n start now given p
-four_as_three h = record {
-  size = h.size;
-  goes_on = λ some. let (gone, stands, e) = h.goes_on some in (gone, stands, e);
-  ends = λ none. let r = h.ends none in record { cs = r.cs; chunks = r.chunks; reaches = r.reaches; taken = r.taken; out_is = r.out_is };
-}
-
--- the same of equal headers and channels
 pub unread_of : {start : Option (List ℕ)} {given : List ℕ} {h g : Header} {c k : Channels} {now other : Option (List ℕ)} {p q : Unread} → h ≡ g → c ≡ k → now ≡ other → p ≡ q
     → IsUnread (channels_number g.channels) (channels_number k) (pixel_count g) start other given q
     → IsUnread (channels_number h.channels) (channels_number c) (pixel_count h) start now given p
-unread_of {start} {given} {h} {g} {c} {k} {now} {other} {p} {q} header channels ahead unread x =
-    subst (λ z. IsUnread (channels_number z.channels) (channels_number c) (pixel_count z) start now given p) (sym header)
-    (unread_as refl (ap channels_number channels) ahead unread x)
+unread_of header channels ahead unread x = rw (header, channels, ahead, unread) x

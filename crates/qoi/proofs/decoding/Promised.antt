@@ -1,5 +1,6 @@
 -- What a success and a refusal promise follows from what they mean.
 use Rattle.std.proofs.Common.{◌≡◌, ◌≤◌, ◌<◌, ◌+◌, ℕ, ◌*◌, List, [], take, length, Bool, Option, None, Some, IfSome, Ok, ◌-◌, ◌^◌, min, ◌++◌, drop, inl, inr, refl, sym, ◌∙◌, subst, ap, arith}
+use Rattle.std.proofs.Math.Nat.{mul_comm}
 use Rattle.std.proofs.lemmas.List.{append-nil, append_assoc, length-append, length-drop, take-append-drop, take_at}
 use Rattle.qoi.specs.declared.chunk.Chunk.{Chunk}
 use Rattle.qoi.specs.declared.header.Header.{Header}
@@ -13,15 +14,17 @@ use Rattle.qoi.specs.Qoi.{channels_number, pixel_count, header_size, header_of, 
 use Rattle.qoi.specs.Raw.{HasImageLength, capped_byte_count, image_byte_count, byte_count}
 use Rattle.qoi.specs.Decoding.{DecodesFile, ReadsImage, TakesHeader, RefusesBytes, RefusesFile, RefusesImage, RefusesStreamHeader}
 use Rattle.qoi.specs.DecoderState.{DecoderState, output_byte_count}
-use Rattle.qoi.specs.Images.{front_image, front_rest, file_image, file_rest}
+use Rattle.qoi.specs.declared.decode.conversion.Conversion.{Conversion}
+use Rattle.qoi.specs.inner.Conversion.{conversion_of, ReadsIn, RefusesIn}
+use Rattle.qoi.specs.Images.{front_image, front_rest, file_image, file_image_in, file_rest}
 use Rattle.qoi.specs.Reading.{IsImage}
 use Rattle.qoi.specs.Decoded.{HasHeader, HasRefusedHeader, HasDecoded, HasRefused, HasDecodedFile, HasRefusedFile}
 use Rattle.qoi.specs.Encoded.{IsFileOf}
 use Rattle.qoi.specs.Verdicts.{IsWhole}
 use Rattle.qoi.proofs.decoding.Ahead.{decoder_of, fault_ahead, file_ahead, header_front, header_read_from, file_from_image, fourth_of_image, image_not_cut, image_not_wrong, image_read_from}
-use Rattle.qoi.proofs.decoding.LeastBytes.{whole_holds}
-use Rattle.qoi.proofs.decoding.FrontImage.{file_image_is, file_rest_then, image_after_read, image_in_after_read, front_read, nine_read, some_pixels, three_read}
-use Rattle.qoi.proofs.decoding.ImageSize.{bounded_by}
+use Rattle.qoi.proofs.decoding.LeastBytes.{nine_taken, whole_holds}
+use Rattle.qoi.proofs.decoding.FrontImage.{file_image_is, file_rest_then, image_after, image_in_after, image_is, rest_is, some_pixels, three_of_front}
+use Rattle.qoi.proofs.decoding.ImageSize.{bounded_by, channels_are, image_length, pixels_of_size}
 use Rattle.qoi.proofs.decoding.OneFile.{decodes_after, decodes_more, file_has_header, file_is_whole, header_is_one}
 use Rattle.qoi.proofs.format.HeaderBytes.{header_front as header_at_front}
 use Rattle.qoi.proofs.format.OneVerdict.{whole_not_cut, whole_not_wrong}
@@ -31,24 +34,32 @@ use Rattle.qoi.proofs.decoding.Tiles.{file_put}
 use Rattle.qoi.proofs.decoding.TakenBytes.{read_within, refused_within}
 
 -- what holds of known bytes
-if_known : (old : Option (List ℕ)) (P : List ℕ → Type 0) → ((bytes : List ℕ) → old ≡ Some bytes → P bytes) → IfSome old P
+pub if_known : (old : Option (List ℕ)) (P : List ℕ → Type 0) → ((bytes : List ℕ) → old ≡ Some bytes → P bytes) → IfSome old P
 if_known None P is = tt
 if_known (Some bytes) P is = is bytes refl
 
 -- what a decoder that was made promises
 pub has_header : {R : Type 0} (d : DecoderState R) (old new : Option (List ℕ)) → TakesHeader old new d.header → d.channels ≡ d.header.channels
     → HasHeader d old new
-has_header d old new takes own = record {
-  takes = takes;
-  channels = own;
-  header = if_known old _ (λ bytes told. (header_read_from old new bytes d.header takes told).0);
-  after = if_known old _ (λ bytes told. (header_read_from old new bytes d.header takes told).1);
-  image = subst (λ k. IfSome old (λ bytes. IfSome new (λ ahead. (front_image k d.header ahead ≡ file_image bytes)
-      × (front_rest d.header ahead ≡ file_rest bytes)))) (sym own) (image_after_read old new d.header takes);
-  image_in = image_in_after_read old new d.header takes;
-  made = if_known old _ (λ bytes told.
-      let front = header_front old new bytes d.header takes told in decoder_of d bytes (drop header_size bytes) front.0 front.1 own);
-}
+has_header d old new takes own =
+    let front : (bytes : List ℕ) → old ≡ Some bytes → (header_of bytes ≡ Ok d.header) × (new ≡ Some (drop header_size bytes)) =
+    (λ bytes told. header_read_from old new bytes d.header takes told) in
+    record {
+      takes = takes;
+      channels = own;
+      header = if_known old _ (λ bytes told. (front bytes told).0);
+      after = if_known old _ (λ bytes told. (front bytes told).1);
+      image = if_known old _ (λ bytes told.
+          let (read, left) = front bytes told in
+          subst (λ o. IfSome o (λ ahead. (front_image d.channels d.header ahead ≡ file_image bytes) × (front_rest d.header ahead ≡ file_rest bytes))) (sym left)
+          (image_after d.channels d.header bytes read own));
+      image_in = if_known old _ (λ bytes told.
+          let (read, left) = front bytes told in
+          subst (λ o. IfSome o (λ ahead. (channels : Channels) → front_image channels d.header ahead ≡ file_image_in channels bytes)) (sym left)
+          (λ channels. image_in_after channels d.header bytes read));
+      made = if_known old _ (λ bytes told.
+          let parts = header_front old new bytes d.header takes told in decoder_of d bytes (drop header_size bytes) parts.0 parts.1 own);
+    }
 
 -- a valid header is refused only for a fault of the reader
 header_fault : (bytes : List ℕ) (e : Error) (h : Header) → RefusesStreamHeader (Some bytes) e → header_of bytes ≡ Ok h → IsIoError e
@@ -77,11 +88,13 @@ has_decoded d old new out size r =
     let many : 3 ≤ pixel_count d.header * channels_number d.channels = omega (arith, size.0, size.1) in
     record {
       reads = r;
-      image = front_read d.channels d.header old new out stands;
-      took = nine_read d.channels d.header old new out (some_pixels _ _ many) stands;
+      image = if_known old _ (λ bytes told. let s = stands bytes told in (image_is d.channels d.header bytes s.0 out s.2, s.1 ∙ ap Some (rest_is d.channels d.header bytes s.0 out s.2)));
+      took = if_known old _ (λ bytes told. let s = stands bytes told in
+          subst (λ o. IfSome o (λ rest. length rest + 9 ≤ length bytes)) (sym s.1) (nine_taken (pixel_count d.header) bytes s.2.cs s.0 (some_pixels _ _ many) s.2.whole));
       rest = stands;
       file = λ source ahead made told. file_from_image (λ _. old) d source ahead new out made told stands;
-      rgb = λ three. three_read d.channels d.header old new out three stands;
+      rgb = λ three. if_known old _ (λ bytes told. let s = stands bytes told in
+          image_is d.channels d.header bytes s.0 out s.2 ∙ ap (λ c. front_image c d.header bytes) three ∙ three_of_front d.header bytes);
       opaque = λ four three i below. fourth_of_image _ _ _ old new out r (ap channels_number three) (ap channels_number four) i below;
       first_opaque = λ four three. fourth_of_image _ _ _ old new out r (ap channels_number three) (ap channels_number four) 0 (some_pixels _ _ many);
       size = size;
@@ -103,6 +116,27 @@ has_refused in_memory d old new e r = record {
   only_wrong = λ bytes told is. padding_is_only_wrong in_memory _ old new e bytes told is r;
   within = refused_within in_memory _ old new e r;
 }
+
+-- what a refusal in a decoder's channels promises
+pub refused_in : {R : Type 0} {in_memory : Bool} {k : Conversion} {size : ℕ} {start old new : Option (List ℕ)} {e : Error} (d : DecoderState R) → k ≡ conversion_of d
+    → size ≡ output_byte_count d → start ≡ old → RefusesIn k size in_memory start new e → HasRefused in_memory d old new e
+refused_in {in_memory = in_memory} {k} {size} {old = old} {new} {e} d own all ahead why =
+    let pixels = pixels_of_size d.header d.channels size (channels_number k.channels) all (ap (λ j. channels_number j.channels) own) in
+    has_refused in_memory d old new e (subst (λ z. RefusesImage in_memory (pixel_count d.header) z new e) ahead (rw pixels at why))
+
+-- and a success
+pub decoded_in : {R : Type 0} {k : Conversion} {size : ℕ} {start old new : Option (List ℕ)} {out : List ℕ} (d : DecoderState R) → k ≡ conversion_of d
+    → size ≡ output_byte_count d → 3 ≤ size → start ≡ old → ReadsIn k size start new out → HasDecoded d old new out
+decoded_in {k = k} {size} {old = old} {new} {out} d own all some ahead read =
+    let n = pixel_count d.header in
+    let c = channels_number d.channels in
+    let f = channels_number d.header.channels in
+    let channels = ap (λ j. channels_number j.channels) own in
+    let file = ap (λ j. channels_number j.file_channels) own in
+    let pixels = pixels_of_size d.header d.channels size (channels_number k.channels) all channels in
+    let is : ReadsImage f c n old new out = subst (λ z. ReadsImage f c n z new out) ahead (rw (pixels, file, channels) at read) in
+    let long = image_length f c n old new out (channels_are d.channels c refl) is ∙ mul_comm c n in
+    has_decoded d old new out (long, omega (arith, long, some, all)) is
 
 -- the number of an image's bytes is exact for a valid header
 pub capped_is : (h : Header) → IsValid h → capped_byte_count h ≡ image_byte_count h

@@ -1,5 +1,6 @@
--- What refusals exclude.
-use Rattle.std.proofs.Common.{◌≡◌, ℕ, List, Bool, true, false, Option, Some, None, subst}
+-- What refusals exclude, and what is handed on of them.
+use Rattle.std.proofs.Common.{◌≡◌, ℕ, List, Bool, true, false, Option, Some, None, Result, Err, MatchResult, IsErrAnd, ◌∙◌, ap, subst}
+use Rattle.std.proofs.lemmas.Result.{err_from_is_err_and}
 use Rattle.qoi.specs.declared.error.Error.{Error}
 use Rattle.qoi.specs.declared.error.Error.TheVariants.{UnexpectedBufferEnd, InvalidPadding}
 use Rattle.qoi.specs.declared.chunk.Chunk.{Chunk}
@@ -22,3 +23,15 @@ whole_not_refused_in true n (Some xs) new e bytes cs rest memory told whole refu
     whole_not_refused n bytes cs rest e whole (subst (λ z. RefusesBytes n z e) same refused.1)
 whole_not_refused_in true n None new e bytes cs rest memory told whole refused = cc
 whole_not_refused_in false n old new e bytes cs rest memory told whole refused = cc
+
+-- what holds of the error that a `?` hands on holds of what is returned
+pub handed_on : {T E : Type 0} (P : T → Type 0) (Q : E → Type 0) {e : E} (r : Result T E) → IsErrAnd r (λ y. y ≡ e) → Q e → MatchResult r P Q
+handed_on P Q {e} r on is =
+    let (y, err, same) = err_from_is_err_and r on in
+    rw (err, same) is
+
+-- and that is this error
+pub handed_as : {T E : Type 0} {e d : E} (r : Result T E) → IsErrAnd r (λ y. y ≡ e) → e ≡ d → r ≡ Err d
+handed_as r on is =
+    let (y, err, same) = err_from_is_err_and r on in
+    err ∙ ap Err (same ∙ is)

@@ -42,24 +42,15 @@ refused_for_wrong true n old new e bytes told wrong refused =
 refused_for_wrong false n old new e bytes told wrong (taken, took, why) = padding_or_io n taken e why
 
 -- only cut bytes are refused for their end
-ended : (in_memory : Bool) (n : ℕ) (new : Option (List ℕ)) (bytes : List ℕ) → RefusesImage in_memory n (Some bytes) new UnexpectedBufferEnd → AreCut n bytes
-ended true n new bytes refused = refused.1
-ended false n new bytes (taken, took, none) = absurd none
-
--- the same if the bytes and the error are known by equations
 pub end_is_cut : (in_memory : Bool) (n : ℕ) (old new : Option (List ℕ)) (e : Error) (bytes : List ℕ) → old ≡ Some bytes → e ≡ UnexpectedBufferEnd
     → RefusesImage in_memory n old new e → AreCut n bytes
-end_is_cut in_memory n old new e bytes told is refused = ended in_memory n new bytes (rw (told, is) at refused)
+end_is_cut true n old new e bytes told is refused = (rw (told, is) at refused).1
+end_is_cut false n old new e bytes told is (taken, took, none) = absurd (rw is at none)
 
 -- only wrong bytes are refused for their padding
-padded : (in_memory : Bool) (n : ℕ) (new : Option (List ℕ)) (bytes : List ℕ) → RefusesImage in_memory n (Some bytes) new InvalidPadding
-    → AreWrong n bytes
-padded true n new bytes refused = refused.1
-padded false n new bytes (taken, took, why) =
-    let w = padding_is_wrong n bytes new taken took why in
-    (w.2, (w.0, w.1, w.3))
-
--- the same if the bytes and the error are known by equations
 pub padding_is_only_wrong : (in_memory : Bool) (n : ℕ) (old new : Option (List ℕ)) (e : Error) (bytes : List ℕ) → old ≡ Some bytes
     → e ≡ InvalidPadding → RefusesImage in_memory n old new e → AreWrong n bytes
-padding_is_only_wrong in_memory n old new e bytes told is refused = padded in_memory n new bytes (rw (told, is) at refused)
+padding_is_only_wrong true n old new e bytes told is refused = (rw (told, is) at refused).1
+padding_is_only_wrong false n old new e bytes told is (taken, took, why) =
+    let w = padding_is_wrong n bytes new taken (rw told at took) (rw is at why) in
+    (w.2, (w.0, w.1, w.3))

@@ -1,12 +1,12 @@
 -- An index of the rows of a file's image, and readers of that image.
-use Rattle.std.proofs.Common.{◌≡◌, ◌≤◌, ◌<◌, ◌+◌, ◌-◌, ◌*◌, ◌∙◌, ℕ, List, [], ◌∷◌, ◌++◌, length, drop, Option, Some, Result, Ok, Err, IsOk, IfOk, IfErr, OnOk, true, inl, inr, refl, sym, ap, subst, append_assoc, take, slice_index_or, false, zero-add, arith}
+use Rattle.std.proofs.Common.{◌≡◌, ◌≤◌, ◌<◌, ◌+◌, ◌-◌, ◌*◌, ◌∙◌, ℕ, List, [], ◌∷◌, ◌++◌, length, drop, Option, Some, Result, Ok, Err, IfOk, true, inl, inr, refl, sym, ap, subst, append_assoc, take, slice_index_or, false, zero-add, arith}
 use Rattle.std.proofs.lemmas.List.{drop-append-le, length-take-le, take-append-drop}
 use Rattle.std.proofs.lemmas.List.Elements.{All-nil, All-push}
 use Rattle.qoi.specs.declared.error.Error.{Error}
 use Rattle.qoi.specs.declared.header.Header.{Header}
 use Rattle.qoi.specs.declared.types.Channels.{Channels}
 use Rattle.qoi.specs.Decoded.{HasHeader, HasRefusedFile}
-use Rattle.qoi.specs.DecoderState.{DecoderState, output_byte_count}
+use Rattle.qoi.specs.DecoderState.{DecoderState}
 use Rattle.qoi.specs.Qoi.{channels_number, pixel_count, header_of, header_size, meaning, chunk_bytes, end_marker}
 use Rattle.qoi.specs.Reading.{IsImage, StandsAhead}
 use Rattle.qoi.specs.Raw.{output}
@@ -19,93 +19,53 @@ use Rattle.std.proofs.lemmas.Nat.{mul-le}
 use Rattle.qoi.proofs.format.WholePixels.{length-output}
 use Rattle.qoi.proofs.decoding.FrontImage.{image_is}
 use Rattle.qoi.proofs.decoding.ImageSize.{channels_are}
+use Rattle.qoi.proofs.decoding.OneFile.{header_is_one}
 use Rattle.qoi.proofs.decoding.Places.{header_fits, stands_then}
 use Rattle.qoi.proofs.decoding.Promised.{has_refused_file}
 
--- a reader that was just made, into any channels
-pub reads_start : (channels : Channels) (h : Header) (d e : DecoderState (List ℕ)) (file : List ℕ) (p : PixelsState (List ℕ)) → HasHeader d (Some file) (Some d.reader) → header_of file ≡ Ok h
-    → e ≡ record d { channels = channels } → HasGiven e (Some e.reader) (Some p.reader) [] p → ReadsFile channels h file p
-unfolding ReadsFile
-reads_start channels h d e file p made is same g =
-    let header : d.header ≡ h = cc (made.header, is) in
-    let reader : d.reader ≡ drop header_size file = cc made.after in
-    let own : HasGiven (record { reader = d.reader; header = d.header; channels = channels }) (Some d.reader) (Some p.reader) [] p =
-    subst (λ (z : DecoderState (List ℕ)). HasGiven z (Some z.reader) (Some p.reader) [] p) same g in
-    let read : HasGiven (record { reader = drop header_size file; header = d.header; channels = channels }) (Some (drop header_size file)) (Some p.reader) [] p =
-    subst (λ (r : List ℕ). HasGiven (record { reader = r; header = d.header; channels = channels }) (Some r) (Some p.reader) [] p) reader own in
-    (is, [], subst (λ (z : Header). HasGiven (file_decoder channels z file) (Some (drop header_size file)) (Some p.reader) [] p) header read)
-
--- none of its bytes was read
-pub all_left : (channels : Channels) (h : Header) (d e : DecoderState (List ℕ)) (file : List ℕ) (p : PixelsState (List ℕ)) → HasHeader d (Some file) (Some d.reader) → header_of file ≡ Ok h
-    → e ≡ record d { channels = channels } → HasGiven e (Some e.reader) (Some p.reader) [] p → pixels_left p ≡ pixel_count h * channels_number channels
-unfolding HasGiven
-all_left channels h d e file p made is same g =
-    let header : d.header ≡ h = cc (made.header, is) in
-    let all : pixels_left p ≡ output_byte_count e = sym (zero-add (pixels_left p)) ∙ g.left in
-    all ∙ ap (λ (z : DecoderState (List ℕ)). output_byte_count z) same ∙ ap (λ (z : Header). pixel_count z * channels_number channels) header
-
--- a decoder that was just made is that of the file, into any channels
-pub decoder_of : (channels : Channels) (d e : DecoderState (List ℕ)) (file : List ℕ) → HasHeader d (Some file) (Some d.reader) → e ≡ record d { channels = channels }
-    → IsDecoderOf file e
-decoder_of channels d e file made same =
-    let reader : d.reader ≡ drop header_size file = cc made.after in
-    let own : record d { channels = channels } ≡ file_decoder channels d.header file =
-    ap (λ (r : List ℕ). record { reader = r; header = d.header; channels = channels }) reader in
-    subst (IsDecoderOf file) (sym same) (made.header, own)
-
--- and so is its reader
+-- the reader of the file's decoder
 pub reads_first : (d : DecoderState (List ℕ)) (file : List ℕ) (p : PixelsState (List ℕ)) → IsDecoderOf file d → HasGiven d (Some d.reader) (Some p.reader) [] p
     → ReadsFile d.channels d.header file p
 unfolding ReadsFile
 reads_first d file p is g = (is.0, [], subst (λ (z : DecoderState (List ℕ)). HasGiven z (Some z.reader) (Some p.reader) [] p) is.1 g)
 
--- of which nothing was read
+-- the same of a decoder that was just made
+pub reads_start : (h : Header) (d : DecoderState (List ℕ)) (file : List ℕ) (p : PixelsState (List ℕ)) → HasHeader d (Some file) (Some d.reader) → header_of file ≡ Ok h
+    → HasGiven d (Some d.reader) (Some p.reader) [] p → ReadsFile h.channels h file p
+reads_start h d file p made is g =
+    let reader : d.reader ≡ drop header_size file = cc made.after in
+    let own : d ≡ file_decoder d.channels d.header file = ap (λ (r : List ℕ). record { reader = r; header = d.header; channels = d.channels }) reader in
+    subst (λ (z : Header). ReadsFile z.channels z file p) (header_is_one file d.header h made.header is)
+    (subst (λ k. ReadsFile k d.header file p) made.channels (reads_first d file p (made.header, own) g))
+
+-- nothing of the image was read
 pub first_left : (d : DecoderState (List ℕ)) (p : PixelsState (List ℕ)) → HasGiven d (Some d.reader) (Some p.reader) [] p
     → pixels_left p ≡ pixel_count d.header * channels_number d.channels
 unfolding HasGiven
 first_left d p g = sym (zero-add (pixels_left p)) ∙ g.left
 
 -- more was read
-pub reads_more : (channels : Channels) (h : Header) (file : List ℕ) (p q : PixelsState (List ℕ))
-    → ((d : DecoderState (List ℕ)) (bytes given : List ℕ) → HasGiven d (Some bytes) (Some p.reader) given p
-    → (more : List ℕ) × HasGiven d (Some bytes) (Some q.reader) (given ++ more) q)
+pub reads_more : (channels : Channels) (h : Header) (file : List ℕ) (p q : PixelsState (List ℕ)) (piece : List ℕ)
+    → ((d : DecoderState (List ℕ)) (start : Option (List ℕ)) (given : List ℕ) → HasGiven d start (Some p.reader) given p → HasGiven d start (Some q.reader) (given ++ piece) q)
     → ReadsFile channels h file p → ReadsFile channels h file q
 unfolding ReadsFile
-reads_more channels h file p q goes (is, given, r) =
-    let (more, now) = goes (file_decoder channels h file) (drop header_size file) given r in
-    (is, given ++ more, now)
-
-pub reads_more_if : {A : Type 0} (channels : Channels) (h : Header) (file : List ℕ) (p q : PixelsState (List ℕ)) (r : Result A Error)
-    → ((d : DecoderState (List ℕ)) (bytes given : List ℕ) → HasGiven d (Some bytes) (Some p.reader) given p
-    → OnOk r ((more : List ℕ) × HasGiven d (Some bytes) (Some q.reader) (given ++ more) q))
-    → ReadsFile channels h file p → OnOk r (ReadsFile channels h file q)
-reads_more_if channels h file p q (Ok x) goes reads = reads_more channels h file p q goes reads
-reads_more_if channels h file p q (Err e) goes reads = tt
+reads_more channels h file p q piece goes (is, given, r) = (is, given ++ piece, goes (file_decoder channels h file) (Some (drop header_size file)) given r)
 
 -- what is refused of the image is a refusal of the file
 pub refused_file : (channels : Channels) (h : Header) (file : List ℕ) (p : PixelsState (List ℕ)) (new : Option (List ℕ)) (e : Error)
-    → ((d : DecoderState (List ℕ)) (bytes given : List ℕ) → HasGiven d (Some bytes) (Some p.reader) given p → RefusesPixels true d (Some bytes) new e)
+    → ((d : DecoderState (List ℕ)) (start : Option (List ℕ)) (given : List ℕ) → HasGiven d start (Some p.reader) given p → RefusesPixels true d start new e)
     → ReadsFile channels h file p → HasRefusedFile file e
 unfolding ReadsFile
 refused_file channels h file p new e refuses (is, given, r) =
-    let refused = refuses (file_decoder channels h file) (drop header_size file) given r in
-    has_refused_file file e (inr (h, is, refused.why.1))
-
-pub refused_in_file : {A : Type 0} (channels : Channels) (h : Header) (file : List ℕ) (p : PixelsState (List ℕ)) (new : Option (List ℕ)) (r : Result A Error)
-    → ((d : DecoderState (List ℕ)) (bytes given : List ℕ) → HasGiven d (Some bytes) (Some p.reader) given p → IfErr r (RefusesPixels true d (Some bytes) new))
-    → ReadsFile channels h file p → IfErr r (HasRefusedFile file)
-refused_in_file channels h file p new (Ok x) refuses reads = tt
-refused_in_file channels h file p new (Err e) refuses reads = refused_file channels h file p new e refuses reads
+    has_refused_file file e (inr (h, is, (refuses (file_decoder channels h file) (Some (drop header_size file)) given r).why.1))
 
 -- an image that stands whole isn't refused
-pub never_refused : {A : Type 0} (channels : Channels) (h : Header) (file : List ℕ) (p : PixelsState (List ℕ)) (new : Option (List ℕ)) (r : Result A Error)
-    → ((d : DecoderState (List ℕ)) (bytes given : List ℕ) → HasGiven d (Some bytes) (Some p.reader) given p → IfErr r (RefusesPixels true d (Some bytes) new))
-    → ReadsFile channels h file p → StandsAhead h (drop header_size file) → IsOk r
+pub never_refused : (channels : Channels) (h : Header) (file : List ℕ) (p : PixelsState (List ℕ)) (new : Option (List ℕ)) (e : Error)
+    → ((d : DecoderState (List ℕ)) (start : Option (List ℕ)) (given : List ℕ) → HasGiven d start (Some p.reader) given p → RefusesPixels true d start new e)
+    → ReadsFile channels h file p → StandsAhead h (drop header_size file) → ⊥
 unfolding ReadsFile StandsAhead
-never_refused channels h file p new (Ok x) refuses reads ahead = refl
-never_refused channels h file p new (Err e) refuses (is, given, r) (cs, rest, whole) =
-    let refused = refuses (file_decoder channels h file) (drop header_size file) given r in
-    absurd (refused.not_whole refl (drop header_size file) rest cs refl whole)
+never_refused channels h file p new e refuses (is, given, r) (cs, rest, whole) =
+    (refuses (file_decoder channels h file) (Some (drop header_size file)) given r).not_whole refl (drop header_size file) rest cs refl whole
 
 -- a refused header is a refusal of the file
 pub refused_header : (file : List ℕ) (e : Error) → header_of file ≡ Err e → HasRefusedFile file e
@@ -172,14 +132,6 @@ row_index_then file more places index =
       );
     }
 
--- a place of an index
-pub place_at : (h : Header) (file : List ℕ) (places : List PlaceState) (i : ℕ) (d : PlaceState) → header_of file ≡ Ok h → IsRowIndex file places → i < length places
-    → StandsAt (pixel_count h) file (slice_index_or places i d)
-unfolding IsRowIndex ArePlaces
-place_at h file places i d is index within =
-    let same : index.h ≡ h = cc (index.header, is) in
-    subst (λ (z : Header). StandsAt (pixel_count z) file (slice_index_or places i d)) same (index.are i d within)
-
 -- the image of an index stands whole
 pub index_whole : (h : Header) (file : List ℕ) (places : List PlaceState) → header_of file ≡ Ok h → IsRowIndex file places → StandsAhead h (drop header_size file)
 unfolding IsRowIndex
@@ -219,8 +171,11 @@ image_size h file places is index =
 -- a place that was found in an index
 pub place_found : (h : Header) (file : List ℕ) (places view : List PlaceState) (i : ℕ) (m : PlaceState) → view ≡ places → header_of file ≡ Ok h → IsRowIndex file view
     → i < length places → m ≡ slice_index_or places i m → StandsAt (pixel_count h) file m
+unfolding IsRowIndex ArePlaces
 place_found h file places view i m same is index within found =
-    subst (StandsAt (pixel_count h) file) (sym found) (place_at h file places i m is (subst (IsRowIndex file) same index) within)
+    let own : IsRowIndex file places = subst (IsRowIndex file) same index in
+    let header : own.h ≡ h = cc (own.header, is) in
+    subst (StandsAt (pixel_count h) file) (sym found) (subst (λ (z : Header). StandsAt (pixel_count z) file (slice_index_or places i m)) header (own.are i m within))
 
 -- of all pixels no fewer are unread than of some
 pub enough_left : (a n c : ℕ) (r : Result (PixelsState (List ℕ)) Error) → a ≤ n → IfOk r (λ p. pixels_left p ≡ n * c) → IfOk r (λ p. a * c ≤ pixels_left p)

@@ -18,36 +18,20 @@ two_reasons h bytes UnexpectedBufferEnd cut = inl (refl, cut)
 two_reasons h bytes InvalidPadding wrong = inr (refl, wrong)
 two_reasons h bytes _ none = absurd none
 
--- why a decoder refuses bytes in memory
-pub why_refused : {R : Type 0} (in_memory : Bool) (d : DecoderState R) (old new : Option (List ℕ)) (start : List ℕ) (e : Error) → IsTrue in_memory
-    → old ≡ Some start → HasRefused in_memory d old new e → SaysWhy d.header start e
-why_refused true d old new start e held told h =
-    two_reasons d.header start e (subst (λ z. HasRefused true d z new e) told h).why.1
-why_refused false d old new start e held told h = absurd (cc)
-
--- the error of those that are cut, and of those that are wrong
-pub cut_refused : {R : Type 0} (in_memory : Bool) (d : DecoderState R) (old new : Option (List ℕ)) (start : List ℕ) (e : Error) → IsTrue in_memory
-    → old ≡ Some start → HasRefused in_memory d old new e → IsCutAhead d.header start → e ≡ UnexpectedBufferEnd
-unfolding IsCutAhead
-cut_refused true d old new start e held told h cut = h.cut start told cut
-cut_refused false d old new start e held told h cut = absurd (cc)
-
-pub wrong_refused : {R : Type 0} (in_memory : Bool) (d : DecoderState R) (old new : Option (List ℕ)) (start : List ℕ) (e : Error) → IsTrue in_memory
-    → old ≡ Some start → HasRefused in_memory d old new e → IsWrongAhead d.header start → e ≡ InvalidPadding
-unfolding IsWrongAhead
-wrong_refused true d old new start e held told h wrong = h.wrong start told wrong
-wrong_refused false d old new start e held told h wrong = absurd (cc)
+-- why a decoder refuses bytes in memory, and the error of those that are cut, and of those that are wrong
+pub why_refused : {R : Type 0} {in_memory : Bool} (d : DecoderState R) {old new : Option (List ℕ)} (start : List ℕ) {e : Error} → IsTrue in_memory
+    → old ≡ Some start → HasRefused in_memory d old new e
+    → SaysWhy d.header start e × (IsCutAhead d.header start → e ≡ UnexpectedBufferEnd) × (IsWrongAhead d.header start → e ≡ InvalidPadding)
+unfolding IsCutAhead IsWrongAhead
+why_refused {in_memory = true} d {new = new} start {e} held told h =
+    (two_reasons d.header start e (subst (λ z. HasRefused true d z new e) told h).why.1, h.cut start told, h.wrong start told)
+why_refused {in_memory = false} d start held told h = absurd (cc)
 
 -- those that are decoded are neither
-pub decoded_not_cut : {R : Type 0} (d : DecoderState R) (old new : Option (List ℕ)) (start out : List ℕ) → old ≡ Some start
-    → HasDecoded d old new out → IsCutAhead d.header start → ⊥
-unfolding IsCutAhead
-decoded_not_cut d old new start out told h cut = h.not_cut start told cut
-
-pub decoded_not_wrong : {R : Type 0} (d : DecoderState R) (old new : Option (List ℕ)) (start out : List ℕ) → old ≡ Some start
-    → HasDecoded d old new out → IsWrongAhead d.header start → ⊥
-unfolding IsWrongAhead
-decoded_not_wrong d old new start out told h wrong = h.not_wrong start told wrong
+pub decoded_whole : {R : Type 0} (d : DecoderState R) {old new : Option (List ℕ)} (start : List ℕ) {out : List ℕ} → old ≡ Some start
+    → HasDecoded d old new out → (IsCutAhead d.header start → ⊥) × (IsWrongAhead d.header start → ⊥)
+unfolding IsCutAhead IsWrongAhead
+decoded_whole d start told h = (h.not_cut start told, h.not_wrong start told)
 
 -- bytes whose header is refused
 pub header_refused : (bytes : List ℕ) (e : Error) → header_of bytes ≡ Err e → IsNoFile bytes e

@@ -1,5 +1,5 @@
 -- What was read from a stream, piece after piece, and why an image is refused.
-use Rattle.std.proofs.Common.{◌≡◌, ℕ, zero, suc, ◌+◌, ◌<◌, ◌≤◌, ◌-◌, ◌⊎◌, inl, inr, List, [], ◌∷◌, ◌++◌, length, get_or, take, drop, take-append-drop, Bool, true, false, Option, None, Some, Result, IfSome, IfErr, arith, refl, sym, ap, ◌∙◌, subst, append-nil}
+use Rattle.std.proofs.Common.{◌≡◌, ◌≢◌, ℕ, zero, suc, ◌+◌, ◌<◌, ◌≤◌, ◌-◌, ◌⊎◌, inl, inr, List, [], ◌∷◌, ◌++◌, length, get_or, take, drop, take-append-drop, Bool, true, false, Option, None, Some, Result, IfSome, IfErr, arith, refl, sym, ap, ◌∙◌, subst, append-nil}
 use Rattle.std.proofs.lemmas.List.{take-append-le, length-take-le}
 use Rattle.std.proofs.Math.Seq.{take-append-add}
 use Rattle.std.specs.Io.KnownBytes.{Consumes}
@@ -13,8 +13,8 @@ use Rattle.qoi.specs.declared.chunk.Chunk.TheVariants.{Place, Diff, Run, Rgb, Rg
 use Rattle.qoi.specs.inner.Filling.{Filling, DecodesChunk}
 use Rattle.qoi.proofs.format.ChunksApart.{chunks_apart}
 use Rattle.std.proofs.lemmas.Bool.{cases_lt}
-use Rattle.qoi.specs.Qoi.{AreBytes, IsChunk, AreChunks, bytes_of, chunk_bytes, Reaches}
-use Rattle.qoi.specs.Verdicts.{IsPartOfChunk, EndsBefore, AreCut}
+use Rattle.qoi.specs.Qoi.{AreBytes, IsChunk, AreChunks, bytes_of, chunk_bytes, Reaches, marker_size, end_marker}
+use Rattle.qoi.specs.Verdicts.{IsPartOfChunk, EndsBefore, AreCut, AreWrongThen}
 use Rattle.qoi.specs.Decoding.{TakesImagePixels, RefusesBytes, RefusesMarker, RefusesTaken, RefusesTakenMarker}
 use Rattle.qoi.specs.inner.Chunks.{RefusesAfter, RefusesChunks}
 use Rattle.qoi.proofs.format.PartOfChunk.{byte_and, part_luma, part_rgb, part_rgba}
@@ -101,24 +101,23 @@ rgba_ahead x _ zeros is size fits = absurd (omega arith)
 pub cut_before : (n : ℕ) (taken : List ℕ) → EndsBefore n taken → AreCut n taken
 cut_before n taken (cs, part, takes, short, is_part) = (cs, part, record { has = takes; ends = inl (short, is_part) })
 
+-- chunks that reach n pixels are cut behind them if fewer bytes than a marker's follow
+cut_behind : (n : ℕ) (bytes : List ℕ) (cs : List Chunk) (part : List ℕ) → AreChunks cs → Reaches n cs → bytes ≡ chunk_bytes cs ++ part → length part < marker_size → AreCut n bytes
+cut_behind n bytes cs part chunks reaches split few =
+    (cs, part, record { has = record { chunks = chunks; stays_below = reaches.stays_below; split = split }; ends = inr (reaches.enough, few) })
+
+-- and wrong if eight others do
+wrong_behind : (n : ℕ) (bytes : List ℕ) (cs : List Chunk) (eight rest : List ℕ) → AreChunks cs → Reaches n cs → bytes ≡ chunk_bytes cs ++ (eight ++ rest) → length eight ≡ marker_size
+    → eight ≢ end_marker → AreWrongThen n bytes rest
+wrong_behind n bytes cs eight rest chunks reaches split size other =
+    (cs, eight, record { has = record { chunks = chunks; stays_below = reaches.stays_below; split = split }; enough = reaches.enough; length_is = size; other = other })
+
 -- why an image is refused whose marker is refused
 refused_after : (n : ℕ) (cs : List Chunk) → AreChunks cs → Reaches n cs → (taken : List ℕ) (e : Error) → RefusesTakenMarker taken e
     → RefusesTaken n (chunk_bytes cs ++ taken) e
-refused_after n cs chunks reaches taken (IoError x) few = (
-  cs,
-  taken,
-  record { has = record { chunks = chunks; stays_below = reaches.stays_below; split = refl }; ends = inr (reaches.enough, few) },
-)
-refused_after n cs chunks reaches taken InvalidPadding (eight, other) = (
-  cs,
-  taken,
-  record {
-    has = record { chunks = chunks; stays_below = reaches.stays_below; split = ap (λ z. chunk_bytes cs ++ z) (sym (append-nil taken)) };
-    enough = reaches.enough;
-    length_is = eight;
-    other = other;
-  },
-)
+refused_after n cs chunks reaches taken (IoError x) few = cut_behind n _ cs taken chunks reaches refl few
+refused_after n cs chunks reaches taken InvalidPadding (eight, other) =
+    wrong_behind n _ cs taken [] chunks reaches (ap (λ z. chunk_bytes cs ++ z) (sym (append-nil taken))) eight other
 refused_after n cs chunks reaches taken _ none = none
 
 -- what was taken if the marker was refused
@@ -137,27 +136,9 @@ marker_refused f c n old now new out r s why =
 -- why bytes are refused, if what follows their chunks is
 bytes_refused : (n : ℕ) (bytes rest : List ℕ) (cs : List Chunk) → AreChunks cs → Reaches n cs → bytes ≡ chunk_bytes cs ++ rest
     → (e : Error) → RefusesMarker rest e → RefusesBytes n bytes e
-bytes_refused n bytes rest cs chunks reaches split UnexpectedBufferEnd few = (
-  cs,
-  rest,
-  record {
-    has = record { chunks = chunks; stays_below = reaches.stays_below; split = split };
-    ends = inr (reaches.enough, few);
-  },
-)
-bytes_refused n bytes rest cs chunks reaches split InvalidPadding (eight, more, size, other, is) = (
-  more,
-  (
-    cs,
-    eight,
-    record {
-      has = record { chunks = chunks; stays_below = reaches.stays_below; split = split ∙ ap (λ z. chunk_bytes cs ++ z) is };
-      enough = reaches.enough;
-      length_is = size;
-      other = other;
-    },
-  ),
-)
+bytes_refused n bytes rest cs chunks reaches split UnexpectedBufferEnd few = cut_behind n bytes cs rest chunks reaches split few
+bytes_refused n bytes rest cs chunks reaches split InvalidPadding (eight, more, size, other, is) =
+    (more, wrong_behind n bytes cs eight more chunks reaches (split ∙ ap (λ z. chunk_bytes cs ++ z) is) size other)
 bytes_refused n bytes rest cs chunks reaches split _ none = none
 
 -- the same, if they are known

@@ -2,7 +2,6 @@
 use Rattle.std.specs.Prelude.{◌≡◌, ℕ, ◌*◌, ◌%◌, ◌≤◌, List, ◌++◌, take, reverse, Option}
 use Rattle.std.specs.Io.KnownBytes.{Consumes}
 use Rattle.qoi.specs.declared.decode.in_place.InPlace.{InPlace}
-use Rattle.qoi.specs.declared.decode.reached.Decoded.{Decoded}
 use Rattle.qoi.specs.Qoi.{Past, run_max}
 use Rattle.qoi.specs.Raw.{output}
 use Rattle.qoi.specs.inner.Filling.{Filling, DecoderBetween}
@@ -19,10 +18,6 @@ pub record TakesPiece (file_channels channels : ℕ) (gone : Past) (Taken : List
 abbrev pub TakesInPlace : ℕ → ℕ → Option (List ℕ) → Option (List ℕ) → Filling → List ℕ → List ℕ → InPlace → Type 0
 TakesInPlace f c ahead rest old table out now = (gone : Past) (n : ℕ) (start : Option (List ℕ)) → DecoderBetween f c gone n (Consumes start ahead) old
     → TakesPiece f c gone (Consumes start rest) table out now
-
--- after chunks that end before the output does, nothing is left of a run
-abbrev pub in_place_at : Decoded → InPlace
-in_place_at now = record { taken = now.taken; reached = now.reached; run = 0 }
 
 -- whole pixels lie in an output of so many bytes, and what is left of a run are whole pixels
 pub record IsInPlace (channels size : ℕ) (p : InPlace) : Type 0 where

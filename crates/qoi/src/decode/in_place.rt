@@ -4,7 +4,7 @@ ghost use Rattle.std.specs.Prelude.{◌≡◌, ◌↔◌, IsTrue, false, ◌-◌
 ghost use Rattle.qoi.specs.Qoi.{Past, run_tag, rgb_tag};
 ghost use Rattle.qoi.specs.Raw.{IsChannels};
 ghost use Rattle.qoi.specs.inner.Filling.{upto, HasRoom, filling, DecoderBetween, IsFrontAfter};
-ghost use Rattle.qoi.specs.pieces.InPlace.{in_place_at, TakesPiece, IsInPlace};
+ghost use Rattle.qoi.specs.pieces.InPlace.{TakesPiece, IsInPlace};
 
 use crate::consts::{QOI_OP_RGB, QOI_OP_RUN};
 use crate::decode::deltas::advance;
@@ -26,7 +26,7 @@ impl InPlace {
     /// After these chunks, with nothing of a run left.
     #[inline(always)]
     pub(super) fn after(now: Decoded) -> InPlace
-        ensures { result ≡ in_place_at now }
+        ensures { result ≡ record { taken = now.taken; reached = now.reached; run = 0 } }
     {
         InPlace {
             taken: now.taken,

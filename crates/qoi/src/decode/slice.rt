@@ -1,10 +1,9 @@
 //! Decoding an image from bytes in memory.
-ghost use Rattle.std.specs.Prelude.{◌≡◌, ◌≤◌, ◌/◌, ◌%◌, ◌++◌, length, true, Some, IfSome, IfNone, MatchOption, IfOk, IfErr};
+ghost use Rattle.std.specs.Prelude.{◌≡◌, ◌≤◌, ◌/◌, ◌%◌, ◌++◌, length, true, Some, IfSome, IfNone, IfOk, IfErr};
 ghost use Rattle.std.specs.Vec.{vec_len, vec_capacity};
 ghost use Rattle.qoi.specs.Raw.{IsChannels};
 ghost use Rattle.qoi.specs.Qoi.{end_marker};
-ghost use Rattle.qoi.specs.Decoding.{TakesImagePixels, ReadsImage, RefusesMarker, RefusesBytes};
-ghost use Rattle.qoi.specs.Verdicts.{AreCut};
+ghost use Rattle.qoi.specs.Decoding.{ReadsImage, RefusesMarker, RefusesBytes};
 ghost use Rattle.qoi.specs.declared.error.Error.{Error};
 ghost use Rattle.qoi.specs.inner.Chunks.{TakesChunks, RefusesFilling};
 ghost use Rattle.qoi.specs.inner.Filling.{IsFillable, upto, filling};
@@ -155,28 +154,7 @@ impl<'a, const N: usize, const F: usize> Chunks<N, F> for Bytes<'a> {
     }
 }
 
-// Decodes chunks until a small output is full, and returns the bytes after them. `None` if the file
-// is cut.
-fn small_chunks<'a, const N: usize, const F: usize>(
-    data: &'a [u8],
-    out: &mut [u8],
-) -> Option<&'a [u8]>
-    requires channels { IsChannels N }
-    requires whole { length out.old % N ≡ 0 }
-    ensures { MatchOption result (AreCut (length out.old / N) «data».entry.now)
-        (λ rest. TakesImagePixels F N (length out.old / N)
-        (Some «data».entry.now) (Some rest.now) out.new) }
-{
-    let mut table = SmallTermTable::new_small();
-    let last = Hashed::start();
-    let start = Reached { last, at: 0 };
-    let Some(left) = careful_chunks::<N, F, false, _>(&mut table, start, data, out) else {
-        return None;
-    };
-    Some(left.rest)
-}
-
-// Decodes chunks and the end marker into such an output, and returns the bytes after them.
+// Decodes chunks and the end marker into a small output, and returns the bytes after them.
 fn small_image<'a, const N: usize, const F: usize>(
     data: &'a [u8],
     out: &mut [u8],
@@ -187,10 +165,13 @@ fn small_image<'a, const N: usize, const F: usize>(
         ReadsImage F N (length out.old / N) (Some «data».entry.now) (Some rest.now) out.new) }
     ensures refused { IfErr result (RefusesBytes (length out.old / N) «data».entry.now) }
 {
-    let Some(rest) = small_chunks::<N, F>(data, out) else {
+    let mut table = SmallTermTable::new_small();
+    let last = Hashed::start();
+    let start = Reached { last, at: 0 };
+    let Some(left) = careful_chunks::<N, F, false, _>(&mut table, start, data, out) else {
         return Err(Error::UnexpectedBufferEnd);
     };
-    slice_marker(rest)
+    slice_marker(left.rest)
 }
 
 // Decodes chunks and the end marker, and returns the bytes after them.

@@ -1,13 +1,13 @@
 -- A file is decoded as such; a refusal is the decoder's.
 use Rattle.std.proofs.Common.{◌≡◌, ◌<◌, ◌≤◌, ◌⊎◌, ◌∙◌, rules, ℕ, length, take, Some, ap, sym, subst, inl, inr, ⊎_elim, arith}
 use Rattle.std.proofs.lemmas.Bool.{cases_lt}
-use Rattle.std.proofs.lemmas.Result.{err_from_is_err_and}
 use Rattle.qoi.specs.declared.header.Header.{Header}
 use Rattle.qoi.specs.Qoi.{channels_number, pixel_count}
 use Rattle.qoi.specs.Raw.{image_byte_count, byte_count}
 use Rattle.qoi.specs.Decoding.{RefusesBuffer, RefusesBytes}
 use Rattle.qoi.specs.Decoded.{HasDecoded, HasDecodedFile, HasRefusedFile}
 use Rattle.qoi.proofs.decoding.Promised.{has_decoded_file, has_refused_file}
+use Rattle.qoi.proofs.decoding.Refusals.{handed_on}
 use Rattle.qoi.proofs.decode.decode_to_buf.Goals as goal
 
 -- the buffer is too short, or it isn't
@@ -16,15 +16,13 @@ by_size n required P Q less enough = ⊎_elim (λ short. inr (less short)) (λ r
 
 pub returns-in_err-image-clause-refused : goal.returns-in_err-image-clause-refused
 returns-in_err-image-clause-refused c =
-    let p = err_from_is_err_and c.from_residual.result c.from_residual.ensures.1 in
-    rw (p.1, p.2) (inl (has_refused_file _ _ (inl c.in_err-image.ensures.refused)))
+    handed_on _ _ _ c.from_residual.ensures.1 (inl (has_refused_file _ _ (inl c.in_err-image.ensures.refused)))
 
 pub returns-in_err-decode_to_buf-clause-refused : goal.returns-in_err-decode_to_buf-clause-refused
 returns-in_err-decode_to_buf-clause-refused c =
     let d = c.in_ok-image.image in
     let accepted = c.in_ok-image.ensures.accepted in
     let e = c.in_err-decode_to_buf.field-0.0 in
-    let p = err_from_is_err_and c.from_residual-in_err-decode_to_buf.result c.from_residual-in_err-decode_to_buf.ensures.1 in
     let size : byte_count d.header (channels_number d.channels) ≡ image_byte_count d.header = ap (λ k. byte_count d.header (channels_number k)) accepted.channels in
     let n = length c.args.buf.now in
     let less : n < image_byte_count d.header → RefusesBuffer n (image_byte_count d.header) e =
@@ -35,7 +33,7 @@ returns-in_err-decode_to_buf-clause-refused c =
       accepted.header,
       subst (λ z. RefusesBytes (pixel_count d.header) z e) (cc accepted.after) (c.in_err-decode_to_buf.ensures.refused (subst (λ k. k ≤ n) (sym size) room)).why.1,
     ))) in
-    rw (p.1, p.2) (by_size n (image_byte_count d.header) _ _
+    handed_on _ _ _ c.from_residual-in_err-decode_to_buf.ensures.1 (by_size n (image_byte_count d.header) _ _
     (λ short. (d.header, accepted.header, less short)) enough)
 
 pub returns-clause-decoded : goal.returns-clause-decoded

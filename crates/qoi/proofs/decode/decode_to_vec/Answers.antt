@@ -1,24 +1,22 @@
 -- A file is decoded as such; a refusal is the decoder's.
 use Rattle.std.proofs.Common.{◌≡◌, sym, subst, inl, inr, ⊎_elim, arith}
 use Rattle.qoi.specs.declared.header.Header.{Header}
-use Rattle.std.proofs.lemmas.Result.{err_from_is_err_and}
 use Rattle.qoi.specs.Qoi.{pixel_count}
 use Rattle.qoi.specs.Decoding.{RefusesBytes}
 use Rattle.qoi.specs.Decoded.{HasDecodedFile}
 use Rattle.qoi.proofs.decoding.Promised.{has_decoded_file, has_refused_file}
+use Rattle.qoi.proofs.decoding.Refusals.{handed_on}
 use Rattle.qoi.proofs.decode.decode_to_vec.Goals as goal
 
 pub returns-in_err-image-clause-refused : goal.returns-in_err-image-clause-refused
 returns-in_err-image-clause-refused c =
-    let p = err_from_is_err_and c.from_residual.result c.from_residual.ensures.1 in
-    rw (p.1, p.2) (inl (has_refused_file _ _ (inl c.in_err-image.ensures.refused)))
+    handed_on _ _ _ c.from_residual.ensures.1 (inl (has_refused_file _ _ (inl c.in_err-image.ensures.refused)))
 
 pub returns-in_err-raw-clause-refused : goal.returns-in_err-raw-clause-refused
 returns-in_err-raw-clause-refused c =
-    let p = err_from_is_err_and c.from_residual-in_err-raw.result c.from_residual-in_err-raw.ensures.1 in
     let d = c.in_ok-image.image in
     let accepted = c.in_ok-image.ensures.accepted in
-    rw (p.1, p.2) (⊎_elim (λ none. inr (none.0, d.header, accepted.header))
+    handed_on _ _ _ c.from_residual-in_err-raw.ensures.1 (⊎_elim (λ none. inr (none.0, d.header, accepted.header))
     (λ r. inl (has_refused_file _ _ (inr (
       d.header,
       accepted.header,

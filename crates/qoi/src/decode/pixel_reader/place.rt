@@ -1,12 +1,9 @@
 //! Places in the image of a file, between two chunks.
-ghost use Rattle.std.specs.Prelude.{◌≡◌, ℕ, ◌*◌, ◌<◌, ◌≤◌, ◌+◌, List, length, drop, Ok, false, IsOk, IfOk};
-ghost use Rattle.qoi.specs.Qoi.{Past, channels_number, header_of, pixel_count, pixels_max};
-ghost use Rattle.qoi.specs.declared.header.Header.{Header};
-ghost use Rattle.qoi.specs.declared.types.Channels.{Channels};
+ghost use Rattle.std.specs.Prelude.{◌≡◌, ℕ, ◌*◌, ◌<◌, ◌≤◌, length, drop, false, IsOk, IfOk};
+ghost use Rattle.qoi.specs.Qoi.{Past, channels_number, pixel_count, pixels_max};
 ghost use Rattle.qoi.specs.inner.Hashed.{pixel_of_lanes, HoldsSeen};
 ghost use Rattle.qoi.specs.inner.Table.{Holds};
-ghost use Rattle.qoi.specs.pieces.PixelReader.{pixels_left};
-ghost use Rattle.qoi.specs.pieces.RowIndex.{StandsAt, ReadsFile, IsPlaceOf, GoesOnAt};
+ghost use Rattle.qoi.specs.pieces.RowIndex.{IsPlaceOf, GoesOnAt};
 
 use crate::decode::Decoder;
 use crate::decode::hashed::Hashed;
@@ -101,8 +98,8 @@ pub(super) fn size_in(channels: Channels, pixels: usize) -> usize
 }
 
 impl Place {
-    // The place behind what a reader of the file keeps.
-    fn behind(file: &[u8], pixels: &PixelReader<Bytes<'_>>) -> Place
+    /// The place behind what a reader of the file keeps, which isn't the end of the image.
+    pub(super) fn of(file: &[u8], pixels: &PixelReader<Bytes<'_>>) -> Place
         requires going { pixels.now.refused ≡ false }
         requires some { 0 < pixels.now.unread.undecoded }
         ensures { IsPlaceOf file.now pixels.now result }
@@ -115,16 +112,6 @@ impl Place {
             left: pixels.unread.undecoded / channels,
             run: pixels.unread.run / channels,
         }
-    }
-
-    /// The place behind what a reader of the file keeps, which isn't the end of the image.
-    pub(super) fn of(file: &[u8], pixels: &PixelReader<Bytes<'_>>) -> Place
-        requires going { pixels.now.refused ≡ false }
-        requires some { 0 < pixels.now.unread.undecoded }
-        ensures { (channels : Channels) (h : Header) → ReadsFile channels h file.now pixels.now
-            → StandsAt (pixel_count h) file.now result }
-    {
-        Place::behind(file, pixels)
     }
 
     /// How many pixels are to come.
@@ -157,8 +144,8 @@ impl Place {
         }
     }
 
-    // The reader that goes on from this place in a file, by a decoder of it.
-    fn goes_on<'a>(
+    /// A reader that goes on there in a file, by a decoder of it.
+    pub(super) fn resume<'a>(
         &self,
         file: &'a [u8],
         mut decoder: Decoder<Bytes<'a>>,
@@ -174,22 +161,5 @@ impl Place {
         let (_, rest) = file.split_at(self.at);
         decoder.reader = Bytes(rest);
         Ok(self.over(decoder))
-    }
-
-    /// A reader that goes on there in a file, by a decoder of it.
-    pub(super) fn resume<'a>(
-        &self,
-        file: &'a [u8],
-        decoder: Decoder<Bytes<'a>>,
-    ) -> Result<PixelReader<Bytes<'a>>>
-        ensures file { header_of file.entry.now ≡ Ok decoder.entry.header
-            → StandsAt (pixel_count decoder.entry.header) file.entry.now self.now
-            → IfOk result (ReadsFile decoder.entry.channels decoder.entry.header file.entry.now) }
-        ensures accepts { header_of file.entry.now ≡ Ok decoder.entry.header
-            → StandsAt (pixel_count decoder.entry.header) file.entry.now self.now → IsOk result }
-        ensures left { IfOk result (λ p.
-            pixels_left p ≡ self.now.left * channels_number decoder.entry.channels) }
-    {
-        self.goes_on(file, decoder)
     }
 }

@@ -1,7 +1,6 @@
 //! Rows of an image, read from any of them on.
-ghost use Rattle.std.specs.Prelude.{◌≡◌, ℕ, ◌+◌, ◌-◌, ◌*◌, ◌/◌, ◌<◌, ◌≤◌, List, [], ◌++◌, ◌⊎◌, max, min, length, drop, Some, Ok, Err, true, false, IsOk, IfOk, IfErr, OnOk, IsErrOf};
+ghost use Rattle.std.specs.Prelude.{◌≡◌, ℕ, ◌+◌, ◌-◌, ◌*◌, ◌/◌, ◌<◌, ◌≤◌, List, ◌++◌, ◌⊎◌, max, min, length, drop, Some, Ok, Err, false, IsOk, IfOk, IfErr, OnOk, IsErrOf};
 ghost use Rattle.qoi.specs.Decoded.{HasRefusedFile};
-ghost use Rattle.qoi.specs.DecoderState.{DecoderState};
 ghost use Rattle.qoi.specs.Images.{front_image, file_image};
 ghost use Rattle.qoi.specs.Qoi.{channels_number, header_of, header_size, pixel_count, pixels_max, IsValid};
 ghost use Rattle.qoi.specs.Reading.{StandsAhead};
@@ -9,7 +8,7 @@ ghost use Rattle.qoi.specs.Rectangles.{rectangle};
 ghost use Rattle.qoi.specs.declared.error.Error.{Error};
 ghost use Rattle.qoi.specs.declared.header.Header.{Header};
 ghost use Rattle.qoi.specs.declared.types.Channels.{Channels};
-ghost use Rattle.qoi.specs.pieces.PixelReader.{pixels_left, HasGiven, HasRows, RefusesPixels};
+ghost use Rattle.qoi.specs.pieces.PixelReader.{pixels_left, HasRows};
 ghost use Rattle.qoi.specs.pieces.RowIndex.{file_decoder, row_size, ArePlaces, ReadsFile, IsRowIndex, IsDecoderOf};
 
 use crate::decode::Decoder;
@@ -74,26 +73,7 @@ fn bytes_behind(header: &Header, channels: Channels, row: u32) -> usize
     size_in(channels, pixels_behind(header, row))
 }
 
-// Reads raw bytes of an image until no more than so many are unread.
-fn read_to(pixels: &mut PixelReader<Bytes<'_>>, left: usize) -> Result<()>
-    ensures read { (d : DecoderState (List ℕ)) (bytes given : List ℕ)
-        → HasGiven d (Some bytes) (Some pixels.old.reader) given pixels.old
-        → OnOk result ((more : List ℕ)
-        × HasGiven d (Some bytes) (Some pixels.new.reader) (given ++ more) pixels.new) }
-    ensures left { OnOk result (pixels_left pixels.new ≡ min left (pixels_left pixels.old)) }
-    ensures refused { (d : DecoderState (List ℕ)) (bytes given : List ℕ)
-        → HasGiven d (Some bytes) (Some pixels.old.reader) given pixels.old
-        → IfErr result (RefusesPixels true d (Some bytes) (Some pixels.new.reader)) }
-{
-    let mut buf = [0; SKIPPED];
-    while pixels.left() > left {
-        let size = buf.len().min(pixels.left() - left);
-        pixels.read(&mut buf[..size])?;
-    }
-    Ok(())
-}
-
-// `read_to` in a file's image.
+// Reads raw bytes of a file's image until no more than so many are unread.
 fn skip_to(pixels: &mut PixelReader<Bytes<'_>>, left: usize) -> Result<()>
     ensures file { (channels : Channels) (h : Header) (file : List ℕ)
         → ReadsFile channels h file pixels.old
@@ -105,19 +85,12 @@ fn skip_to(pixels: &mut PixelReader<Bytes<'_>>, left: usize) -> Result<()>
         → ReadsFile channels h file pixels.old → StandsAhead h (drop header_size file)
         → IsOk result }
 {
-    read_to(pixels, left)
-}
-
-// A reader of the image of a file, into these channels.
-fn all_rows<'a>(file: &'a [u8], channels: Channels) -> Result<PixelReader<Bytes<'a>>>
-    ensures file { (h : Header) → header_of file.entry.now ≡ Ok h
-        → IfOk result (ReadsFile channels h file.entry.now) }
-    ensures left { (h : Header) → header_of file.entry.now ≡ Ok h
-        → IfOk result (λ p. pixels_left p ≡ pixel_count h * channels_number channels) }
-    ensures accepts { (h : Header) → header_of file.entry.now ≡ Ok h → IsOk result }
-{
-    let decoder = Decoder::new(file)?;
-    Ok(decoder.with_channels(channels).into_pixels())
+    let mut buf = [0; SKIPPED];
+    while pixels.left() > left {
+        let size = buf.len().min(pixels.left() - left);
+        pixels.read(&mut buf[..size])?;
+    }
+    Ok(())
 }
 
 // Keeps the place of a reader, unless the image ends there.
@@ -160,7 +133,8 @@ impl RowIndex {
         let every = every.max(1);
         let count = header.height.saturating_sub(1) / every;
         let mut places = Vec::with_capacity(alloc, count as usize)?;
-        let mut pixels = all_rows(file, header.channels)?;
+        let decoder = Decoder::new(file)?;
+        let mut pixels = decoder.into_pixels();
         for k in 0..count {
             let row = every.saturating_mul(k + 1);
             skip_to(&mut pixels, bytes_behind(&header, header.channels, row))?;

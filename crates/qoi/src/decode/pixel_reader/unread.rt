@@ -1,6 +1,6 @@
 //! What is unread of an image, and the loops that decode it piece by piece: what is decoded before a
 //! caller asks for it is kept.
-ghost use Rattle.std.specs.Prelude.{◌≡◌, ◌↔◌, ℕ, ◌+◌, ◌-◌, ◌*◌, ◌%◌, ◌^◌, ◌<◌, ◌≤◌, List, [], ◌++◌, length, take, drop, min, Option, Some, IsTrue, IfOk, OnOk, IfSome, None};
+ghost use Rattle.std.specs.Prelude.{◌≡◌, ℕ, ◌+◌, ◌-◌, ◌*◌, ◌%◌, ◌^◌, ◌<◌, ◌≤◌, List, [], length, min, Option, Some, IfOk, OnOk, IfSome, None};
 ghost use Rattle.qoi.specs.Raw.{IsChannels};
 ghost use Rattle.qoi.specs.declared.decode.output.TheConstants.{RUN_ROOM};
 ghost use Rattle.qoi.specs.declared.decode.pixel_reader.room.TheConstants.{DECODED_AHEAD, IN_PLACE};
@@ -39,7 +39,7 @@ pub struct Refused;
 pub type PieceResult<T> = std::result::Result<T, Refused>;
 
 impl Unread {
-    ghost use Rattle.qoi.specs.pieces.Unread.{kept_raw, kept_count, bytes_left, KeepsWithin, KeepsNone, KeepsNothing, KeepsPixels, IsUnread, GivesMore, Asks, Steps, Fills};
+    ghost use Rattle.qoi.specs.pieces.Unread.{kept_count, bytes_left, KeepsWithin, KeepsNone, KeepsNothing, KeepsPixels, IsUnread, GivesMore, Asks, Steps, Fills};
 
     /// All of an image of `size` bytes.
     pub(super) fn new(size: usize) -> Unread
@@ -126,7 +126,8 @@ impl Unread {
     pub(super) fn give(&mut self, out: &mut [u8]) -> usize
         requires { KeepsWithin self.old }
         ensures size { result ≡ min (length out.old) (kept_count self.old) }
-        ensures given { out.new ≡ take result (kept_raw self.old) ++ drop result out.old }
+        ensures gives { (f c : ℕ) (now : Option (List ℕ)) → KeepsPixels c self.old
+            → GivesMore f c now now self.old self.new out.new result }
         ensures state { self.new ≡ record self.old { from = self.old.from + result } }
     {
         if self.from == self.to {
@@ -138,19 +139,8 @@ impl Unread {
         size
     }
 
-    // Whether a piece of so many bytes goes by `piece_in_place`: it isn't short, and 256 bytes of the
-    // image follow. Else `long_piece` may fill it.
-    #[inline(always)]
-    fn goes_in_place(&self, size: usize) -> bool
-        requires { size ≤ self.now.undecoded }
-        ensures { IsTrue result
-            ↔ (IN_PLACE ≤ size) × (size + RUN_ROOM ≤ self.now.undecoded) }
-    {
-        IN_PLACE <= size && RUN_ROOM <= self.undecoded - size
-    }
-
-    // Gives the rest of a run and decodes chunks that stand in memory into such a piece, and returns
-    // how many bytes. A run may go on past its end.
+    // Gives the rest of a run and decodes chunks that stand in memory into a piece, and returns how
+    // many bytes. A run may go on past its end.
     #[inline(always)]
     fn piece_in_place<R: Chunks<N, F>, const N: usize, const F: usize>(
         &mut self,
@@ -218,8 +208,9 @@ impl Unread {
         self.give(out)
     }
 
-    // Gives the rest of a run and, if `out` is a piece that is decoded in place (`goes_in_place`), what
-    // follows it, and returns how many bytes; keeps what has no room of a run.
+    // Gives the rest of a run and, if `out` isn't short and 256 bytes of the image follow it, what comes
+    // behind the run (`piece_in_place`; else `long_piece` may). Returns how many bytes, and keeps what
+    // has no room of a run.
     #[inline(always)]
     fn piece_front<R: Chunks<N, F>, const N: usize, const F: usize>(
         &mut self,
@@ -232,7 +223,7 @@ impl Unread {
             self.old self.new out.new result }
         ensures none { IfOk result (λ size. size < length out.new → KeepsNothing self.new) }
     {
-        if !self.goes_in_place(out.len()) {
+        if out.len() < IN_PLACE || self.undecoded - out.len() < RUN_ROOM {
             return Ok(self.give_run::<N, F>(out));
         }
         let placed = self.piece_in_place::<R, N, F>(reader, out)?;

@@ -1,7 +1,7 @@
 -- The header is read.
 use Rattle.std.proofs.Common.{refl}
-use Rattle.std.proofs.lemmas.Result.{err_from_is_err_and}
 use Rattle.qoi.proofs.decoding.Promised.{has_header, has_refused_header}
+use Rattle.qoi.proofs.decoding.Refusals.{handed_on}
 use Rattle.qoi.proofs.decode.Decoder.from_stream.Goals as goal
 
 pub returns-clause-accepted : goal.returns-clause-accepted
@@ -9,5 +9,4 @@ returns-clause-accepted g c = has_header _ _ _ c.in_ok-header.ensures refl
 
 pub returns-in_err-header-clause-refused : goal.returns-in_err-header-clause-refused
 returns-in_err-header-clause-refused g c =
-    let e = err_from_is_err_and c.from_residual.result c.from_residual.ensures.1 in
-    rw (e.1, e.2) (has_refused_header _ _ (g.R.Read.remaining c.decode_header.new.self, c.in_err-header.ensures))
+    handed_on _ _ _ c.from_residual.ensures.1 (has_refused_header _ _ (g.R.Read.remaining c.decode_header.new.self, c.in_err-header.ensures))

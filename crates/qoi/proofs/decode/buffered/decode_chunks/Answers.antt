@@ -1,5 +1,5 @@
 -- A chunk more is taken, and then those in the reader's buffer.
-use Rattle.std.proofs.Common.{[], ◌<◌, length, arith, rules}
+use Rattle.std.proofs.Common.{[], ◌<◌, length, arith}
 use Rattle.qoi.proofs.Results.{if_err}
 use Rattle.qoi.specs.inner.Filling.{filling}
 use Rattle.qoi.specs.inner.Chunks.{TakesMore}
@@ -10,12 +10,6 @@ use Rattle.qoi.proofs.decode.buffered.decode_chunks.Given.{Over}
 use Rattle.qoi.proofs.decode.buffered.decode_chunks.Goals.{In_ok-next, then-this-ne0, else-this-ne0}
 use Rattle.qoi.proofs.decode.buffered.decode_chunks.Goals as goal
 
-pub loop-out-init : goal.loop-out-init
-loop-out-init g c = record { fillable = c.requires; below = λ room inside. inside; goes_on = record { between = λ gone n start h. h } }
-
-pub next_chunk-requires : goal.next_chunk-requires
-next_chunk-requires g c = record { fillable = c.loop-out.invariant.fillable; inside = search rules; vectors = search rules }
-
 -- a chunk more was taken
 more : (g : Over) (c : In_ok-next g) → TakesMore g.row.F g.row.N (g.R.Read.remaining c.args.reader.now) (g.R.Read.remaining c.next_chunk.new.reader)
     (filling c.args.table.now c.args.from c.args.out.now) (filling c.next_chunk.new.table c.in_ok-next.next c.next_chunk.new.out)
@@ -23,9 +17,6 @@ more g c =
     let inside : c.loop-out.now.at < length c.loop-out.out = elim c.if-this-ne0.branch [ then-this-ne0 w ↦ omega arith | else-this-ne0 w ↦ omega arith ] in
     let (taken, took, decoded) = c.in_ok-next.ensures.read in
     takes_chunk c.requires.three_or_four c.loop-out.invariant.goes_on inside decoded took c.in_ok-next.ensures.more.fillable
-
-pub chunks_in_buffer-requires : goal.chunks_in_buffer-requires
-chunks_in_buffer-requires g c = c.in_ok-next.ensures.more.fillable
 
 pub returns-in_err-next-clause-refused : goal.returns-in_err-next-clause-refused
 returns-in_err-next-clause-refused g c =

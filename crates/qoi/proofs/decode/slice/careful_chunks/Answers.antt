@@ -1,5 +1,5 @@
 -- A chunk more is taken, or the bytes are cut.
-use Rattle.std.proofs.Common.{rules, ◌<◌, Some, take, drop, length, sym, subst, arith, take-append-drop}
+use Rattle.std.proofs.Common.{◌<◌, Some, take, drop, length, sym, subst, arith, take-append-drop}
 use Rattle.std.specs.Io.KnownBytes.{Consumes}
 use Rattle.qoi.specs.Qoi.{AreBytes}
 use Rattle.qoi.specs.inner.Filling.{filling}
@@ -9,18 +9,6 @@ use Rattle.qoi.proofs.decoding.Progress.{takes_chunk}
 use Rattle.qoi.proofs.decoding.Grown.{few_left_more}
 use Rattle.qoi.proofs.decode.slice.careful_chunks.Goals.{then-this-ne0, else-this-ne0}
 use Rattle.qoi.proofs.decode.slice.careful_chunks.Goals as goal
-
-pub loop-out-init : goal.loop-out-init
-loop-out-init g c = record {
-  fits = λ i. omega (arith, c.type_inv.data i);
-  fillable = c.requires;
-  below = λ room inside. inside;
-  goes_on = record { between = λ gone n start h. h };
-}
-
-pub decode_chunk-decoded-requires : goal.decode_chunk-decoded-requires
-decode_chunk-decoded-requires g c =
-    (search rules, (record { fillable = c.loop-out.invariant.fillable; inside = search rules; vectors = search rules }, omega (arith, c.if-rest-lt-QOI_PADDING_SIZE.false)))
 
 pub loop-out-preserved : goal.loop-out-preserved
 loop-out-preserved g c =

@@ -1,5 +1,5 @@
 -- The fast loop's chunks are taken, and then others.
-use Rattle.std.proofs.Common.{Some, take, ap, ◌++◌, ◌∙◌, sym, take-append-drop, arith}
+use Rattle.std.proofs.Common.{Some, take, ap, ◌++◌, ◌∙◌, sym, take-append-drop}
 use Rattle.std.specs.Io.KnownBytes.{Consumes}
 use Rattle.qoi.proofs.Results.{if_some_of, if_none_of}
 use Rattle.qoi.specs.inner.Filling.{filling}
@@ -18,9 +18,6 @@ after g c =
     let took : Consumes (Some bytes) (Some c.split_at.result.1.now) (take size bytes) =
     sym (take-append-drop size bytes) ∙ ap (λ z. take size bytes ++ z) (sym c.split_at.ensures.back) in
     front_taken bytes size c.fast_chunks-now.ensures.between took
-
-pub careful_chunks-requires-2 : goal.careful_chunks-requires-2
-careful_chunks-requires-2 g c = (omega arith, c.fast_chunks-now.ensures.on.fillable)
 
 pub returns-clause-read : goal.returns-clause-read
 returns-clause-read g c =

@@ -1,16 +1,10 @@
 -- A chunk more is taken.
-use Rattle.std.proofs.Common.{◌<◌, length, arith, rules}
+use Rattle.std.proofs.Common.{◌<◌, length, arith}
 use Rattle.qoi.proofs.Results.{if_err}
 use Rattle.qoi.proofs.decoding.Progress.{takes_chunk}
 use Rattle.qoi.proofs.decoding.Grown.{stream_refused}
 use Rattle.qoi.proofs.decode.stream.decode_chunks.Goals.{then-this-ne0, else-this-ne0}
 use Rattle.qoi.proofs.decode.stream.decode_chunks.Goals as goal
-
-pub loop-now-init : goal.loop-now-init
-loop-now-init g c = record { fillable = c.requires; below = λ room inside. inside; goes_on = record { between = λ gone n start h. h } }
-
-pub next_chunk-requires : goal.next_chunk-requires
-next_chunk-requires g c = record { fillable = c.loop-now.invariant.fillable; inside = search rules; vectors = search rules }
 
 pub returns-in_err-now-clause-refused : goal.returns-in_err-now-clause-refused
 returns-in_err-now-clause-refused g c =

@@ -1,20 +1,18 @@
 -- The chunks fill the front, and the marker follows or is refused.
-use Rattle.std.proofs.Common.{◌≡◌, ◌+◌, ◌%◌, ◌++◌, take, drop, length, reverse, OnOk, arith, sym, ap, ◌∙◌, subst}
+use Rattle.std.proofs.Common.{◌≡◌, ◌+◌, ◌++◌, take, drop, length, reverse, OnOk, arith, sym, ap, ◌∙◌, subst}
 use Rattle.std.proofs.lemmas.List.{length-take-le}
 use lib.Seq.{take-append_seam}
-use Rattle.std.proofs.lemmas.Result.{err_from_is_err_and}
 use Rattle.qoi.specs.Raw.{output}
 use Rattle.qoi.specs.Decoding.{ReadsImage}
 use Rattle.qoi.proofs.Results.{on_ok_of}
-use Rattle.qoi.proofs.decoding.Progress.{fillable_whole}
+use Rattle.qoi.proofs.decoding.Refusals.{handed_on}
 use Rattle.qoi.proofs.decoding.PieceSteps.{with_marker}
 use Rattle.qoi.proofs.decoding.StreamReads.{after_refused}
 use Rattle.qoi.proofs.decode.pixel_reader.room.rest_of_image.Goals as goal
 
 pub returns-in_err-all_chunks-clause-refused : goal.returns-in_err-all_chunks-clause-refused
 returns-in_err-all_chunks-clause-refused g c gone n start h =
-    let p = err_from_is_err_and c.from_residual.result c.from_residual.ensures.1 in
-    rw (p.1, p.2) (c.in_err-all_chunks.ensures.refused gone n start h _ (omega arith))
+    handed_on _ _ _ c.from_residual.ensures.1 (c.in_err-all_chunks.ensures.refused gone n start h _ (omega arith))
 
 pub returns-clause-read : goal.returns-clause-read
 returns-clause-read g c gone n start h =
@@ -28,6 +26,3 @@ returns-clause-read g c gone n start h =
 pub returns-clause-refused : goal.returns-clause-refused
 returns-clause-refused g c gone n start h =
     after_refused g.R.Chunks.in_memory g.row.F g.row.N (length gone + n) _ _ _ _ c.marker.result (c.in_ok-all_chunks.ensures.read gone n start h) c.marker.ensures.refused
-
-pub all_chunks-requires : goal.all_chunks-requires
-all_chunks-requires g c = fillable_whole c.requires.channels (ap (λ k. k % g.row.N) (length-take-le c.args.size c.args.out.now c.requires.within) ∙ c.requires.whole)

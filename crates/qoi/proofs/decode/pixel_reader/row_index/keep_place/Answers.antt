@@ -2,6 +2,7 @@
 use Rattle.std.proofs.Common.{sym, subst}
 use Rattle.qoi.specs.Qoi.{pixel_count}
 use Rattle.qoi.specs.pieces.RowIndex.{ArePlaces}
+use Rattle.qoi.proofs.decoding.Places.{place_stands}
 use Rattle.qoi.proofs.decoding.RowIndexes.{one_place_more}
 use Rattle.qoi.proofs.decode.pixel_reader.row_index.keep_place.Goals as goal
 
@@ -9,4 +10,4 @@ pub returns-in_ok-push-clause-places : goal.returns-in_ok-push-clause-places
 returns-in_ok-push-clause-places c channels h reads are =
     let n = pixel_count h in
     subst (ArePlaces n c.args.file.now) (sym c.in_ok-push.ensures.items)
-    (one_place_more n c.args.file.now c.args.places.now.items c.of.result are (c.of.ensures channels h reads))
+    (one_place_more n c.args.file.now c.args.places.now.items c.of.result are (place_stands channels h _ _ _ c.of.ensures reads))

@@ -1,10 +1,6 @@
 -- Three channels don't show what the fourth is.
-use Rattle.std.proofs.Common.{refl, ap}
-use Rattle.qoi.specs.Qoi.{channels_number}
-use Rattle.qoi.proofs.decoding.GivenMore.{steps_as, steps_of_four}
+use Rattle.qoi.proofs.decoding.GivenMore.{steps_in_three}
 use Rattle.qoi.proofs.decode.reader.AnyReader.decode_piece.Goals as goal
 
 pub returns-in-Rgb-Rgba-clause-step : goal.returns-in-Rgb-Rgba-clause-step
-returns-in-Rgb-Rgba-clause-step g c =
-    let more = c.decode_more-in-Rgb-Rgba in
-    steps_as _ _ _ _ _ _ (ap channels_number c.in-Rgb-Rgba.is-1) (ap channels_number c.in-Rgb-Rgba.is-0) refl (steps_of_four _ _ _ _ _ _ _ more.ensures.step)
+returns-in-Rgb-Rgba-clause-step g c = steps_in_three _ _ _ _ _ _ _ c.args.conversion c.in-Rgb-Rgba.is-0 c.in-Rgb-Rgba.is-1 c.decode_more-in-Rgb-Rgba.ensures.step

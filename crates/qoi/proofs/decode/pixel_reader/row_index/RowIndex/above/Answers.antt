@@ -2,20 +2,29 @@
 use Rattle.std.proofs.Common.{◌≡◌, ◌≤◌, ◌-◌, ◌*◌, ◌∙◌, Ok, ap, subst, length, arith}
 use Rattle.qoi.specs.declared.header.Header.{Header}
 use Rattle.qoi.specs.Qoi.{channels_number, pixel_count}
+use Rattle.qoi.proofs.decoding.Places.{goes_on_in_file, goes_on_left, place_within}
 use Rattle.qoi.proofs.decoding.RowIndexes.{place_found, enough_left, reads_first, first_left}
 use Rattle.qoi.proofs.decode.pixel_reader.row_index.RowIndex.above.Goals as goal
 
 pub returns-then-left-clause-file : goal.returns-then-left-clause-file
 returns-then-left-clause-file c index =
     let same : c.args.self.now ≡ c.self.inside.places.items = cc c.self.view_is in
-    c.resume.ensures.file c.requires.0 (place_found _ _ c.self.inside.places.items c.args.self.now (c.loop-at.at - 1) _ same c.requires.0 index
+    goes_on_in_file _ _ _ _ _ c.resume.ensures.goes c.requires.0 (place_found _ _ c.self.inside.places.items c.args.self.now (c.loop-at.at - 1) _ same c.requires.0 index
     (omega (arith, c.loop-at.invariant, c.loop-at-test.true, ap length same)) c.index-place.ensures)
 
 pub returns-then-left-clause-accepts : goal.returns-then-left-clause-accepts
 returns-then-left-clause-accepts c index =
     let same : c.args.self.now ≡ c.self.inside.places.items = cc c.self.view_is in
-    c.resume.ensures.accepts c.requires.0 (place_found _ _ c.self.inside.places.items c.args.self.now (c.loop-at.at - 1) _ same c.requires.0 index
-    (omega (arith, c.loop-at.invariant, c.loop-at-test.true, ap length same)) c.index-place.ensures)
+    let (at, left) = place_within _ _ _ c.requires.0 (place_found _ _ c.self.inside.places.items c.args.self.now (c.loop-at.at - 1) _ same c.requires.0 index
+    (omega (arith, c.loop-at.invariant, c.loop-at-test.true, ap length same)) c.index-place.ensures) in
+    c.resume.ensures.accepts at left
+
+pub returns-then-left-clause-left : goal.returns-then-left-clause-left
+returns-then-left-clause-left c =
+    let d = c.args.decoder in
+    let behind : c.pixels_behind-left.result ≡ d.header.width * (d.header.height - c.args.first) =
+    c.pixels_behind-left.ensures.behind ∙ ap (λ (z : Header). z.width * (z.height - c.args.first)) c.header.ensures in
+    enough_left (d.header.width * (d.header.height - c.args.first)) _ (channels_number d.channels) c.resume.result (omega (arith, behind)) (goes_on_left _ _ _ _ _ c.resume.ensures.goes)
 
 pub returns-clause-file : goal.returns-clause-file
 returns-clause-file c index = reads_first c.args.decoder c.args.file.now _ c.requires c.into_pixels.ensures.start

@@ -1,16 +1,16 @@
 -- The image is read whole, and the places are places of it.
 use Rattle.std.proofs.Common.{sym, ap, subst, inl, inr, length, arith}
-use Rattle.std.proofs.lemmas.Result.{err_from_is_err_and}
 use Rattle.qoi.specs.Qoi.{pixel_count}
 use Rattle.qoi.specs.pieces.RowIndex.{ArePlaces}
-use Rattle.qoi.proofs.decoding.RowIndexes.{image_size, no_places, still_going, refused_header, row_index, row_index_then, stands_whole}
+use Rattle.qoi.proofs.decoding.RowIndexes.{image_size, no_places, still_going, refused_header, row_index, row_index_then, reads_start, stands_whole}
+use Rattle.qoi.proofs.decoding.Refusals.{handed_on}
 use Rattle.qoi.proofs.decode.pixel_reader.row_index.RowIndex.new.Goals as goal
 
 pub loop-k-init : goal.loop-k-init
 loop-k-init c =
     let h = c.in_ok-header.header in
     record {
-      reads = c.in_ok-pixels.ensures.file h (sym c.in_ok-header.ensures.read);
+      reads = reads_start h c.in_ok-decoder.decoder c.args.file.now c.into_pixels-pixels.result c.in_ok-decoder.ensures.accepted (sym c.in_ok-header.ensures.read) c.into_pixels-pixels.ensures.start;
       are = subst (ArePlaces (pixel_count h) c.args.file.now) (sym c.in_ok-places.ensures.items) (no_places (pixel_count h) c.args.file.now);
       few = omega (arith, ap length c.in_ok-places.ensures.items);
     }
@@ -35,10 +35,11 @@ returns-clause-size c h is = image_size h c.args.file.now _ is (returns-clause-i
 
 pub returns-in_err-header-clause-refused : goal.returns-in_err-header-clause-refused
 returns-in_err-header-clause-refused c =
-    let p = err_from_is_err_and c.from_residual.result c.from_residual.ensures.1 in
-    rw (p.1, p.2) (inl (refused_header _ _ (sym c.in_err-header.ensures.read)))
+    handed_on _ _ _ c.from_residual.ensures.1 (inl (refused_header _ _ (sym c.in_err-header.ensures.read)))
+
+pub returns-in_err-decoder-clause-refused : goal.returns-in_err-decoder-clause-refused
+returns-in_err-decoder-clause-refused c = handed_on _ _ _ c.from_residual-in_err-decoder.ensures.1 (inl (refused_header _ _ c.in_err-decoder.ensures.refused))
 
 pub returns-in_err-keep_place-clause-refused : goal.returns-in_err-keep_place-clause-refused
 returns-in_err-keep_place-clause-refused c =
-    let p = err_from_is_err_and c.from_residual-in_err-keep_place.result c.from_residual-in_err-keep_place.ensures.1 in
-    rw (p.1, p.2) (inr (c.in_err-keep_place.ensures.refused, c.in_ok-header.header, sym c.in_ok-header.ensures.read))
+    handed_on _ _ _ c.from_residual-in_err-keep_place.ensures.1 (inr (c.in_err-keep_place.ensures.refused, c.in_ok-header.header, sym c.in_ok-header.ensures.read))

@@ -5,11 +5,8 @@ use Rattle.qoi.specs.DecoderState.{DecoderState}
 use Rattle.qoi.specs.Qoi.{channels_number, header_of, header_size}
 use Rattle.qoi.specs.pieces.PixelReader.{pixels_left, HasRows}
 use Rattle.qoi.specs.pieces.RowIndex.{file_decoder, row_size, ReadsFile}
-use Rattle.qoi.proofs.decoding.RowIndexes.{at_row, decoder_of, index_whole}
+use Rattle.qoi.proofs.decoding.RowIndexes.{at_row, index_whole}
 use Rattle.qoi.proofs.decode.pixel_reader.row_index.RowIndex.rows_in.Goals as goal
-
-pub above-requires : goal.above-requires
-above-requires c = decoder_of _ _ _ _ c.in_ok-decoder.ensures.accepted c.with_channels.ensures
 
 pub returns-in_err-skip_to-clause-accepts : goal.returns-in_err-skip_to-clause-accepts
 returns-in_err-skip_to-clause-accepts c h is index within =

@@ -1,13 +1,13 @@
 -- What was lent is decoded, and at the end of the image the end marker is taken.
-use Rattle.std.proofs.Common.{refl, ◌≡◌, ℕ, ◌/◌, ◌%◌, ◌<◌, ◌≤◌, ◌-◌, List, take, drop, take-append-drop, length, Option, arith, sym, ◌∙◌, subst}
+use Rattle.std.proofs.Common.{refl, ◌≡◌, ℕ, ◌/◌, ◌%◌, ◌<◌, ◌≤◌, ◌-◌, List, take, drop, take-append-drop, length, Option, arith, ◌∙◌, subst}
 use Rattle.std.proofs.lemmas.List.{length-take-le}
 use Rattle.qoi.specs.declared.decode.pixel_reader.unread.Unread.{Unread}
 use Rattle.qoi.specs.Raw.{IsChannels}
-use Rattle.qoi.specs.inner.Chunks.{RefusesChunks, HasFault}
+use Rattle.qoi.specs.inner.Chunks.{RefusesChunks}
 use Rattle.qoi.specs.pieces.Unread.{KeepsNothing, IsUnread}
 use Rattle.qoi.proofs.format.WholePixels.{whole_pixels}
 use Rattle.qoi.proofs.decoding.Progress.{none_written}
-use Rattle.qoi.proofs.decoding.GivenMore.{gives_none}
+use Rattle.qoi.proofs.decoding.GivenMore.{faulted, gives_none, refuses_lent}
 use Rattle.qoi.proofs.decoding.PieceSteps.{Lent, lent, kept_read, rest_count, rest_read, rest_whole, minus_whole}
 use Rattle.qoi.proofs.decode.pixel_reader.unread.Unread.decode_ahead.Goals as goal
 
@@ -27,14 +27,9 @@ rest_lent {c = c} p is h same size some short =
     lent (p.undecoded / c) (take p.undecoded p.bytes) is h same some (front ∙ rest_whole is h same.0 some) (omega (arith, front))
 
 pub returns-in-Err-clause-step : goal.returns-in-Err-clause-step
-returns-in-Err-clause-step g c = record {
-  refused = λ n start given h.
-      let size : length c.args.self.now.bytes ≡ 3072 = omega arith in
-      let within : c.args.room ≤ length c.args.self.now.bytes = omega (arith, size, c.requires.room.1) in
-      let l = room_lent c.args.self.now c.args.room c.requires.channels h c.requires.none within c.requires.whole (omega (arith, c.if-self-gt-DECODED_AHEAD.true, c.requires.room.1)) in
-      subst (HasFault (RefusesChunks g.R.Chunks.in_memory n start (g.R.Chunks.ahead c.front_of_image-front.new.reader))) (sym c.fail.ensures)
-      (c.in-Err.ensures.refused l.gone _ _ l.before n l.most);
-}
+returns-in-Err-clause-step g c =
+    refuses_lent (λ n start given h. room_lent c.args.self.now c.args.room c.requires.channels h c.requires.none (omega (arith, c.requires.room.1)) c.requires.whole (omega (arith, c.if-self-gt-DECODED_AHEAD.true, c.requires.room.1)))
+    c.in-Err.ensures.refused c.fail.ensures
 
 pub returns-then-self-gt-DECODED_AHEAD-clause-step : goal.returns-then-self-gt-DECODED_AHEAD-clause-step
 returns-then-self-gt-DECODED_AHEAD-clause-step g c =
@@ -59,9 +54,8 @@ returns-in-Err-rest-clause-step g c = record {
   refused = λ n start given h.
       let l = rest_lent c.args.self.now c.requires.channels h c.requires.none (omega arith) c.requires.some (omega (arith, c.if-self-gt-DECODED_AHEAD.false)) in
       let count = rest_count c.requires.channels h c.requires.none l (rest_whole c.requires.channels h c.requires.none.0 c.requires.some) in
-      subst (HasFault (RefusesChunks g.R.Chunks.in_memory n start (g.R.Chunks.ahead c.rest_of_image-rest.new.reader))) (sym c.fail-in-Err-rest.ensures)
-      (subst (λ k. RefusesChunks g.R.Chunks.in_memory k start (g.R.Chunks.ahead c.rest_of_image-rest.new.reader) c.in-Err-rest.e) count
-      (c.in-Err-rest.ensures.refused l.gone _ _ l.before));
+      faulted _ c.fail-in-Err-rest.ensures
+      (subst (λ k. RefusesChunks g.R.Chunks.in_memory k start (g.R.Chunks.ahead c.rest_of_image-rest.new.reader) c.in-Err-rest.e) count (c.in-Err-rest.ensures.refused l.gone _ _ l.before));
 }
 
 pub returns-clause-step : goal.returns-clause-step

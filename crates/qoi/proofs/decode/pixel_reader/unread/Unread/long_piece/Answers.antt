@@ -1,24 +1,14 @@
 -- What was lent is decoded.
-use Rattle.std.proofs.Common.{◌≡◌, ◌*◌, ◌/◌, ◌≤◌, take, length, arith, rules, refl, sym, subst}
-use Rattle.qoi.specs.inner.Chunks.{RefusesChunks, HasFault}
+use Rattle.std.proofs.Common.{◌≡◌, ◌*◌, ◌/◌, ◌≤◌, take, length, arith, rules, refl}
 use Rattle.qoi.specs.pieces.Unread.{KeepsNothing}
-use Rattle.qoi.proofs.decoding.PieceSteps.{whole_front, front_lent, front_most, long_read, times_fillable, minus_whole}
+use Rattle.qoi.proofs.decoding.GivenMore.{refuses_lent}
+use Rattle.qoi.proofs.decoding.PieceSteps.{front_lent, front_most, long_read, minus_whole}
 use Rattle.qoi.proofs.decode.pixel_reader.unread.Unread.long_piece.Goals as goal
 
-pub some_chunks-requires : goal.some_chunks-requires
-some_chunks-requires g c = times_fillable _ c.requires.channels (whole_front g.row.N c.args.out.now c.requires.channels)
-
-pub returns-clause-last : goal.returns-clause-last
-returns-clause-last g c long =
-    omega (arith, (front_most g.row.N c.args.out.now c.requires.channels).1, c.some_chunks.auto.out, c.in-Ok.ensures.read.filled refl)
-
 pub returns-in-Err-clause-step : goal.returns-in-Err-clause-step
-returns-in-Err-clause-step g c = record {
-  refused = λ n start given h.
-      let l = front_lent c.args.self.now c.args.out.now c.requires.channels h (c.requires.asks.none, c.requires.run) c.requires.asks.fits (omega (arith, c.if-out-least_room.false, c.least_room.ensures.run)) in
-      subst (HasFault (RefusesChunks g.R.Chunks.in_memory n start (g.R.Chunks.ahead c.some_chunks.new.self))) (sym c.fail.ensures)
-      (c.in-Err.ensures.refused l.gone _ _ l.before n l.most);
-}
+returns-in-Err-clause-step g c =
+    refuses_lent (λ n start given h. front_lent c.args.self.now c.args.out.now c.requires.channels h (c.requires.asks.none, c.requires.run) c.requires.asks.fits (omega (arith, c.if-out-least_room.false, c.least_room.ensures.run)))
+    c.in-Err.ensures.refused c.fail.ensures
 
 pub returns-clause-step : goal.returns-clause-step
 returns-clause-step g c =
