@@ -68,32 +68,44 @@ fn repeats_in_block<const N: usize>(front: FrontBlock<N>, px: Packed) -> usize
         → pixels_in front.entry.raw ≡ replicate 16 px ++ drop 16 (pixels_in front.entry.raw) }
     ensures counted { result < 16 → IsCount px (pixels_in front.entry.raw) result }
 {
-    let (all, same) = same_in_block::<N>(front, px);
-    if all {
+    if all_same_in_block::<N>(front, px) {
         return 16;
     }
+    let same = same_in_block::<N>(front, px);
     (!same).trailing_zeros() as usize / N
 }
 
-// Which bytes are those of `px` written sixteen times: a bit for each, the lowest for the first. And
-// whether all are, which is asked first: of most blocks it is true, and to find it takes fewer
-// instructions than to count.
+// Whether all bits of `same_in_block` are set. It is asked first, since of most blocks it is true,
+// and to find it takes fewer instructions than to count.
 #[inline(always)]
-fn same_in_block<const N: usize>(front: FrontBlock<N>, px: Packed) -> (bool, u64)
-    ensures all { IsTrue result.0 ↔ (result.1 ≡ 2 ^ (N * 16) - 1) }
-    ensures bits { result.1 ≡ mask_l (zip2 nat_eq front.entry.raw.bytes.now
-        (output N N (replicate 16 px))) }
+fn all_same_in_block<const N: usize>(front: FrontBlock<N>, px: Packed) -> bool
+    ensures { IsTrue result ↔ (mask_l (zip2 nat_eq front.entry.raw.bytes.now
+        (output N N (replicate 16 px))) ≡ 2 ^ (N * 16) - 1) }
 {
     let first = same_in_part::<N, 0>(front, px);
     let second = same_in_part::<N, 1>(front, px);
     let third = same_in_part::<N, 2>(front, px);
     let three = first & second & third;
-    let same = first + (second << 16) + (third << 32);
     if N == 3 {
-        return (three == 0xffff, same);
+        return three == 0xffff;
     }
-    let fourth = same_in_part::<N, 3>(front, px);
-    (three & fourth == 0xffff, same + (fourth << 48))
+    three & same_in_part::<N, 3>(front, px) == 0xffff
+}
+
+// Which bytes are those of `px` written sixteen times: a bit for each, the lowest for the first.
+#[inline(always)]
+fn same_in_block<const N: usize>(front: FrontBlock<N>, px: Packed) -> u64
+    ensures bits { result ≡ mask_l (zip2 nat_eq front.entry.raw.bytes.now
+        (output N N (replicate 16 px))) }
+{
+    let first = same_in_part::<N, 0>(front, px);
+    let second = same_in_part::<N, 1>(front, px);
+    let third = same_in_part::<N, 2>(front, px);
+    let three = first + (second << 16) + (third << 32);
+    if N == 3 {
+        return three;
+    }
+    three + (same_in_part::<N, 3>(front, px) << 48)
 }
 
 // Which of the `PART`th sixteen bytes are so: a bit for each.

@@ -57,7 +57,7 @@ pub(in crate::encode) fn later(before: u8x16, v: u8x16) -> u8x16
 pub(in crate::encode) fn all_set(v: u8x16) -> bool
     ensures { (bs : List Bool) → length bs ≡ 16 → v ≡ map mask bs → result ≡ all_true bs }
 {
-    unset_bits(v) == 0
+    v.simd_eq(u8x16::splat(255)).to_bitmask() == 0xffff
 }
 
 /// A bit for each lane of a mask that isn't set, the lowest for the first.

@@ -6,15 +6,14 @@ use Rattle.qoi.proofs.encode.runs.repeats_in_block.Goals as goal
 
 pub returns : goal.returns
 returns g c =
-    let same = c.same_in_block-all in
+    let same = c.same_in_block-same in
     let raw = c.args.front.raw in
-    let w = front_of g.row.N raw.bytes.now c.args.px same.result.1 raw.channels c.requires c.args.front.long same.ensures.bits in
+    let w = front_of g.row.N raw.bytes.now c.args.px same.result raw.channels c.requires c.args.front.long same.ensures.bits in
     let after = ap (λ z. replicate 16 c.args.px ++ z) (sym (pixels_drop g.row.N 16 raw.bytes.now raw.channels c.args.front.long)) in
     record { within = w.within; all = λ e. w.all e ∙ after; counted = w.counted }
 
-pub returns-then-all-clause-all : goal.returns-then-all-clause-all
-returns-then-all-clause-all g c = λ e.
+pub returns-then-all_same_in_block-clause-all : goal.returns-then-all_same_in_block-clause-all
+returns-then-all_same_in_block-clause-all g c = (λ e.
     let raw = c.args.front.raw in
-    let same = c.same_in_block-all.ensures in
-    whole_block g.row.N raw.bytes.now c.args.px raw.channels c.requires c.args.front.long (sym same.bits ∙ same.all.0 c.if-all.true)
-    ∙ ap (λ z. replicate 16 c.args.px ++ z) (sym (pixels_drop g.row.N 16 raw.bytes.now raw.channels c.args.front.long))
+    whole_block g.row.N raw.bytes.now c.args.px raw.channels c.requires c.args.front.long (c.all_same_in_block.ensures.0 c.if-all_same_in_block.true)
+    ∙ ap (λ z. replicate 16 c.args.px ++ z) (sym (pixels_drop g.row.N 16 raw.bytes.now raw.channels c.args.front.long)))

@@ -1,73 +1,22 @@
--- The bits of the parts, one after the other. All are set if none is left out by `&`.
-use Rattle.std.proofs.Common.{◌≡◌, ◌∙◌, ◌+◌, ◌-◌, ◌*◌, ◌^◌, ◌≤◌, ◌<◌, ◌%◌, ◌==◌, true, ℕ, eqb-true, ap, sym, arith, refl}
-use Rattle.std.proofs.lemmas.Nat.{and_le_l, and_le_r}
-use Rattle.std.specs.Int.Bits.{bit_and}
+-- The bits of the parts, one after the other.
+use Rattle.std.proofs.Common.{◌≡◌, arith, refl}
 use Rattle.qoi.proofs.encoding.coder.PixelBlock.{bits_of_3, bits_of_4}
 use Rattle.qoi.proofs.encode.runs.same_in_block.Goals as goal
 
--- two numbers of at most n have no other bits than what is left of them, if that is n
-both : (a b n : ℕ) → a < n + 1 → b < n + 1 → n ≤ bit_and a b → (a ≡ n) × (b ≡ n)
-both a b n l m e = (omega (arith, and_le_l a b, l, e), omega (arith, and_le_r a b, m, e))
-
--- what is left of three
-three_set : (a b c : ℕ) → a < 65536 → b < 65536 → c < 65536 → bit_and (bit_and a b) c ≡ 65535 → (a ≡ 65535) × (b ≡ 65535) × (c ≡ 65535)
-three_set a b c la lb lc e =
-    let last = both (bit_and a b) c 65535 (omega (arith, and_le_l a b, la)) (omega (arith, lc)) (omega (arith, e)) in
-    let first = both a b 65535 (omega (arith, la)) (omega (arith, lb)) (omega (arith, last.0)) in
-    (first.0, first.1, last.1)
-
 pub returns-then-this-eq3 : goal.returns-then-this-eq3
-returns-then-this-eq3 g c =
-    let first = c.same_in_part-first.ensures in
-    let second = c.same_in_part-second.ensures in
-    let third = c.same_in_part-third.ensures in
-    let a = c.same_in_part-first.result in
-    let b = c.same_in_part-second.result in
-    let d = c.same_in_part-third.result in
-    let power = ap (λ n. 2 ^ (n * 16) - 1) c.if-this-eq3.true in
-    record {
-      all = (
-        λ is.
-            (let set = three_set a b d first.few second.few third.few (eqb-true _ _ is) in
-            let sum : a + b * 2 ^ 16 % 2 ^ 64 + d * 2 ^ 32 % 2 ^ 64 ≡ 2 ^ 48 - 1 = omega (arith, set.0, set.1, set.2) in sum ∙ sym power),
-        λ e.
-            (let sum : a + b * 2 ^ 16 % 2 ^ 64 + d * 2 ^ 32 % 2 ^ 64 ≡ 2 ^ 48 - 1 = e ∙ power in
-            let x : a ≡ 65535 = omega (arith, sum, first.few, second.few, third.few) in
-            let y : b ≡ 65535 = omega (arith, sum, first.few, second.few, third.few) in
-            let z : d ≡ 65535 = omega (arith, sum, first.few, second.few, third.few) in
-            λ i. bit_and (bit_and (x i) (y i)) (z i) == 65535),
-      );
-      bits = bits_of_3 _ _ a b d (rw c.if-this-eq3.true refl) (omega (arith, c.args.front.long, c.if-this-eq3.true))
-          first.few second.few third.few first.bits second.bits third.bits;
-    }
+returns-then-this-eq3 g c = record {
+  bits = bits_of_3 _ _ c.same_in_part-first.result c.same_in_part-second.result c.same_in_part-third.result
+      (rw c.if-this-eq3.true refl) (omega (arith, c.args.front.long, c.if-this-eq3.true))
+      c.same_in_part-first.ensures.few c.same_in_part-second.ensures.few c.same_in_part-third.ensures.few
+      c.same_in_part-first.ensures.bits c.same_in_part-second.ensures.bits c.same_in_part-third.ensures.bits;
+}
 
 pub returns : goal.returns
 returns g c =
-    let four : g.row.N ≡ 4 = omega (arith, c.args.front.raw.channels, c.if-this-eq3.false) in
-    let first = c.same_in_part-first.ensures in
-    let second = c.same_in_part-second.ensures in
-    let third = c.same_in_part-third.ensures in
-    let fourth = c.same_in_part-fourth.ensures in
-    let a = c.same_in_part-first.result in
-    let b = c.same_in_part-second.result in
-    let d = c.same_in_part-third.result in
-    let f = c.same_in_part-fourth.result in
-    let power = ap (λ n. 2 ^ (n * 16) - 1) four in
+    let is : g.row.N ≡ 4 = omega (arith, c.args.front.raw.channels, c.if-this-eq3.false) in
     record {
-      all = (
-        λ is.
-            (let three : bit_and (bit_and a b) d < 65536 = omega (arith, and_le_r (bit_and a b) d, third.few) in
-            let last = both (bit_and (bit_and a b) d) f 65535 (omega (arith, three)) (omega (arith, fourth.few)) (let e = eqb-true _ _ is in omega arith) in
-            let set = three_set a b d first.few second.few third.few last.0 in
-            let sum : a + b * 2 ^ 16 % 2 ^ 64 + d * 2 ^ 32 % 2 ^ 64 + f * 2 ^ 48 % 2 ^ 64 ≡ 2 ^ 64 - 1 = omega (arith, set.0, set.1, set.2, last.1) in sum ∙ sym power),
-        λ e.
-            (let sum : a + b * 2 ^ 16 % 2 ^ 64 + d * 2 ^ 32 % 2 ^ 64 + f * 2 ^ 48 % 2 ^ 64 ≡ 2 ^ 64 - 1 = e ∙ power in
-            let x : a ≡ 65535 = omega (arith, sum, first.few, second.few, third.few, fourth.few) in
-            let y : b ≡ 65535 = omega (arith, sum, first.few, second.few, third.few, fourth.few) in
-            let z : d ≡ 65535 = omega (arith, sum, first.few, second.few, third.few, fourth.few) in
-            let w : f ≡ 65535 = omega (arith, sum, first.few, second.few, third.few, fourth.few) in
-            λ i. bit_and (bit_and (bit_and (x i) (y i)) (z i)) (w i) == 65535),
-      );
-      bits = bits_of_4 _ _ a b d f (rw four (refl {a = 64})) (omega (arith, c.args.front.long, four))
-          first.few second.few third.few fourth.few first.bits second.bits third.bits fourth.bits;
+      bits = bits_of_4 _ _ c.same_in_part-first.result c.same_in_part-second.result c.same_in_part-third.result c.same_in_part.result
+          (rw is (refl {a = 64})) (omega (arith, c.args.front.long, is))
+          c.same_in_part-first.ensures.few c.same_in_part-second.ensures.few c.same_in_part-third.ensures.few c.same_in_part.ensures.few
+          c.same_in_part-first.ensures.bits c.same_in_part-second.ensures.bits c.same_in_part-third.ensures.bits c.same_in_part.ensures.bits;
     }
