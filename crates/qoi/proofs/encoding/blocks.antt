@@ -6,13 +6,12 @@ pub mod BlockWritten
 pub mod FourFours
 pub mod FrontBlock
 pub mod FullBlock
+pub mod InStyle
+pub mod LaneBytes
 pub mod LastCount
 pub mod OpaqueBlock
 pub mod PackedBlock
-pub mod PlacesBytes
 pub mod ReadBlock
-pub mod ReferenceBytes
 pub mod SpelledBlock
-pub mod StyledBlock
+pub mod StyledBytes
 pub mod SwappedPixels
-pub mod TightBytes

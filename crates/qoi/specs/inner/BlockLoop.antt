@@ -1,9 +1,11 @@
 -- The state between two blocks, by what is carried from one to the next.
-use Rattle.std.specs.Prelude.{◌≡◌, ◌≢◌, ◌≤◌, ◌++◌, ℕ, false, List, length, slice_get, Option, Some}
+use Rattle.std.specs.Prelude.{◌≡◌, ◌≢◌, ◌<◌, ◌≤◌, ◌++◌, ℕ, false, List, length, slice_get, Option, Some}
 use Rattle.qoi.specs.declared.chunk.Chunk.{Chunk}
 use Rattle.qoi.specs.declared.encode.carry.Carry.{Carry}
 use Rattle.qoi.specs.declared.encode.carry.TheConstants.{FRONT_CARRIED}
 use Rattle.qoi.specs.declared.encode.last_pixel.LastPixel.{LastPixel}
+use Rattle.qoi.specs.declared.encode.piece.Piece.{Piece}
+use Rattle.qoi.specs.declared.encode.pixels.Pixels.{Pixels}
 use Rattle.qoi.specs.declared.types.Style.{Style}
 use Rattle.qoi.specs.declared.types.Style.TheVariants.{Places, Tight}
 use Rattle.qoi.specs.Qoi.{RgbaPixel, Past, previous, hash}
@@ -11,6 +13,8 @@ use Rattle.qoi.specs.Styles.{some_fresh, names}
 use Rattle.qoi.specs.inner.block.Block.{last_pixel}
 use Rattle.qoi.specs.inner.CoderLoop.{Ahead}
 use Rattle.qoi.specs.inner.CoderState.{held_in}
+use Rattle.qoi.specs.inner.Piece.{kept_bytes}
+use Rattle.qoi.specs.inner.Pixels.{pixels_in}
 use Rattle.qoi.specs.inner.Table.{Holds}
 
 -- What is carried, and the table, after these pixels and this chunk: what `CoderAfter` says of a
@@ -43,3 +47,20 @@ pub record InBlocks {N : ℕ} (style : Style) (ahead : List ℕ) (n : ℕ) (rest
   pub state : CarryAfter style past before table carry
   pub opens : some_fresh past ≡ false → (carry.count ≡ 0) × OpensBlock style (previous past) n rest
   pub few : slice_get rest 0 ≡ Some (previous past) → carry.count ≤ FRONT_CARRIED
+
+-- what a loop has between two blocks
+pub record Blocks (N : ℕ) : Type 0 where
+  pub rest : List RgbaPixel
+  pub table : List RgbaPixel
+  pub carry : Carry N
+  pub kept : List ℕ
+
+-- with these pixels and this piece
+abbrev pub blocks : {N ROOM : ℕ} → Pixels N → List RgbaPixel → Carry N → Piece ROOM → Blocks N
+blocks rest table carry piece = record { rest = pixels_in rest; table = table; carry = carry; kept = kept_bytes piece }
+
+-- From one to the other some pixels are written, of a call's `least` or more.
+pub record WritesBlocks {N : ℕ} (style : Style) (least : ℕ) (old new : Blocks N) : Type 0 where
+  pub less : length new.rest < length old.rest
+  pub written : (ahead : List ℕ) (n : ℕ) (more : List RgbaPixel) → least ≤ n
+      → InBlocks style ahead n old.rest more old.table old.carry old.kept → InBlocks style ahead n new.rest more new.table new.carry new.kept

@@ -1,9 +1,9 @@
 //! A block, which is sixteen pixels, and its chunks without the repeats at its end. A block goes
 //! through the files below in this order: `reading`, `planes`, `steps`, `positions`, `spelling`
 //! (with `counting` and `single_repeats`), `storing`. `lanes` has what they do with vectors.
-ghost use Rattle.std.specs.Prelude.{◌≡◌, ℕ, Bool, false, ◌+◌, ◌-◌, ◌<◌, List, ◌++◌, map, take, slice_index, slice_index_or, ◌/◌, ◌%◌, IsTrue, IsFalse};
+ghost use Rattle.std.specs.Prelude.{◌≡◌, ℕ, Bool, false, ◌+◌, ◌-◌, ◌<◌, List, ◌++◌, map, take, slice_index, slice_index_or, ◌%◌, IsTrue, IsFalse};
 ghost use Rattle.qoi.specs.declared.types.Style.TheVariants.{Places, Tight};
-ghost use Rattle.qoi.specs.Qoi.{RgbaPixel, IsPixel, hash};
+ghost use Rattle.qoi.specs.Qoi.{RgbaPixel};
 ghost use Rattle.qoi.specs.Raw.{IsChannels, AreOpaque};
 ghost use Rattle.qoi.specs.inner.block.Lanes.{mask};
 ghost use Rattle.qoi.specs.inner.block.Marks.{fresh_marks};
@@ -14,8 +14,7 @@ ghost use Rattle.qoi.specs.inner.CoderState.{style_of};
 ghost use Rattle.qoi.specs.inner.Piece.{kept_bytes};
 ghost use Rattle.qoi.specs.inner.Pixels.{pixels_in};
 ghost use Rattle.qoi.specs.inner.block.Planes.{ArePacked, ArePlanes, block_pixels};
-ghost use Rattle.qoi.specs.inner.block.Spelling.{HasSpelled};
-ghost use Rattle.qoi.specs.inner.block.Positions.{stand_tests};
+ghost use Rattle.qoi.specs.inner.block.Spelling.{IsBlock, HasSpelled};
 ghost use Rattle.qoi.specs.inner.Table.{Holds};
 
 mod counting;
@@ -29,8 +28,8 @@ mod steps;
 mod storing;
 
 use crate::encode::block::lanes::{all_set, unset_bits, where_is};
-use crate::encode::block::planes::{Planes, Words, make_planes};
-use crate::encode::block::positions::{blanks, index_positions, put_block, store_places};
+use crate::encode::block::planes::{Planes, Words, blanks, make_planes};
+use crate::encode::block::positions::{index_positions, put_block, read_places, store_places};
 use crate::encode::block::reading::first_sixteen;
 use crate::encode::block::single_repeats::name_single;
 use crate::encode::block::spelling::{Spelled, are_full, spell_block, spell_full};
@@ -120,47 +119,27 @@ impl Block {
 
     // The block's chunks. `stands` marks the pixels that stand at their index positions, `places`.
     #[inline(always)]
-    fn spell<const N: usize, const STYLE: u8>(
+    fn spell<const N: usize, const STYLE: u8, const FULL: bool>(
         self,
         stands: u8x16,
         places: u8x16,
         carry: Carry<N>,
     ) -> Spelled
-        ensures { (s : State) → IsPixel s.last → s.last ≡ last_pixel carry.entry.before
+        ensures { (s : State) → s.last ≡ last_pixel carry.entry.before
             → ChangesFrom carry.entry.before (block_pixels self.words) self.changes
             → s.carry ≡ carry.entry.count
             → (style_of STYLE ≡ Places → s.placed ≡ carry.entry.placed)
-            → stands ≡ map mask (stand_tests s.held (block_pixels self.words))
-            → places ≡ map hash (block_pixels self.words)
+            → IsBlock s (block_pixels self.words) self.planes.r stands places
             → HasSpelled (style_of STYLE) s (block_pixels self.words) result }
     {
+        if FULL && are_full(self.changes.steps.a, stands) {
+            return spell_full(self.changes.rep, self.planes.r);
+        }
         let x = spell_block(self.changes, self.planes.r, stands, places, carry.count);
         match style_of::<STYLE>() {
             Reference | Tight => x,
             Places => name_single(x, stands, places, carry.placed),
         }
-    }
-
-    // As `spell`, but faster if an RGBA chunk gives each pixel.
-    #[inline(always)]
-    fn spell_changing<const N: usize, const STYLE: u8>(
-        self,
-        stands: u8x16,
-        places: u8x16,
-        carry: Carry<N>,
-    ) -> Spelled
-        ensures { (s : State) → IsPixel s.last → s.last ≡ last_pixel carry.entry.before
-            → ChangesFrom carry.entry.before (block_pixels self.words) self.changes
-            → s.carry ≡ carry.entry.count
-            → (style_of STYLE ≡ Places → s.placed ≡ carry.entry.placed)
-            → stands ≡ map mask (stand_tests s.held (block_pixels self.words))
-            → places ≡ map hash (block_pixels self.words)
-            → HasSpelled (style_of STYLE) s (block_pixels self.words) result }
-    {
-        if are_full(self.changes.alpha, stands) {
-            return spell_full(self.changes.rep, self.planes.r);
-        }
-        self.spell::<N, STYLE>(stands, places, carry)
     }
 
     // What is carried after the block's chunks.
@@ -187,69 +166,14 @@ impl Block {
     }
 }
 
-// As `write_block`, for any block.
-#[inline]
-fn write_any<'p, const N: usize, const STYLE: u8, const ROOM: usize>(
-    table: &mut PixelTable,
-    piece: OpenPiece<'p, ROOM>,
-    block: Block,
-    carry: Carry<N>,
-) -> (Carry<N>, Piece<'p, ROOM>)
-    requires { N ≡ 3 → AreOpaque (block_pixels block.words) }
-    ensures { (ahead : List ℕ) (n : ℕ) (rest more : List RgbaPixel)
-        → FitsBlock (style_of STYLE) table.old carry.entry.before (block_pixels block.words)
-        block.changes
-        → InBlocks (style_of STYLE) ahead n (block_pixels block.words ++ rest) more
-        table.old carry.entry (kept_bytes piece.entry.piece)
-        → InBlocks (style_of STYLE) ahead n rest more table.new result.0 (kept_bytes result.1) }
-{
-    let style = style_of::<STYLE>();
-    let Piece { bytes, end } = piece.piece;
-    let places = index_positions(block.planes);
-    store_places::<ROOM>(places, bytes);
-    carry.store_run(style, bytes, end);
-    let stands = put_block(table, &bytes[ROOM - 16..], block.words);
-    let x = block.spell::<N, STYLE>(stands, places, carry);
-    let start = carry.run_end(end, x.rep.to_array()[0]);
-    let end = store_sixteen::<N>(bytes, start, x, block);
-    (block.carry(style, x, stands), Piece { bytes, end })
-}
-
-// As `write_block`, but faster for a block of which an RGBA chunk gives each pixel.
-//
-// Index positions are taken from the vector one by one, which takes longer than to read them back
-// from memory. But then the table's stores keep pace with its reads: where a read runs ahead of a
-// store to the same position, the processor does both and all after them again.
-#[inline]
-fn write_changing<'p, const N: usize, const STYLE: u8, const ROOM: usize>(
-    table: &mut PixelTable,
-    piece: OpenPiece<'p, ROOM>,
-    block: Block,
-    carry: Carry<N>,
-) -> (Carry<N>, Piece<'p, ROOM>)
-    requires { N ≡ 3 → AreOpaque (block_pixels block.words) }
-    ensures { (ahead : List ℕ) (n : ℕ) (rest more : List RgbaPixel)
-        → FitsBlock (style_of STYLE) table.old carry.entry.before (block_pixels block.words)
-        block.changes
-        → InBlocks (style_of STYLE) ahead n (block_pixels block.words ++ rest) more
-        table.old carry.entry (kept_bytes piece.entry.piece)
-        → InBlocks (style_of STYLE) ahead n rest more table.new result.0 (kept_bytes result.1) }
-{
-    let style = style_of::<STYLE>();
-    let Piece { bytes, end } = piece.piece;
-    let places = index_positions(block.planes);
-    carry.store_run(style, bytes, end);
-    let stands = put_block(table, &places.to_array(), block.words);
-    let x = block.spell_changing::<N, STYLE>(stands, places, carry);
-    let start = carry.run_end(end, x.rep.to_array()[0]);
-    let end = store_sixteen::<N>(bytes, start, x, block);
-    (block.carry(style, x, stands), Piece { bytes, end })
-}
-
 /// Appends the chunks of a block that doesn't repeat whole, but for the repeats at its end. Returns
 /// what is carried then. Each loop that calls it has a function of its own, which the compiler
-/// inlines there. If `FULL`, an
-/// RGBA chunk is expected to give each pixel.
+/// inlines there.
+///
+/// If `FULL`, an RGBA chunk is expected to give each pixel, and index positions are taken from the
+/// vector one by one. That takes longer than to read them back from memory, but then the table's
+/// stores keep pace with its reads: where a read runs ahead of a store to the same position, the
+/// processor does both and all after them again.
 #[inline]
 pub(super) fn write_block<'p, const N: usize, const STYLE: u8, const ROOM: usize, const FULL: bool>(
     table: &mut PixelTable,
@@ -265,8 +189,15 @@ pub(super) fn write_block<'p, const N: usize, const STYLE: u8, const ROOM: usize
         table.old carry.entry (kept_bytes piece.entry.piece)
         → InBlocks (style_of STYLE) ahead n rest more table.new result.0 (kept_bytes result.1) }
 {
-    if FULL {
-        return write_changing::<N, STYLE, ROOM>(table, piece, block, carry);
-    }
-    write_any::<N, STYLE, ROOM>(table, piece, block, carry)
+    let style = style_of::<STYLE>();
+    let Piece { bytes, end } = piece.piece;
+    let places = index_positions(block.planes);
+    store_places::<ROOM, FULL>(places, bytes);
+    carry.store_run(style, bytes, end);
+    let lanes = places.to_array();
+    let stands = put_block(table, read_places::<ROOM, FULL>(&lanes, bytes), block.words);
+    let x = block.spell::<N, STYLE, FULL>(stands, places, carry);
+    let start = carry.run_end(end, x.rep.to_array()[0]);
+    let end = store_sixteen::<N>(bytes, start, x, block);
+    (block.carry(style, x, stands), Piece { bytes, end })
 }

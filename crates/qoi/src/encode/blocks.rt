@@ -1,13 +1,13 @@
 //! Writes what is at the front of an image's pixels into a piece: blocks of sixteen, and between
 //! two of them repeats are carried (QOI specification 1.0, "Data" and "Chunks").
-ghost use Rattle.std.specs.Prelude.{◌≡◌, ◌⊎◌, ℕ, ◌<◌, ◌≤◌, ◌%◌, true, List, [], ◌++◌, Some, length, take, slice_get, IsTrue};
+ghost use Rattle.std.specs.Prelude.{◌≡◌, ◌⊎◌, ℕ, ◌<◌, ◌≤◌, ◌%◌, true, List, ◌++◌, Some, length, take, slice_get, IsTrue};
 ghost use Rattle.qoi.specs.declared.encode.carry.TheConstants.{FRONT_CARRIED};
 ghost use Rattle.qoi.specs.declared.types.Style.{Style};
 ghost use Rattle.qoi.specs.declared.types.Style.TheVariants.{Tight};
 ghost use Rattle.qoi.specs.Qoi.{RgbaPixel};
 ghost use Rattle.qoi.specs.inner.block.Block.{last_pixel};
 ghost use Rattle.qoi.specs.inner.block.Marks.{fresh_marks};
-ghost use Rattle.qoi.specs.inner.BlockLoop.{GoesByBlocks, InBlocks};
+ghost use Rattle.qoi.specs.inner.BlockLoop.{GoesByBlocks, InBlocks, WritesBlocks, blocks};
 ghost use Rattle.qoi.specs.inner.CoderLoop.{CoderBetween};
 ghost use Rattle.qoi.specs.inner.CoderState.{style_of};
 ghost use Rattle.qoi.specs.inner.Piece.{kept_bytes};
@@ -94,11 +94,9 @@ fn write_long_group<'a, 'p, const N: usize, const ROOM: usize>(
     carry: Carry<N>,
 ) -> (Pixels<'a, N>, Carry<N>, Piece<'p, ROOM>)
     requires { slice_get (pixels_in raw) 0 ≡ Some (last_pixel carry.before) }
-    ensures less { length (pixels_in result.0) < length (pixels_in raw.entry) }
-    ensures written { (style : Style) (ahead : List ℕ) (n : ℕ) (more table : List RgbaPixel)
-        → InBlocks style ahead n (pixels_in raw.entry) more table carry.entry
-        (kept_bytes piece.entry.piece)
-        → InBlocks style ahead n (pixels_in result.0) more table result.1 (kept_bytes result.2) }
+    ensures { (style : Style) (least : ℕ) (table : List RgbaPixel) → WritesBlocks style least
+        (blocks raw.entry table carry.entry piece.entry.piece)
+        (blocks result.0 table result.1 result.2) }
 {
     let mut piece = piece.piece;
     let carried = usize::from(carry.count);
@@ -123,12 +121,9 @@ fn write_group<'a, 'p, const N: usize, const STYLE: u8, const ROOM: usize>(
     carry: Carry<N>,
 ) -> (Pixels<'a, N>, Carry<N>, Piece<'p, ROOM>)
     requires { style_of STYLE ≡ Tight }
-    ensures less { length (pixels_in result.0) < length (pixels_in front.entry.raw) }
-    ensures written { (ahead : List ℕ) (n : ℕ) (more : List RgbaPixel)
-        → InBlocks (style_of STYLE) ahead n (pixels_in front.entry.raw) more
-        table.old carry.entry (kept_bytes piece.entry.piece)
-        → InBlocks (style_of STYLE) ahead n (pixels_in result.0) more
-        table.new result.1 (kept_bytes result.2) }
+    ensures { WritesBlocks (style_of STYLE) (length (pixels_in front.entry.whole))
+        (blocks front.entry.raw table.old carry.entry piece.entry.piece)
+        (blocks result.0 table.new result.1 result.2) }
 {
     let mut piece = piece.piece;
     let mut coder = coder_after::<N, STYLE>(carry);
@@ -149,13 +144,10 @@ fn write_marked_block<'a, 'p, const N: usize, const STYLE: u8, const ROOM: usize
     requires few { block.marks % 2 ≡ 0 → carry.count ≤ FRONT_CARRIED }
     requires marks { block.marks
         ≡ fresh_marks (last_pixel carry.before) (take 16 (pixels_in block.front.raw)) }
-    ensures less { length (pixels_in result.0) < length (pixels_in block.entry.front.raw) }
-    ensures written { (ahead : List ℕ) (n : ℕ) (more : List RgbaPixel)
-        → length (pixels_in block.entry.front.raw) < n
-        → InBlocks (style_of STYLE) ahead n (pixels_in block.entry.front.raw) more
-        table.old carry.entry (kept_bytes piece.entry.piece)
-        → InBlocks (style_of STYLE) ahead n (pixels_in result.0) more
-        table.new result.1 (kept_bytes result.2) }
+    requires later { length (pixels_in block.front.raw) < length (pixels_in block.front.whole) }
+    ensures { WritesBlocks (style_of STYLE) (length (pixels_in block.entry.front.whole))
+        (blocks block.entry.front.raw table.old carry.entry piece.entry.piece)
+        (blocks result.0 table.new result.1 result.2) }
 {
     let mut piece = piece.piece;
     let mut coder = coder_after::<N, STYLE>(carry);
@@ -174,13 +166,9 @@ fn write_front<'a, 'p, const N: usize, const STYLE: u8, const ROOM: usize, const
     front: FrontBlock<'a, N>,
     carry: Carry<N>,
 ) -> (Pixels<'a, N>, Carry<N>, Piece<'p, ROOM>)
-    ensures less { length (pixels_in result.0) < length (pixels_in front.entry.raw) }
-    ensures written { (ahead : List ℕ) (n : ℕ) (more : List RgbaPixel)
-        → length (pixels_in front.entry.whole) ≤ n
-        → InBlocks (style_of STYLE) ahead n (pixels_in front.entry.raw) more
-        table.old carry.entry (kept_bytes piece.entry.piece)
-        → InBlocks (style_of STYLE) ahead n (pixels_in result.0) more
-        table.new result.1 (kept_bytes result.2) }
+    ensures { WritesBlocks (style_of STYLE) (length (pixels_in front.entry.whole))
+        (blocks front.entry.raw table.old carry.entry piece.entry.piece)
+        (blocks result.0 table.new result.1 result.2) }
 {
     let block = Block::first::<N>(front, carry);
     let marks = block.marks();
@@ -211,13 +199,9 @@ fn fill_by<'a, 'p, const N: usize, const STYLE: u8, const ROOM: usize, const FUL
     carry: Carry<N>,
 ) -> (Pixels<'a, N>, Carry<N>, Piece<'p, ROOM>)
     requires { 16 ≤ length (pixels_in raw) }
-    ensures less { length (pixels_in result.0) < length (pixels_in raw.entry) }
-    ensures written { (ahead : List ℕ) (n : ℕ) (more : List RgbaPixel)
-        → length (pixels_in raw.entry) ≤ n
-        → InBlocks (style_of STYLE) ahead n (pixels_in raw.entry) more
-        table.old carry.entry (kept_bytes piece.entry.piece)
-        → InBlocks (style_of STYLE) ahead n (pixels_in result.0) more
-        table.new result.1 (kept_bytes result.2) }
+    ensures { WritesBlocks (style_of STYLE) (length (pixels_in raw.entry))
+        (blocks raw.entry table.old carry.entry piece.entry.piece)
+        (blocks result.0 table.new result.1 result.2) }
 {
     let mut piece = piece.piece;
     let mut rest = raw;
@@ -242,13 +226,9 @@ fn fill_full<'a, 'p, const N: usize, const STYLE: u8, const ROOM: usize>(
     carry: Carry<N>,
 ) -> (Pixels<'a, N>, Carry<N>, Piece<'p, ROOM>)
     requires { 16 ≤ length (pixels_in raw) }
-    ensures less { length (pixels_in result.0) < length (pixels_in raw.entry) }
-    ensures written { (ahead : List ℕ) (n : ℕ) (more : List RgbaPixel)
-        → length (pixels_in raw.entry) ≤ n
-        → InBlocks (style_of STYLE) ahead n (pixels_in raw.entry) more
-        table.old carry.entry (kept_bytes piece.entry.piece)
-        → InBlocks (style_of STYLE) ahead n (pixels_in result.0) more
-        table.new result.1 (kept_bytes result.2) }
+    ensures { WritesBlocks (style_of STYLE) (length (pixels_in raw.entry))
+        (blocks raw.entry table.old carry.entry piece.entry.piece)
+        (blocks result.0 table.new result.1 result.2) }
 {
     fill_by::<N, STYLE, ROOM, true>(table, piece, raw, carry)
 }
@@ -263,13 +243,9 @@ fn fill<'a, 'p, const N: usize, const STYLE: u8, const ROOM: usize>(
     carry: Carry<N>,
 ) -> (Pixels<'a, N>, Carry<N>, Piece<'p, ROOM>)
     requires { 16 ≤ length (pixels_in raw) }
-    ensures less { length (pixels_in result.0) < length (pixels_in raw.entry) }
-    ensures written { (ahead : List ℕ) (n : ℕ) (more : List RgbaPixel)
-        → length (pixels_in raw.entry) ≤ n
-        → InBlocks (style_of STYLE) ahead n (pixels_in raw.entry) more
-        table.old carry.entry (kept_bytes piece.entry.piece)
-        → InBlocks (style_of STYLE) ahead n (pixels_in result.0) more
-        table.new result.1 (kept_bytes result.2) }
+    ensures { WritesBlocks (style_of STYLE) (length (pixels_in raw.entry))
+        (blocks raw.entry table.old carry.entry piece.entry.piece)
+        (blocks result.0 table.new result.1 result.2) }
 {
     if begin_full(table, carry.before.last(), raw) {
         return fill_full::<N, STYLE, ROOM>(table, piece, raw, carry);

@@ -21,11 +21,11 @@ use Rattle.qoi.specs.inner.block.Spelling.{HasSpelled}
 use Rattle.qoi.specs.inner.block.Positions.{put_all, stand_tests}
 use Rattle.qoi.specs.inner.Table.{Holds}
 use Rattle.qoi.proofs.format.SamePixels.{same_pixel, pixel_eq-true, pixel_eq-from}
-use Rattle.qoi.proofs.encoding.blocks.ReferenceBytes.{carry_few}
+use Rattle.qoi.proofs.encoding.blocks.LaneBytes.{carry_few}
 use Rattle.qoi.proofs.encoding.blocks.BlockWritten.{Carrying, flushed, block_written, CarryGoesOn, flushed_state}
 use Rattle.qoi.proofs.encoding.blocks.LastCount.{last_count, end_state}
 use Rattle.qoi.proofs.encoding.blocks.SpelledBlock.{lanes_long}
-use Rattle.qoi.proofs.encoding.blocks.StyledBlock.{firsts_in_anew}
+use Rattle.qoi.proofs.encoding.blocks.StyledBytes.{firsts_anew}
 
 -- the pixels that were put, after all of these
 pub end_held : (s : State) (ps : List RgbaPixel) → (end_state s ps).held ≡ put_all s.held ps
@@ -49,7 +49,7 @@ spelled_anew : (style : Style) (s : State) (p : RgbaPixel) (ps : List RgbaPixel)
     → HasSpelled style (flushed_state s) (p ∷ ps) x
 spelled_anew style s p ps x e h = record {
   rep_is = h.rep_is;
-  first_is = h.first_is ∙ firsts_in_anew style s.placed false s.carry (lanes_of s.held s.last (p ∷ ps)) e;
+  first_is = h.first_is ∙ firsts_anew style s.placed false s.carry (lanes_of s.held s.last (p ∷ ps)) e;
   second_is = h.second_is;
   size_is = h.size_is;
   count_is = h.count_is ∙ counts_anew s.carry (pixel_eq p s.last) (map is_rep (lanes_of (p ∷ s.held) p ps)) e;
@@ -90,11 +90,7 @@ group_stored style fresh placed q n at end old new kept run stays none some = re
 pub first_repeats : {style : Style} (s : State) (ps : List RgbaPixel) (x : Spelled) → HasSpelled style s ps x → AreSixteen ps
     → (slice_index x.rep 0 == 0) ≡ false → slice_index x.rep 0 ≡ 255
 first_repeats s [] x h sixteen e = absurd (let l = sixteen.long in omega arith)
-first_repeats s (p ∷ ps) x h sixteen e = go (pixel_eq p s.last) (ap (λ z. slice_index z 0) h.rep_is)
-  where
-    go : (b : Bool) → slice_index x.rep 0 ≡ mask b → slice_index x.rep 0 ≡ 255
-    go true is = is
-    go false is = absurd (true≢false (sym (ap (λ n. n == 0) is) ∙ e))
+first_repeats s (p ∷ ps) x h sixteen e = let is : slice_index x.rep 0 ≡ mask (pixel_eq p s.last) = ap (λ z. slice_index z 0) h.rep_is in grind arith
 
 -- only in style Places it matters what the chunk before a group names
 same_group : (style : Style) (a b : Bool) (q : RgbaPixel) (n : ℕ) → (style ≡ Places → a ≡ b) → group_bytes style a q n ≡ group_bytes style b q n

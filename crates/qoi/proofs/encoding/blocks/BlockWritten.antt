@@ -21,10 +21,11 @@ use Rattle.qoi.proofs.encoding.coder.CoderSteps.{over_repeat, over_group, over_f
 use Rattle.qoi.proofs.encoding.coder.CoderTable.{place_chosen, spelled_out}
 use Rattle.qoi.proofs.encoding.lists.WrittenExists.{spells_no_place}
 use Rattle.qoi.specs.inner.block.Lanes.{lane_bytes}
-use Rattle.qoi.specs.inner.block.State.{State, lane_of, group_bytes, next_by, step_by, next_state, step_bytes, more_of, block_bytes, NoneBlank}
-use Rattle.qoi.proofs.encoding.blocks.ReferenceBytes.{carry_few}
+use Rattle.qoi.specs.inner.block.State.{State, lane_of, group_bytes, next_by, step_by, next_state, more_of, block_bytes, NoneBlank}
+use Rattle.qoi.proofs.encoding.blocks.LaneBytes.{carry_few}
 use Rattle.qoi.proofs.encoding.lanes.LaneChunk.{spelled_lane}
 use Rattle.qoi.proofs.encoding.blocks.LastCount.{end_state}
+use Rattle.qoi.proofs.encoding.styles.StyledGroup.{runs_name_none}
 
 -- repeats are carried only if the next pixel is one
 abbrev pub CarryGoesOn : State → List RgbaPixel → Type 0
@@ -141,11 +142,6 @@ fresh_begun past p n = ap has_pixel (fresh_more past p n)
 put_same : (p : RgbaPixel) (xs ys : Past) → ((i : ℕ) → seen xs i ≡ seen ys i) → (i : ℕ) → seen (p ∷ xs) i ≡ seen (p ∷ ys) i
 put_same p xs ys same i = ap (λ z. if hash p == i then p else z) (same i)
 
--- the last chunk of a group names no position
-run_last : (k : ℕ) (before : Option Chunk) (i : ℕ) → k < 61 → names (last_chunk before (runs_by (Run 1) (suc k))) i ≡ false
-run_last zero before i l = ap (λ cs. names (last_chunk before cs) i) (runs_few (Run 1) 1 (omega arith))
-run_last (suc k) before i l = ap (λ cs. names (last_chunk before cs) i) (runs_few (Run 1) (suc (suc k)) (omega arith))
-
 -- one lane
 
 -- how a fresh pixel that isn't at its position is given, if it isn't transparent black in style
@@ -238,7 +234,7 @@ module _ {begun : Bool} {style : Style} {ahead : List ℕ} (s : State) (p : Rgba
         opens = λ no. absurd (true≢false no);
         held_is = λ i. put_again s.held p (λ j h. c.held_is j ∙ stands_there style c.past has j (ap hash p_is ∙ h) ∙ p_is) i ∙ c.held_is i
             ∙ sym (repeats_held style (suc s.carry) c.past has i);
-        placed_is = sym (run_last s.carry c.before (hash p) few);
+        placed_is = sym (runs_name_none (suc s.carry) c.before (hash p) (omega arith));
       }
 
   -- the carried repeats before a fresh pixel are written
@@ -255,7 +251,7 @@ module _ {begun : Bool} {style : Style} {ahead : List ℕ} (s : State) (p : Rgba
         begun_is = still_begun (suc k) c.past has;
         opens = λ no. absurd (true≢false no);
         held_is = λ i. c.held_is i ∙ sym (repeats_held style (suc k) c.past has i);
-        placed_is = sym (run_last k c.before (hash s.last) few);
+        placed_is = sym (runs_name_none (suc k) c.before (hash s.last) (omega arith));
       }
 
 -- all of them
@@ -306,11 +302,11 @@ pub block_written : {begun : Bool} {style : Style} {ahead : List ℕ} (s : State
     → Carrying true style ahead (end_state s ps) rest (kept ++ block_bytes style s ps)
 block_written s [] rest some c on few none = absurd (omega arith)
 block_written {style = style} {ahead} s (p ∷ []) rest {kept} some c on few none =
-    subst (λ b. Carrying true style ahead (next_state s p true) rest (kept ++ b)) (sym (append-nil (step_bytes style s p true)))
+    subst (λ b. Carrying true style ahead (next_state s p true) rest (kept ++ b)) (sym (append-nil (step_by (pixel_eq p s.last) true style s p)))
     (over_lane style ahead s p kept (omega arith) [] rest c on (λ t. (none t).0))
 block_written {begun} {style} {ahead} s (p ∷ q ∷ ps) rest {kept} some c on few none =
     let m = more_of p (q ∷ ps) in
     let next = next_state s p m in
     let one = over_lane style ahead s p kept (omega arith) (q ∷ ps) rest c on (λ t. (none t).0) in
-    subst (Carrying true style ahead (end_state next (q ∷ ps)) rest) (append_assoc kept (step_bytes style s p m) (block_bytes style next (q ∷ ps)))
+    subst (Carrying true style ahead (end_state next (q ∷ ps)) rest) (append_assoc kept (step_by (pixel_eq p s.last) m style s p) (block_bytes style next (q ∷ ps)))
     (block_written {begun = true} next (q ∷ ps) rest (omega arith) one (carry_on s p (q ∷ ps)) (omega (arith, carry_few (pixel_eq p s.last) m s p)) (λ t. (none t).1))

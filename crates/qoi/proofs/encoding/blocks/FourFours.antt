@@ -5,16 +5,17 @@ use Rattle.qoi.specs.declared.encode.block.planes.Words.{Words}
 use Rattle.qoi.specs.Qoi.{RgbaPixel, IsPixel}
 use Rattle.qoi.specs.inner.block.Planes.{AreSixteen, AreFourWords, AreBlockWords}
 
+-- four pixels
+pub record AreFourPixels (ps : List RgbaPixel) : Type 0 where
+  pub four : length ps ≡ 4
+  pub are : AllByRecursion IsPixel ps
+
 -- four times four pixels, one after the other
 pub record FourFours (ps : List RgbaPixel) : Type 0 where
-  pub one_long : length (take 4 ps) ≡ 4
-  pub two_long : length (take 4 (drop 4 ps)) ≡ 4
-  pub three_long : length (take 4 (drop 8 ps)) ≡ 4
-  pub four_long : length (take 4 (drop 12 ps)) ≡ 4
-  pub one_are : AllByRecursion IsPixel (take 4 ps)
-  pub two_are : AllByRecursion IsPixel (take 4 (drop 4 ps))
-  pub three_are : AllByRecursion IsPixel (take 4 (drop 8 ps))
-  pub four_are : AllByRecursion IsPixel (take 4 (drop 12 ps))
+  pub one : AreFourPixels (take 4 ps)
+  pub two : AreFourPixels (take 4 (drop 4 ps))
+  pub three : AreFourPixels (take 4 (drop 8 ps))
+  pub four : AreFourPixels (take 4 (drop 12 ps))
   pub whole : take 4 ps ++ (take 4 (drop 4 ps) ++ (take 4 (drop 8 ps) ++ take 4 (drop 12 ps))) ≡ ps
 
 -- sixteen pixels are
@@ -23,16 +24,11 @@ four_fours (p0 ∷ p1 ∷ p2 ∷ p3 ∷ p4 ∷ p5 ∷ p6 ∷ p7 ∷ p8 ∷ p9 �
     let a = s.are in
     let b = a.1.1.1.1 in
     let c = b.1.1.1.1 in
-    let d = c.1.1.1.1 in
     record {
-      one_long = refl;
-      two_long = refl;
-      three_long = refl;
-      four_long = refl;
-      one_are = (a.0, (a.1.0, (a.1.1.0, (a.1.1.1.0, tt))));
-      two_are = (b.0, (b.1.0, (b.1.1.0, (b.1.1.1.0, tt))));
-      three_are = (c.0, (c.1.0, (c.1.1.0, (c.1.1.1.0, tt))));
-      four_are = d;
+      one = record { four = refl; are = (a.0, (a.1.0, (a.1.1.0, (a.1.1.1.0, tt)))) };
+      two = record { four = refl; are = (b.0, (b.1.0, (b.1.1.0, (b.1.1.1.0, tt)))) };
+      three = record { four = refl; are = (c.0, (c.1.0, (c.1.1.0, (c.1.1.1.0, tt)))) };
+      four = record { four = refl; are = c.1.1.1.1 };
       whole = refl;
     }
 four_fours ps s = absurd (let l = s.long in omega arith)
@@ -49,8 +45,8 @@ pub four_words_of : (ps : List RgbaPixel) (w : Words) → AreSixteen ps → AreB
 four_words_of ps w s are =
     let f = four_fours ps s in
     record {
-      one = record { four = f.one_long; are = f.one_are; words_are = are.one_are };
-      two = record { four = f.two_long; are = f.two_are; words_are = are.two_are };
-      three = record { four = f.three_long; are = f.three_are; words_are = are.three_are };
-      four = record { four = f.four_long; are = f.four_are; words_are = are.four_are };
+      one = record { four = f.one.four; are = f.one.are; words_are = are.one_are };
+      two = record { four = f.two.four; are = f.two.are; words_are = are.two_are };
+      three = record { four = f.three.four; are = f.three.are; words_are = are.three_are };
+      four = record { four = f.four.four; are = f.four.are; words_are = are.four_are };
     }

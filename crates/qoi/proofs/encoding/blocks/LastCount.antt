@@ -5,7 +5,7 @@ use Rattle.qoi.specs.Qoi.{RgbaPixel, pixel_eq}
 use Rattle.qoi.specs.inner.block.State.{State, lanes_of, is_rep, goes_on, next_by, next_state, more_of}
 use Rattle.qoi.specs.inner.block.Lanes.{Lane}
 use Rattle.qoi.specs.inner.block.Counting.{counts}
-use Rattle.qoi.proofs.encoding.blocks.ReferenceBytes.{goes_is}
+use Rattle.qoi.proofs.encoding.blocks.LaneBytes.{goes_is}
 
 -- the state after all pixels
 abbrev pub end_state : State → List RgbaPixel → State

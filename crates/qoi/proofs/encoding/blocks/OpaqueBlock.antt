@@ -1,5 +1,5 @@
 -- Opaque pixels: their alpha plane, and that their chunks after an opaque one have at most four bytes.
-use Rattle.std.proofs.Common.{◌≡◌, ℕ, zero, suc, ◌+◌, ◌%◌, ◌≤◌, ◌||◌, Bool, true, false, List, [], ◌∷◌, length, replicate, slice_index, bit_and, refl, arith}
+use Rattle.std.proofs.Common.{◌≡◌, ℕ, zero, suc, ◌+◌, ◌%◌, ◌≤◌, ◌||◌, Bool, true, List, [], ◌∷◌, length, replicate, slice_index, bit_and, refl, arith}
 use Rattle.std.proofs.lemmas.Bool.{eq-eqb}
 use Rattle.qoi.specs.Qoi.{RgbaPixel, Past}
 use Rattle.qoi.specs.Raw.{AreOpaque}
@@ -19,18 +19,7 @@ alphas_opaque (suc n) (p ∷ ps) long opaque =
 
 -- a chunk that keeps alpha has at most four bytes
 keep_size : (st l k : Bool) → k ≡ true → (r g : Bool) → (size_by st l k + bit_and (mask r) (mask g)) % 256 ≤ 4
-keep_size true l k e true true = omega arith
-keep_size true l k e true false = omega arith
-keep_size true l k e false true = omega arith
-keep_size true l k e false false = omega arith
-keep_size false true k e true true = omega arith
-keep_size false true k e true false = omega arith
-keep_size false true k e false true = omega arith
-keep_size false true k e false false = omega arith
-keep_size false false k e true true = rw e (omega arith)
-keep_size false false k e true false = rw e (omega arith)
-keep_size false false k e false true = rw e (omega arith)
-keep_size false false k e false false = rw e (omega arith)
+keep_size st l k e r g = grind arith
 
 -- each of them
 pub sizes_opaque : (held : Past) (q : RgbaPixel) (ps : List RgbaPixel) → q.a ≡ 255 → AreOpaque ps → (k : ℕ) → slice_index (sizes (lanes_of held q ps)) k ≤ 4

@@ -1,5 +1,5 @@
 -- Sixteen numbers of 32 bits as pixels.
-use Rattle.std.proofs.Common.{◌≡◌, ℕ, suc, ◌^◌, ◌<◌, List, [], ◌∷◌, ◌++◌, length, map, take, drop, length-append, refl, sym, ap, ◌∙◌, arith}
+use Rattle.std.proofs.Common.{◌≡◌, ℕ, ◌^◌, ◌<◌, List, [], ◌∷◌, ◌++◌, length, map, take, drop, refl, sym, ap, ◌∙◌, subst, arith}
 use Rattle.std.specs.List.{AllByRecursion}
 use Rattle.qoi.specs.declared.encode.block.planes.Words.{Words}
 use Rattle.qoi.specs.Qoi.{RgbaPixel, IsPixel}
@@ -29,57 +29,41 @@ four_numbers (a ∷ b ∷ c ∷ d ∷ []) f = record {
 }
 four_numbers xs f = absurd (let l = f.0 in omega arith)
 
--- pixels after four
-front : (ps qs : List RgbaPixel) → length ps ≡ 4 → take 4 (ps ++ qs) ≡ ps
-front (a ∷ b ∷ c ∷ d ∷ []) qs l = refl
-front ps qs l = absurd (omega arith)
-
--- and the ones after them
-back : (n : ℕ) (ps qs : List RgbaPixel) → length ps ≡ 4 → drop (suc (suc (suc (suc n)))) (ps ++ qs) ≡ drop n qs
-back n (a ∷ b ∷ c ∷ d ∷ []) qs l = refl
-back n ps qs l = absurd (omega arith)
-
 -- pixels one after the other
 both_are : (ps qs : List RgbaPixel) → AllByRecursion IsPixel ps → AllByRecursion IsPixel qs → AllByRecursion IsPixel (ps ++ qs)
 both_are [] qs a b = b
 both_are (p ∷ ps) qs a b = (a.0, both_are ps qs a.1 b)
 
+-- four times four numbers of 32 bits are sixteen pixels, packed
+packed_block : (w : Words) (a b c d : List ℕ) → w.one ≡ a → w.two ≡ b → w.three ≡ c → w.four ≡ d → AreFour a → AreFour b → AreFour c → AreFour d
+    → AreSixteen (block_pixels w) × AreBlockWords (block_pixels w) w
+packed_block w (a0 ∷ a1 ∷ a2 ∷ a3 ∷ []) (b0 ∷ b1 ∷ b2 ∷ b3 ∷ []) (c0 ∷ c1 ∷ c2 ∷ c3 ∷ []) (d0 ∷ d1 ∷ d2 ∷ d3 ∷ []) ea eb ec ed fa fb fc fd =
+    let one = four_numbers (a0 ∷ a1 ∷ a2 ∷ a3 ∷ []) fa in
+    let two = four_numbers (b0 ∷ b1 ∷ b2 ∷ b3 ∷ []) fb in
+    let three = four_numbers (c0 ∷ c1 ∷ c2 ∷ c3 ∷ []) fc in
+    let four = four_numbers (d0 ∷ d1 ∷ d2 ∷ d3 ∷ []) fd in
+    let a = pixels_of_words (a0 ∷ a1 ∷ a2 ∷ a3 ∷ []) in
+    let b = pixels_of_words (b0 ∷ b1 ∷ b2 ∷ b3 ∷ []) in
+    let c = pixels_of_words (c0 ∷ c1 ∷ c2 ∷ c3 ∷ []) in
+    let d = pixels_of_words (d0 ∷ d1 ∷ d2 ∷ d3 ∷ []) in
+    let ps = sym (λ i. pixels_of_words (ea i) ++ (pixels_of_words (eb i) ++ (pixels_of_words (ec i) ++ pixels_of_words (ed i)))) in (
+      subst AreSixteen ps (record { long = refl; are = both_are a (b ++ (c ++ d)) one.are (both_are b (c ++ d) two.are (both_are c d three.are four.are)) }),
+      record {
+        one_are = ea ∙ one.packed ∙ ap (λ qs. map word (take 4 qs)) ps;
+        two_are = eb ∙ two.packed ∙ ap (λ qs. map word (take 4 (drop 4 qs))) ps;
+        three_are = ec ∙ three.packed ∙ ap (λ qs. map word (take 4 (drop 8 qs))) ps;
+        four_are = ed ∙ four.packed ∙ ap (λ qs. map word (take 4 (drop 12 qs))) ps;
+      },
+    )
+packed_block w (a0 ∷ a1 ∷ a2 ∷ a3 ∷ []) (b0 ∷ b1 ∷ b2 ∷ b3 ∷ []) (c0 ∷ c1 ∷ c2 ∷ c3 ∷ []) d ea eb ec ed fa fb fc fd = absurd (let l = fd.0 in omega arith)
+packed_block w (a0 ∷ a1 ∷ a2 ∷ a3 ∷ []) (b0 ∷ b1 ∷ b2 ∷ b3 ∷ []) c d ea eb ec ed fa fb fc fd = absurd (let l = fc.0 in omega arith)
+packed_block w (a0 ∷ a1 ∷ a2 ∷ a3 ∷ []) b c d ea eb ec ed fa fb fc fd = absurd (let l = fb.0 in omega arith)
+packed_block w a b c d ea eb ec ed fa fb fc fd = absurd (let l = fa.0 in omega arith)
+
 -- sixteen numbers of 32 bits are sixteen pixels
 pub block_sixteen : (w : Words) → ArePacked w → AreSixteen (block_pixels w)
-block_sixteen w p =
-    let one = four_numbers w.one p.0 in
-    let two = four_numbers w.two p.1.0 in
-    let three = four_numbers w.three p.1.1.0 in
-    let four = four_numbers w.four p.1.1.1 in
-    let a = pixels_of_words w.one in
-    let b = pixels_of_words w.two in
-    let c = pixels_of_words w.three in
-    let d = pixels_of_words w.four in
-    record {
-      long = omega (arith, length-append a (b ++ (c ++ d)), length-append b (c ++ d), length-append c d, one.long, two.long, three.long, four.long);
-      are = both_are a (b ++ (c ++ d)) one.are (both_are b (c ++ d) two.are (both_are c d three.are four.are));
-    }
+block_sixteen w p = (packed_block w w.one w.two w.three w.four refl refl refl refl p.0 p.1.0 p.1.1.0 p.1.1.1).0
 
 -- and these pixels, packed, are the numbers
 pub block_words : (w : Words) → ArePacked w → AreBlockWords (block_pixels w) w
-block_words w p =
-    let one = four_numbers w.one p.0 in
-    let two = four_numbers w.two p.1.0 in
-    let three = four_numbers w.three p.1.1.0 in
-    let four = four_numbers w.four p.1.1.1 in
-    let a = pixels_of_words w.one in
-    let b = pixels_of_words w.two in
-    let c = pixels_of_words w.three in
-    let d = pixels_of_words w.four in
-    let after_two : drop 8 (a ++ (b ++ (c ++ d))) ≡ c ++ d = back 4 a (b ++ (c ++ d)) one.long ∙ back 0 b (c ++ d) two.long in
-    let after_three : drop 12 (a ++ (b ++ (c ++ d))) ≡ d = back 8 a (b ++ (c ++ d)) one.long ∙ back 4 b (c ++ d) two.long ∙ back 0 c d three.long in
-    record {
-      one_are = one.packed ∙ ap (map word) (sym (front a (b ++ (c ++ d)) one.long));
-      two_are = two.packed ∙ ap (map word) (sym (ap (take 4) (back 0 a (b ++ (c ++ d)) one.long) ∙ front b (c ++ d) two.long));
-      three_are = three.packed ∙ ap (map word) (sym (ap (take 4) after_two ∙ front c d three.long));
-      four_are = four.packed ∙ ap (map word) (sym (ap (take 4) after_three ∙ last_four d four.long));
-    }
-  where
-    last_four : (ps : List RgbaPixel) → length ps ≡ 4 → take 4 ps ≡ ps
-    last_four (a ∷ b ∷ c ∷ d ∷ []) l = refl
-    last_four ps l = absurd (omega arith)
+block_words w p = (packed_block w w.one w.two w.three w.four refl refl refl refl p.0 p.1.0 p.1.1.0 p.1.1.1).1

@@ -76,8 +76,8 @@ sixteen_read n bytes one two three four is are long e1 e2 e3 e4 =
     let all : AllByRecursion IsPixel qs = all_first IsPixel 16 ps (pixels_of_are n bytes is (all_bytes bytes are)) in
     let f = four_fours qs (record { long = size; are = all }) in
     let w = subst (Within qs) (take-append-drop 16 ps) (within qs (drop 16 ps) size) in
-    let a = ap pixels_of_words (e1 ∙ ap (map word) w.one) ∙ unpacked_all (take 4 qs) f.one_are in
-    let b = ap pixels_of_words (e2 ∙ ap (map word) (four_on n 4 bytes qs is (omega arith) w.two)) ∙ unpacked_all (take 4 (drop 4 qs)) f.two_are in
-    let c = ap pixels_of_words (e3 ∙ ap (map word) (four_on n 8 bytes qs is (omega arith) w.three)) ∙ unpacked_all (take 4 (drop 8 qs)) f.three_are in
-    let d = ap pixels_of_words (e4 ∙ ap (map word) (four_on n 12 bytes qs is (omega arith) w.four)) ∙ unpacked_all (take 4 (drop 12 qs)) f.four_are in
+    let a = ap pixels_of_words (e1 ∙ ap (map word) w.one) ∙ unpacked_all (take 4 qs) f.one.are in
+    let b = ap pixels_of_words (e2 ∙ ap (map word) (four_on n 4 bytes qs is (omega arith) w.two)) ∙ unpacked_all (take 4 (drop 4 qs)) f.two.are in
+    let c = ap pixels_of_words (e3 ∙ ap (map word) (four_on n 8 bytes qs is (omega arith) w.three)) ∙ unpacked_all (take 4 (drop 8 qs)) f.three.are in
+    let d = ap pixels_of_words (e4 ∙ ap (map word) (four_on n 12 bytes qs is (omega arith) w.four)) ∙ unpacked_all (take 4 (drop 12 qs)) f.four.are in
     (λ i. a i ++ (b i ++ (c i ++ d i))) ∙ f.whole

@@ -1,8 +1,8 @@
 -- Transparent black among sixteen pixels.
-use Rattle.std.proofs.Common.{◌≡◌, ◌-◌, Bool, true, false, not, ◌||◌, ◌&&◌, ◌==◌, List, [], ◌∷◌, map, bit_or, if◌then◌else◌, refl, sym, ap, ap₂, ◌∙◌}
+use Rattle.std.proofs.Common.{◌≡◌, ℕ, ◌+◌, ◌-◌, ◌%◌, ◌<◌, Bool, true, false, not, ◌||◌, ◌&&◌, ◌==◌, List, [], ◌∷◌, map, bit_or, if◌then◌else◌, refl, sym, ap, ap₂, ◌∙◌, arith}
 use Rattle.std.proofs.lemmas.Bool.{and_parts, true≢false}
 use Rattle.qoi.specs.Qoi.{RgbaPixel, pixel_eq, blank, seen, hash}
-use Rattle.qoi.specs.inner.block.Lanes.{Lane, IsLane, mask}
+use Rattle.qoi.specs.inner.block.Lanes.{Lane, IsLane, mask, step_of}
 use Rattle.qoi.specs.inner.block.State.{State, lanes_of, is_rep, next_state, more_of, NoneBlank}
 use Rattle.qoi.specs.inner.block.Counting.{all_true}
 use Rattle.qoi.proofs.format.SamePixels.{pixel_eq-true, pixel_eq-from, pixel_eq-ne}
@@ -12,20 +12,29 @@ use Rattle.qoi.proofs.encoding.lanes.LaneBits.{or_below, one_zero}
 abbrev pub is_blank : RgbaPixel → Bool
 is_blank p = pixel_eq p blank
 
--- so is a lane's, if all its channels are 0
-pub blank_lane : (l : Lane) → IsLane l → mask (bit_or (bit_or (bit_or l.px.r l.px.g) l.px.b) l.px.a == 0) ≡ mask (is_blank l.px)
+-- so is one whose channels are all 0
+pub blank_by : (p : RgbaPixel) → mask (bit_or (bit_or (bit_or p.r p.g) p.b) p.a == 0) ≡ mask (is_blank p)
 unfolding pixel_eq blank
-blank_lane l is =
-    let p = l.px in
+blank_by p =
     ap mask (one_zero _ ∙ or_below 0 (bit_or (bit_or p.r p.g) p.b) p.a
     ∙ ap₂ ◌&&◌ (or_below 0 (bit_or p.r p.g) p.b ∙ ap₂ ◌&&◌ (or_below 0 p.r p.g ∙ ap₂ ◌&&◌ (sym (one_zero p.r)) (sym (one_zero p.g))) (sym (one_zero p.b))) (sym (one_zero p.a)))
 
+-- a step is 0 if both channels are the same
+no_step : (p q : ℕ) → p < 256 → q < 256 → ((p + (256 - q)) % 256 == 0) ≡ (p == q)
+no_step p q lp lq = grind arith
+
+-- a lane repeats if all its steps are
+pub repeat_lane : (l : Lane) → IsLane l → mask (is_blank (step_of l)) ≡ mask (is_rep l)
+unfolding pixel_eq blank
+repeat_lane l is =
+    let p = is.px_is in
+    let q = is.before_is in
+    ap mask (ap₂ ◌&&◌ (ap₂ ◌&&◌ (ap₂ ◌&&◌ (no_step l.px.r l.before.r p.r q.r) (no_step l.px.g l.before.g p.g q.g)) (no_step l.px.b l.before.b p.b q.b))
+    (no_step l.px.a l.before.a p.a q.a))
+
 -- one of two, of which the second fails
 pub or_not : (a b : Bool) → bit_or (mask a) (255 - mask b) ≡ mask (a || not b)
-or_not true true = refl
-or_not true false = refl
-or_not false true = refl
-or_not false false = refl
+or_not a b = grind arith
 
 -- a lane repeats or isn't transparent black
 abbrev pub is_plain : Lane → Bool

@@ -1,12 +1,11 @@
 -- One lane of the tests, of the first byte, the second one and the size.
-use Rattle.std.proofs.Common.{◌≡◌, ◌⊎◌, inl, inr, ℕ, ◌+◌, ◌-◌, ◌*◌, ◌/◌, ◌%◌, ◌^◌, ◌<◌, ◌≤◌, Bool, true, false, IsTrue, nat_lt, ◌&&◌, ◌||◌, ◌==◌, bit_and, bit_or, refl, sym, ap, ap₂, ◌∙◌, arith}
+use Rattle.std.proofs.Common.{◌≡◌, ℕ, ◌+◌, ◌-◌, ◌*◌, ◌/◌, ◌%◌, ◌^◌, ◌<◌, ◌≤◌, Bool, true, false, IsTrue, nat_lt, ◌&&◌, ◌||◌, ◌==◌, bit_and, bit_or, sym, ap, ap₂, ◌∙◌, arith}
 use Rattle.std.specs.Prelude.{min, if◌then◌else◌}
-use Rattle.std.proofs.lemmas.Bool.{lt-ltb, cases_lt, true≢false, ne_eqb, eq-eqb}
 use Rattle.std.proofs.lemmas.Nat.{and_mask, and_comm, and_le_l, or_comm, or_lt, le_or_l, le_or_r, or_shifted}
 use Rattle.std.proofs.lemmas.Nat.Bits.{and_high_mask}
 use Rattle.qoi.specs.Qoi.{hash}
 use Rattle.qoi.proofs.format.SamePixels.{hash_below}
-use Rattle.qoi.specs.inner.block.Lanes.{Lane, IsLane, mask, step_of, as_diff, as_luma, same_alpha, fits_diff, fits_luma, diff_of, same_alpha_mask, diff_mask, luma_mask, stand_mask, first_of, second_of, size_of, size_by}
+use Rattle.qoi.specs.inner.block.Lanes.{Lane, IsLane, mask, step_of, as_diff, as_luma, same_alpha, fits_diff, fits_luma, diff_of, first_of, second_of, size_of, size_by}
 use Rattle.qoi.proofs.encoding.lanes.LaneChunk.{three_small}
 
 -- what is at least a number is not below it
@@ -15,52 +14,23 @@ not_lt a b l = grind arith
 
 -- both of two masks
 and_masks : (a b : Bool) → bit_and (mask a) (mask b) ≡ mask (a && b)
-and_masks true true = refl
-and_masks true false = refl
-and_masks false true = refl
-and_masks false false = refl
+and_masks a b = grind arith
 
 -- two numbers are small exactly if their `or` is
 pub or_below : (k x y : ℕ) → nat_lt (bit_or x y) (2 ^ k) ≡ (nat_lt x (2 ^ k) && nat_lt y (2 ^ k))
-or_below k x y = go (cases_lt x (2 ^ k)) (cases_lt y (2 ^ k))
-  where
-    go : (x < 2 ^ k) ⊎ (2 ^ k ≤ x) → (y < 2 ^ k) ⊎ (2 ^ k ≤ y) → nat_lt (bit_or x y) (2 ^ k) ≡ (nat_lt x (2 ^ k) && nat_lt y (2 ^ k))
-    go (inl a) (inl b) = lt-ltb _ _ (or_lt k x y a b) ∙ sym (ap₂ ◌&&◌ (lt-ltb _ _ a) (lt-ltb _ _ b))
-    go (inr a) b = not_lt _ _ (omega (arith, le_or_l x y)) ∙ sym (ap (λ z. z && nat_lt y (2 ^ k)) (not_lt _ _ a))
-    go (inl a) (inr b) = not_lt _ _ (omega (arith, le_or_r x y)) ∙ sym (ap₂ ◌&&◌ (lt-ltb _ _ a) (not_lt _ _ b))
+or_below k x y = grind (arith, or_lt, le_or_l, le_or_r)
 
 -- the high bits are 0 exactly if the number is small
 high_zero_2 : (x : ℕ) → x < 256 → (bit_and x 252 == 0) ≡ nat_lt x 4
-high_zero_2 x lt = go (cases_lt x 4)
-  where
-    high : bit_and x 252 ≡ x / 4 * 4
-    high = and_high_mask 8 2 (omega arith) x lt
-
-    go : (x < 4) ⊎ (4 ≤ x) → (bit_and x 252 == 0) ≡ nat_lt x 4
-    go (inl a) = eq-eqb _ _ (omega (arith, high)) ∙ sym (lt-ltb _ _ a)
-    go (inr a) = ne_eqb _ _ (λ e. omega (arith, high)) ∙ sym (not_lt _ _ a)
+high_zero_2 x lt = let high : bit_and x 252 ≡ x / 4 * 4 = and_high_mask 8 2 (omega arith) x lt in grind arith
 
 -- of 4 bits
 high_zero_4 : (x : ℕ) → x < 256 → (bit_and x 240 == 0) ≡ nat_lt x 16
-high_zero_4 x lt = go (cases_lt x 16)
-  where
-    high : bit_and x 240 ≡ x / 16 * 16
-    high = and_high_mask 8 4 (omega arith) x lt
-
-    go : (x < 16) ⊎ (16 ≤ x) → (bit_and x 240 == 0) ≡ nat_lt x 16
-    go (inl a) = eq-eqb _ _ (omega (arith, high)) ∙ sym (lt-ltb _ _ a)
-    go (inr a) = ne_eqb _ _ (λ e. omega (arith, high)) ∙ sym (not_lt _ _ a)
+high_zero_4 x lt = let high : bit_and x 240 ≡ x / 16 * 16 = and_high_mask 8 4 (omega arith) x lt in grind arith
 
 -- of 6 bits
 high_zero_6 : (x : ℕ) → x < 256 → (bit_and x 192 == 0) ≡ nat_lt x 64
-high_zero_6 x lt = go (cases_lt x 64)
-  where
-    high : bit_and x 192 ≡ x / 64 * 64
-    high = and_high_mask 8 6 (omega arith) x lt
-
-    go : (x < 64) ⊎ (64 ≤ x) → (bit_and x 192 == 0) ≡ nat_lt x 64
-    go (inl a) = eq-eqb _ _ (omega (arith, high)) ∙ sym (lt-ltb _ _ a)
-    go (inr a) = ne_eqb _ _ (λ e. omega (arith, high)) ∙ sym (not_lt _ _ a)
+high_zero_6 x lt = let high : bit_and x 192 ≡ x / 64 * 64 = and_high_mask 8 6 (omega arith) x lt in grind arith
 
 -- 0 is what is below 1
 pub one_zero : (x : ℕ) → (x == 0) ≡ nat_lt x 1
@@ -68,16 +38,11 @@ one_zero x = grind arith
 
 -- three tests in a row
 and_assoc : (a b c : Bool) → ((a && b) && c) ≡ (a && (b && c))
-and_assoc true b c = refl
-and_assoc false b c = refl
+and_assoc a b c = grind arith
 
 -- three tests in another order
 turned : (a b c : Bool) → ((a && c) && b) ≡ (a && (b && c))
-turned true true true = refl
-turned true true false = refl
-turned true false true = refl
-turned true false false = refl
-turned false b c = refl
+turned a b c = grind arith
 
 -- the test of a Diff
 small_test : (x y z : ℕ) → x < 256 → y < 256 → z < 256 → (bit_and (bit_or (bit_or x y) z) 252 == 0) ≡ (nat_lt x 4 && (nat_lt y 4 && nat_lt z 4))
@@ -87,7 +52,7 @@ small_test x y z lx ly lz =
 
 -- which lanes a Diff gives
 pub diff_lane : (l : Lane) → IsLane l
-    → bit_and (mask (bit_and (bit_or (bit_or (as_diff l).r (as_diff l).g) (as_diff l).b) 252 == 0)) (same_alpha_mask l) ≡ diff_mask l
+    → bit_and (mask (bit_and (bit_or (bit_or (as_diff l).r (as_diff l).g) (as_diff l).b) 252 == 0)) (mask (same_alpha l)) ≡ mask (fits_diff l)
 diff_lane l is = and_masks _ (same_alpha l) ∙ ap (λ b. mask (b && same_alpha l)) (small_test (as_diff l).r (as_diff l).g (as_diff l).b (omega arith) (omega arith) (omega arith))
 
 -- the test of a Luma
@@ -100,7 +65,7 @@ wide_test x y z lx ly lz =
 
 -- which lanes a Luma gives
 pub luma_lane : (l : Lane) → IsLane l
-    → bit_and (mask (bit_or (bit_and (bit_or (as_luma l).r (as_luma l).b) 240) (bit_and (as_luma l).g 192) == 0)) (same_alpha_mask l) ≡ luma_mask l
+    → bit_and (mask (bit_or (bit_and (bit_or (as_luma l).r (as_luma l).b) 240) (bit_and (as_luma l).g 192) == 0)) (mask (same_alpha l)) ≡ mask (fits_luma l)
 luma_lane l is = and_masks _ (same_alpha l) ∙ ap (λ b. mask (b && same_alpha l)) (wide_test (as_luma l).r (as_luma l).g (as_luma l).b (omega arith) (omega arith) (omega arith))
 
 -- nothing is added
@@ -116,30 +81,15 @@ or_mask x false l = omega (arith, le_or_r x 255, or_lt 8 x 255 l (omega arith))
 least : (st d l k : Bool) (h s g : ℕ) → h < 64 → (IsTrue d → (64 ≤ s) × (s < 128)) → s < 256 → (IsTrue l → g < 64) → g < 256
     → min (min (min (if l then (g + 128) % 256 else 255) ((255 + mask k) % 256)) (if d then s else 255)) (if st then h else 255)
     ≡ (if st then h else (if d then s else (if l then (128 + g) % 256 else (if k then 254 else 255))))
-least true true true true h s g lh ds ls dg lg = let a = ds refl in let b = dg refl in omega arith
-least true true true false h s g lh ds ls dg lg = let a = ds refl in let b = dg refl in omega arith
-least true true false true h s g lh ds ls dg lg = let a = ds refl in omega arith
-least true true false false h s g lh ds ls dg lg = let a = ds refl in omega arith
-least true false true true h s g lh ds ls dg lg = let b = dg refl in omega arith
-least true false true false h s g lh ds ls dg lg = let b = dg refl in omega arith
-least true false false true h s g lh ds ls dg lg = omega arith
-least true false false false h s g lh ds ls dg lg = omega arith
-least false true true true h s g lh ds ls dg lg = let a = ds refl in let b = dg refl in omega arith
-least false true true false h s g lh ds ls dg lg = let a = ds refl in let b = dg refl in omega arith
-least false true false true h s g lh ds ls dg lg = let a = ds refl in omega arith
-least false true false false h s g lh ds ls dg lg = let a = ds refl in omega arith
-least false false true true h s g lh ds ls dg lg = let b = dg refl in omega arith
-least false false true false h s g lh ds ls dg lg = let b = dg refl in omega arith
-least false false false true h s g lh ds ls dg lg = omega arith
-least false false false false h s g lh ds ls dg lg = omega arith
+least st d l k h s g lh ds ls dg lg = grind arith
 
 -- the first byte of a lane's chunk
 pub first_lane : (l : Lane) → IsLane l
-    → min (min (min (bit_or (((as_luma l).g + 128) % 256) (255 - luma_mask l)) ((255 + same_alpha_mask l) % 256)) (bit_or (diff_of (as_diff l)) (255 - diff_mask l)))
-    (bit_or (hash l.px) (255 - stand_mask l)) ≡ first_of l
+    → min (min (min (bit_or (((as_luma l).g + 128) % 256) (255 - mask (fits_luma l))) ((255 + mask (same_alpha l)) % 256)) (bit_or (diff_of (as_diff l)) (255 - mask (fits_diff l))))
+    (bit_or (hash l.px) (255 - mask l.stands)) ≡ first_of l
 first_lane l is =
     let h = hash_below l.px in
-    ap₂ min (ap₂ min (ap (λ x. min x ((255 + same_alpha_mask l) % 256)) (or_mask (((as_luma l).g + 128) % 256) (fits_luma l) (omega arith)))
+    ap₂ min (ap₂ min (ap (λ x. min x ((255 + mask (same_alpha l)) % 256)) (or_mask (((as_luma l).g + 128) % 256) (fits_luma l) (omega arith)))
     (or_mask (diff_of (as_diff l)) (fits_diff l) (omega arith))) (or_mask (hash l.px) l.stands (omega arith))
     ∙ least l.stands (fits_diff l) (fits_luma l) (same_alpha l) (hash l.px) (diff_of (as_diff l)) (as_luma l).g (omega arith)
     (λ t. (let f = three_small (as_diff l).r (as_diff l).g (as_diff l).b 4 4 4 (step_of l).a t in let a = f.0 in let b = f.1 in let c = f.2 in (omega arith, omega arith)))
@@ -158,7 +108,7 @@ either false x y lx ly =
 
 -- the second byte
 pub second_lane : (l : Lane) → IsLane l
-    → bit_or (bit_and (luma_mask l) (((as_luma l).r * 2 ^ 4 % 2 ^ 8 + (as_luma l).b) % 256)) (bit_and (255 - luma_mask l) l.px.r) ≡ second_of l
+    → bit_or (bit_and (mask (fits_luma l)) (((as_luma l).r * 2 ^ 4 % 2 ^ 8 + (as_luma l).b) % 256)) (bit_and (255 - mask (fits_luma l)) l.px.r) ≡ second_of l
 second_lane l is =
     let i = is.px_is in
     either (fits_luma l) (((as_luma l).r * 2 ^ 4 % 2 ^ 8 + (as_luma l).b) % 256) l.px.r (omega arith) i.r
@@ -168,27 +118,14 @@ second_lane l is =
 size_cases : (st d l k : Bool) → (IsTrue l → IsTrue k)
     → (min (((4 + mask l) % 256 + mask l) % 256) (bit_or 1 (255 - bit_or (mask st) (mask d)))
     + bit_and (bit_and (255 - mask k) (255 - bit_or (mask st) (mask d))) 1) % 256 ≡ size_by (st || d) l k
-size_cases true true true true lk = refl
-size_cases true true false true lk = refl
-size_cases true true false false lk = refl
-size_cases true false true true lk = refl
-size_cases true false false true lk = refl
-size_cases true false false false lk = refl
-size_cases false true true true lk = refl
-size_cases false true false true lk = refl
-size_cases false true false false lk = refl
-size_cases false false true true lk = refl
-size_cases false false false true lk = refl
-size_cases false false false false lk = refl
-size_cases st d true false lk = absurd (true≢false (sym (lk refl)))
+size_cases st d l k lk = grind arith
 
 -- what a Luma gives keeps alpha
 luma_keeps : (a b : Bool) → IsTrue (a && b) → IsTrue b
-luma_keeps true b t = t
-luma_keeps false b t = absurd (true≢false (sym t))
+luma_keeps a b t = grind arith
 
 -- the size
 pub size_lane : (l : Lane) → IsLane l
-    → (min (((4 + luma_mask l) % 256 + luma_mask l) % 256) (bit_or 1 (255 - bit_or (stand_mask l) (diff_mask l)))
-    + bit_and (bit_and (255 - same_alpha_mask l) (255 - bit_or (stand_mask l) (diff_mask l))) 1) % 256 ≡ size_of l
+    → (min (((4 + mask (fits_luma l)) % 256 + mask (fits_luma l)) % 256) (bit_or 1 (255 - bit_or (mask l.stands) (mask (fits_diff l))))
+    + bit_and (bit_and (255 - mask (same_alpha l)) (255 - bit_or (mask l.stands) (mask (fits_diff l)))) 1) % 256 ≡ size_of l
 size_lane l is = size_cases l.stands (fits_diff l) (fits_luma l) (same_alpha l) (luma_keeps _ (same_alpha l))

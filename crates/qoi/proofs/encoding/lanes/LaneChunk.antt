@@ -1,7 +1,5 @@
 -- One lane: its bytes are a chunk that spells out its pixel.
-use Rattle.std.proofs.Common.{◌≡◌, ◌↔◌, ℕ, ◌+◌, ◌*◌, ◌%◌, ◌<◌, Bool, true, false, IsTrue, nat_lt, ◌&&◌, ◌==◌, [], ◌∷◌, take, refl, sym, ap, arith, subst, eqb-true, eq-eqb}
-use Rattle.std.proofs.lemmas.Bool.{lt-ltb, true≢false}
-use borrow.Author.Tests.{ltb-true}
+use Rattle.std.proofs.Common.{◌≡◌, ◌↔◌, ℕ, ◌+◌, ◌*◌, ◌%◌, ◌<◌, Bool, true, false, IsTrue, nat_lt, ◌&&◌, ◌==◌, [], ◌∷◌, take, refl, ap, arith, subst, eqb-true, eq-eqb}
 use Rattle.qoi.specs.declared.chunk.Chunk.{Chunk}
 use Rattle.qoi.specs.Qoi.{RgbaPixel, IsPixel, Past, previous, IsChunk, bytes_of}
 use Rattle.qoi.specs.Written.{IsFirst}
@@ -19,42 +17,29 @@ pub record SpelledLane (l : Lane) (c : Chunk) : Type 0 where
 
 -- what four tests say
 pub three_small : (a b c m n k x : ℕ) → IsTrue ((nat_lt a m && (nat_lt b n && nat_lt c k)) && (x == 0)) → (a < m) × (b < n) × (c < k) × (x ≡ 0)
-three_small a b c m n k x t = go (nat_lt a m) (nat_lt b n) (nat_lt c k) (x == 0) refl refl refl refl t
-  where
-    go : (p q r z : Bool) → nat_lt a m ≡ p → nat_lt b n ≡ q → nat_lt c k ≡ r → (x == 0) ≡ z → IsTrue ((p && (q && r)) && z) → (a < m) × (b < n) × (c < k) × (x ≡ 0)
-    go true true true true ep eq er ez t = (ltb-true _ _ ep, ltb-true _ _ eq, ltb-true _ _ er, eqb-true _ _ ez)
-    go false q r z ep eq er ez t = absurd (true≢false (sym t))
-    go true false r z ep eq er ez t = absurd (true≢false (sym t))
-    go true true false z ep eq er ez t = absurd (true≢false (sym t))
-    go true true true false ep eq er ez t = absurd (true≢false (sym t))
+three_small a b c m n k x t = grind arith
 
 -- and back
 pub from_small : (a b c m n k x : ℕ) → a < m → b < n → c < k → x ≡ 0 → IsTrue ((nat_lt a m && (nat_lt b n && nat_lt c k)) && (x == 0))
-from_small a b c m n k x la lb lc e = rw (lt-ltb a m la, lt-ltb b n lb, lt-ltb c k lc, eq-eqb x 0 e) refl
+from_small a b c m n k x la lb lc e = grind arith
 
 -- the test of the steps is that the cut leaves them
 small_is : (l : Lane) → IsLane l → IsTrue (fits_diff l) ↔ FitsDiff l.before l.px
-small_is l is = (λ t. into (three_small (as_diff l).r (as_diff l).g (as_diff l).b 4 4 4 (step_of l).a t), λ e. back e)
-  where
-    into : ((as_diff l).r < 4) × ((as_diff l).g < 4) × ((as_diff l).b < 4) × ((step_of l).a ≡ 0) → FitsDiff l.before l.px
-    into h = let a = h.0 in let b = h.1 in let c = h.2 in let d = h.3 in
-        same_pixel _ _ (omega arith) (omega arith) (omega arith) (omega arith)
-
-    back : FitsDiff l.before l.px → IsTrue (fits_diff l)
-    back e = let er = ap (λ (x : RgbaPixel). x.r) e in let eg = ap (λ (x : RgbaPixel). x.g) e in let eb = ap (λ (x : RgbaPixel). x.b) e in let ea = ap (λ (x : RgbaPixel). x.a) e in
-        from_small (as_diff l).r (as_diff l).g (as_diff l).b 4 4 4 (step_of l).a (omega arith) (omega arith) (omega arith) (omega arith)
+small_is l is = (
+  λ t. (let h = three_small (as_diff l).r (as_diff l).g (as_diff l).b 4 4 4 (step_of l).a t in
+      same_pixel _ _ (omega (arith, h.0)) (omega (arith, h.1)) (omega (arith, h.2)) (omega (arith, h.3))),
+  λ e. from_small (as_diff l).r (as_diff l).g (as_diff l).b 4 4 4 (step_of l).a (omega (arith, ap (λ (x : RgbaPixel). x.r) e)) (omega (arith, ap (λ (x : RgbaPixel). x.g) e))
+      (omega (arith, ap (λ (x : RgbaPixel). x.b) e)) (omega (arith, ap (λ (x : RgbaPixel). x.a) e)),
+)
 
 -- the same of a Luma
 wide_is : (l : Lane) → IsLane l → IsTrue (fits_luma l) ↔ FitsLuma l.before l.px
-wide_is l is = (λ t. into (three_small (as_luma l).r (as_luma l).g (as_luma l).b 16 64 16 (step_of l).a t), λ e. back e)
-  where
-    into : ((as_luma l).r < 16) × ((as_luma l).g < 64) × ((as_luma l).b < 16) × ((step_of l).a ≡ 0) → FitsLuma l.before l.px
-    into h = let a = h.0 in let b = h.1 in let c = h.2 in let d = h.3 in
-        same_pixel _ _ (omega arith) (omega arith) (omega arith) (omega arith)
-
-    back : FitsLuma l.before l.px → IsTrue (fits_luma l)
-    back e = let er = ap (λ (x : RgbaPixel). x.r) e in let eg = ap (λ (x : RgbaPixel). x.g) e in let eb = ap (λ (x : RgbaPixel). x.b) e in let ea = ap (λ (x : RgbaPixel). x.a) e in
-        from_small (as_luma l).r (as_luma l).g (as_luma l).b 16 64 16 (step_of l).a (omega arith) (omega arith) (omega arith) (omega arith)
+wide_is l is = (
+  λ t. (let h = three_small (as_luma l).r (as_luma l).g (as_luma l).b 16 64 16 (step_of l).a t in
+      same_pixel _ _ (omega (arith, h.0)) (omega (arith, h.1)) (omega (arith, h.2)) (omega (arith, h.3))),
+  λ e. from_small (as_luma l).r (as_luma l).g (as_luma l).b 16 64 16 (step_of l).a (omega (arith, ap (λ (x : RgbaPixel). x.r) e)) (omega (arith, ap (λ (x : RgbaPixel). x.g) e))
+      (omega (arith, ap (λ (x : RgbaPixel). x.b) e)) (omega (arith, ap (λ (x : RgbaPixel). x.a) e)),
+)
 
 -- the bytes of the choice
 bytes_by : (d l k : Bool) (s w p : RgbaPixel) → (d ≡ true → diff_bits s ≡ s) → (l ≡ true → luma_bits w ≡ w)

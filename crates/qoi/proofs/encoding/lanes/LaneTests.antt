@@ -1,35 +1,14 @@
--- One lane: whether it repeats, and its index position.
-use Rattle.std.proofs.Common.{◌≡◌, ◌≢◌, ◌⊎◌, inl, inr, ℕ, ◌+◌, ◌-◌, ◌%◌, ◌<◌, ◌≤◌, nat_lt, ◌&&◌, ◌==◌, bit_and, bit_or, List, [], ◌∷◌, ◌++◌, length, length-drop, map, take, drop, slice_index, refl, sym, ap, ap₂, ◌∙◌, arith}
-use Rattle.std.proofs.lemmas.Bool.{cases_eq, eq-eqb, ne_eqb}
+-- One lane's index position, and vectors of other lanes.
+use Rattle.std.proofs.Common.{◌≡◌, ℕ, ◌+◌, ◌-◌, ◌%◌, ◌≤◌, bit_and, List, [], ◌∷◌, ◌++◌, length, length-drop, map, take, drop, slice_index, refl, sym, ap, ◌∙◌, arith}
 use Rattle.std.proofs.lemmas.List.{length-append, drop-append-le}
 use Rattle.std.proofs.lemmas.Nat.{and_mask}
 use Rattle.std.proofs.lemmas.Simd.{pick_l-range_with_len}
 use Rattle.std.proofs.Math.Seq.{take-append-add}
-use Rattle.qoi.specs.Qoi.{RgbaPixel, Past, pixel_eq, hash}
-use Rattle.qoi.specs.inner.block.Lanes.{Lane, IsLane, mask, step_of}
-use Rattle.qoi.specs.inner.block.State.{is_rep, lanes_of}
+use Rattle.qoi.specs.Qoi.{RgbaPixel, Past, hash}
+use Rattle.qoi.specs.inner.block.Lanes.{Lane, IsLane}
+use Rattle.qoi.specs.inner.block.State.{lanes_of}
 use Rattle.std.specs.List.{range_with_len}
 use lib.Lanes.{pick_l}
-use Rattle.qoi.proofs.encoding.lanes.LaneBits.{or_below, one_zero}
-
--- a step is 0 if both channels are the same
-no_step : (p q : ℕ) → p < 256 → q < 256 → nat_lt ((p + (256 - q)) % 256) 1 ≡ (p == q)
-no_step p q lp lq = go (cases_eq p q)
-  where
-    go : (p ≡ q) ⊎ (p ≢ q) → nat_lt ((p + (256 - q)) % 256) 1 ≡ (p == q)
-    go (inl e) = sym (one_zero _) ∙ eq-eqb _ _ (omega arith) ∙ sym (eq-eqb p q e)
-    go (inr n) = sym (one_zero _) ∙ ne_eqb _ _ (λ e. n (omega arith)) ∙ sym (ne_eqb p q n)
-
--- a lane repeats if all its steps are 0
-pub repeat_lane : (l : Lane) → IsLane l → mask (bit_or (bit_or (bit_or (step_of l).r (step_of l).g) (step_of l).b) (step_of l).a == 0) ≡ mask (is_rep l)
-unfolding pixel_eq
-repeat_lane l is =
-    let p = is.px_is in
-    let q = is.before_is in
-    let s = step_of l in
-    ap mask (one_zero _ ∙ or_below 0 (bit_or (bit_or s.r s.g) s.b) s.a
-    ∙ ap₂ ◌&&◌ (or_below 0 (bit_or s.r s.g) s.b ∙ ap₂ ◌&&◌ (or_below 0 s.r s.g ∙ ap₂ ◌&&◌ (no_step l.px.r l.before.r p.r q.r) (no_step l.px.g l.before.g p.g q.g))
-    (no_step l.px.b l.before.b p.b q.b)) (no_step l.px.a l.before.a p.a q.a))
 
 -- the index position by sums of bytes
 pub place_lane : (l : Lane) → IsLane l → (let r = l.px.r in let g = l.px.g in let b = l.px.b in let a = l.px.a in

@@ -1,10 +1,11 @@
 -- Single repeats that are given by their index position, lane by lane.
-use Rattle.std.proofs.Common.{◌≡◌, ℕ, zero, suc, ◌+◌, ◌%◌, ◌==◌, Bool, List, [], ◌∷◌, length, map, take, bit_and, bit_or, if◌then◌else◌, refl, ap, ◌∙◌, arith}
-use Rattle.std.specs.Prelude.{min, max}
+use Rattle.std.proofs.Common.{◌≡◌, ℕ, zero, suc, ◌==◌, Bool, List, [], ◌∷◌, length, map, take, bit_and, bit_or, if◌then◌else◌, refl, ap, ◌∙◌, arith}
+use Rattle.std.specs.Prelude.{min}
 use lib.Lanes.{zip2}
+use Rattle.qoi.specs.declared.types.Style.TheVariants.{Reference, Places}
 use Rattle.qoi.specs.Qoi.{hash}
-use Rattle.qoi.specs.inner.block.Bytes.{firsts, placed_first, placed_firsts}
-use Rattle.qoi.specs.inner.block.Lanes.{Lane, mask, stand_mask, first_of}
+use Rattle.qoi.specs.inner.block.Bytes.{first_in, firsts_in}
+use Rattle.qoi.specs.inner.block.Lanes.{Lane, mask}
 use Rattle.qoi.specs.inner.block.State.{is_rep}
 use Rattle.qoi.specs.inner.block.Counting.{counts}
 use Rattle.qoi.proofs.encoding.lanes.Lanewise.{not_8}
@@ -16,7 +17,7 @@ stoods q [] = []
 stoods q (l ∷ ls) = mask q ∷ stoods l.stands ls
 
 -- the masks, one lane later
-pub stoods_are : (n : ℕ) (q : Bool) (ls : List Lane) → length ls ≡ suc n → mask q ∷ take n (map stand_mask ls) ≡ stoods q ls
+pub stoods_are : (n : ℕ) (q : Bool) (ls : List Lane) → length ls ≡ suc n → mask q ∷ take n (map (λ (l : Lane). mask l.stands) ls) ≡ stoods q ls
 stoods_are n q [] e = absurd (omega arith)
 stoods_are zero q (l ∷ []) e = refl
 stoods_are zero q (l ∷ k ∷ ls) e = absurd (omega arith)
@@ -28,11 +29,11 @@ named fs hs rs ones qs = zip2 min fs (zip2 bit_or hs (map not_8 (zip2 bit_and (z
 
 -- lane by lane
 pub named_are : (q : Bool) (c : ℕ) (ls : List Lane)
-    → named (firsts c ls) (map (λ l. hash l.px) ls) (map (λ l. mask (is_rep l)) ls) (map (λ n. mask (n == 1)) (counts c (map is_rep ls))) (stoods q ls)
-    ≡ placed_firsts q c ls
+    → named (firsts_in Reference q c ls) (map (λ l. hash l.px) ls) (map (λ l. mask (is_rep l)) ls) (map (λ n. mask (n == 1)) (counts c (map is_rep ls))) (stoods q ls)
+    ≡ firsts_in Places q c ls
 named_are q c [] = refl
 named_are q c (l ∷ ls) =
     let n = if is_rep l then suc c else 0 in
-    ap (λ ns. named (firsts c (l ∷ ls)) (map (λ l. hash l.px) (l ∷ ls)) (map (λ l. mask (is_rep l)) (l ∷ ls)) (map (λ n. mask (n == 1)) ns) (stoods q (l ∷ ls)))
+    ap (λ ns. named (firsts_in Reference q c (l ∷ ls)) (map (λ l. hash l.px) (l ∷ ls)) (map (λ l. mask (is_rep l)) (l ∷ ls)) (map (λ n. mask (n == 1)) ns) (stoods q (l ∷ ls)))
     (one_count c (is_rep l) (map is_rep ls))
-    ∙ ap (λ z. placed_first q l n (max (first_of l) (bit_and (mask (is_rep l)) ((n + 191) % 256))) ∷ z) (named_are l.stands n ls)
+    ∙ ap (λ z. first_in Places (is_rep l) q l n ∷ z) (named_are l.stands n ls)

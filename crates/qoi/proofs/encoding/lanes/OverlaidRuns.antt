@@ -1,18 +1,15 @@
 -- Repeats' bytes and sizes.
-use Rattle.std.proofs.Common.{◌≡◌, ℕ, zero, suc, ◌+◌, ◌%◌, Bool, true, false, IsTrue, ◌&&◌, ◌==◌, ◌-◌, ◌≤◌, ◌<◌, List, [], ◌∷◌, ◌++◌, length, map, drop, replicate, bit_and, if◌then◌else◌, refl, ap, ◌∙◌, arith, subst}
+use Rattle.std.proofs.Common.{◌≡◌, ℕ, zero, suc, ◌+◌, ◌%◌, Bool, true, false, ◌-◌, ◌≤◌, ◌<◌, List, [], ◌∷◌, ◌++◌, length, map, drop, replicate, bit_and, if◌then◌else◌, refl, ap, ◌∙◌, arith}
 use Rattle.std.specs.Prelude.{max, min}
-use Rattle.std.specs.List.{range_with_len}
-use lib.Lanes.{zip2, pick_l}
+use lib.Lanes.{zip2}
 use Rattle.std.proofs.lemmas.Nat.{and_comm, and_mask}
-use Rattle.qoi.specs.inner.block.Lanes.{Lane, IsLane, AreLanes, mask, fits_in_diff, same_alpha, fits_diff, fits_luma, first_of, size_by, size_of}
-use Rattle.qoi.specs.Steps.{steps, diff_steps}
+use Rattle.qoi.specs.inner.block.Lanes.{Lane, AreLanes, mask, same_alpha, fits_diff, fits_luma, first_of, size_of}
 use Rattle.qoi.specs.inner.block.LaneVectors.{AreBy}
 use Rattle.qoi.specs.inner.block.State.{is_rep, goes_on}
 use Rattle.qoi.specs.inner.block.Counting.{counts}
-use Rattle.qoi.specs.inner.block.Bytes.{firsts, sizes}
-use Rattle.qoi.proofs.format.SamePixels.{pixel_eq-true}
-use Rattle.qoi.proofs.encoding.blocks.ReferenceBytes.{or_true, size_small}
-use Rattle.qoi.proofs.encoding.lanes.LaneChunk.{from_small}
+use Rattle.qoi.specs.declared.types.Style.TheVariants.{Reference}
+use Rattle.qoi.specs.inner.block.Bytes.{firsts_in, sizes}
+use Rattle.qoi.proofs.encoding.blocks.LaneBytes.{repeat_size, size_small}
 use Rattle.qoi.proofs.encoding.lanes.Lanewise.{sum_8, not_8}
 
 -- whether the lane repeats, as a byte
@@ -34,19 +31,19 @@ abbrev laid : List ℕ → List ℕ → List ℕ → ℕ → List ℕ
 laid fs rs cs n = zip2 max fs (zip2 min rs (zip2 sum_8 cs (replicate n 191)))
 
 -- lane by lane
-firsts_laid : (n c : ℕ) (ls : List Lane) → length ls ≡ n → laid (map first_of ls) (map rep_mask ls) (counts c (map is_rep ls)) n ≡ firsts c ls
-firsts_laid zero c [] e = refl
-firsts_laid zero c (l ∷ ls) e = absurd (omega arith)
-firsts_laid (suc n) c [] e = absurd (omega arith)
-firsts_laid (suc n) c (l ∷ ls) e =
+firsts_laid : (n c : ℕ) (q : Bool) (ls : List Lane) → length ls ≡ n → laid (map first_of ls) (map rep_mask ls) (counts c (map is_rep ls)) n ≡ firsts_in Reference q c ls
+firsts_laid zero c q [] e = refl
+firsts_laid zero c q (l ∷ ls) e = absurd (omega arith)
+firsts_laid (suc n) c q [] e = absurd (omega arith)
+firsts_laid (suc n) c q (l ∷ ls) e =
     let k = if is_rep l then suc c else 0 in
     ap (λ cs. laid (first_of l ∷ map first_of ls) (rep_mask l ∷ map rep_mask ls) cs (suc n)) (one_count c (is_rep l) (map is_rep ls))
-    ∙ (λ i. max (first_of l) (least_masked (is_rep l) ((k + 191) % 256) (omega arith) i) ∷ firsts_laid n k ls (omega arith) i)
+    ∙ (λ i. max (first_of l) (least_masked (is_rep l) ((k + 191) % 256) (omega arith) i) ∷ firsts_laid n k l.stands ls (omega arith) i)
 
 -- first bytes with those of runs
-pub firsts_are : (ls : List Lane) (c : ℕ) (fs rs cs : List ℕ) → AreBy ls first_of fs → AreBy ls rep_mask rs → cs ≡ counts c (map is_rep ls)
-    → laid fs rs cs 16 ≡ firsts c ls
-firsts_are ls c fs rs cs f r e = (λ i. laid (f.is i) (r.is i) (e i) 16) ∙ firsts_laid 16 c ls f.long
+pub firsts_are : (ls : List Lane) (c : ℕ) (q : Bool) (fs rs cs : List ℕ) → AreBy ls first_of fs → AreBy ls rep_mask rs → cs ≡ counts c (map is_rep ls)
+    → laid fs rs cs 16 ≡ firsts_in Reference q c ls
+firsts_are ls c q fs rs cs f r e = (λ i. laid (f.is i) (r.is i) (e i) 16) ∙ firsts_laid 16 c q ls f.long
 
 -- whether the lane after each repeats, or there is none
 abbrev mores : List Lane → List ℕ
@@ -58,28 +55,15 @@ mores_are : (l : Lane) (ls : List Lane) → drop 1 (map rep_mask (l ∷ ls)) ++ 
 mores_are l [] = refl
 mores_are l (k ∷ ls) = ap (λ z. rep_mask k ∷ z) (mores_are k ls)
 
--- a repeat's chunk, if it were spelled out, has one byte
-one_byte : (l : Lane) → IsLane l → is_rep l ≡ true → size_of l ≡ 1
-one_byte l is e =
-    let p = l.px in
-    let small : IsTrue (fits_in_diff (diff_steps (steps p p)) && ((steps p p).a == 0)) =
-    from_small (diff_steps (steps p p)).r (diff_steps (steps p p)).g (diff_steps (steps p p)).b 4 4 4 (steps p p).a
-    (omega (arith, is.px_is.r)) (omega (arith, is.px_is.g)) (omega (arith, is.px_is.b)) (omega (arith, is.px_is.a)) in
-    let fits : fits_diff l ≡ true = subst (λ q. IsTrue (fits_in_diff (diff_steps (steps q p)) && ((steps q p).a == 0))) (pixel_eq-true p l.before e) small in
-    ap (λ b. size_by b (fits_luma l) (same_alpha l)) (or_true l.stands (fits_diff l) fits)
-
 -- a size, or none if both masks are set
 none_if : (r m : Bool) (s : ℕ) → s ≤ 5 → (r ≡ true → s ≡ 1) → min s (255 - min (mask r) (mask m)) ≡ (s + bit_and (mask r) (mask m)) % 256
-none_if true true s few one = omega (arith, one refl)
-none_if true false s few one = omega arith
-none_if false true s few one = omega arith
-none_if false false s few one = omega arith
+none_if r m s few one = grind arith
 
 -- lane by lane
 sizes_laid : (ls : List Lane) → AreLanes ls → zip2 min (map size_of ls) (map not_8 (zip2 min (map rep_mask ls) (mores ls))) ≡ sizes ls
 sizes_laid [] are = refl
 sizes_laid (l ∷ ls) are = λ i.
-    none_if (is_rep l) (goes_on ls) (size_of l) (size_small l.stands (fits_diff l) (fits_luma l) (same_alpha l)) (one_byte l are.0) i ∷ sizes_laid ls are.1 i
+    none_if (is_rep l) (goes_on ls) (size_of l) (size_small l.stands (fits_diff l) (fits_luma l) (same_alpha l)) (repeat_size l are.0.px_is) i ∷ sizes_laid ls are.1 i
 
 -- of sixteen lanes
 all_mores : (ls : List Lane) → length ls ≡ 16 → drop 1 (map rep_mask ls) ++ 255 ∷ [] ≡ mores ls
@@ -92,8 +76,3 @@ pub sizes_are : (ls : List Lane) (ss rs ms : List ℕ) → AreBy ls size_of ss �
 sizes_are ls ss rs ms s r e =
     let m : ms ≡ mores ls = e ∙ ap (λ z. drop 1 z ++ 255 ∷ []) r.is ∙ all_mores ls s.long in
     (λ i. zip2 min (s.is i) (map not_8 (zip2 min (r.is i) (m i)))) ∙ sizes_laid ls s.are
-
--- the lanes one sooner, and then 255
-pub one_sooner : (xs : List ℕ) → length xs ≡ 16 → pick_l 0 (xs ++ replicate 16 255) (range_with_len 1 16) ≡ drop 1 xs ++ 255 ∷ []
-one_sooner (x0 ∷ x1 ∷ x2 ∷ x3 ∷ x4 ∷ x5 ∷ x6 ∷ x7 ∷ x8 ∷ x9 ∷ x10 ∷ x11 ∷ x12 ∷ x13 ∷ x14 ∷ x15 ∷ []) e = refl
-one_sooner xs e = absurd (omega arith)

@@ -1,25 +1,21 @@
 -- Packed pixels from their planes.
-use Rattle.std.proofs.Common.{◌≡◌, ℕ, suc, ◌+◌, ◌*◌, ◌/◌, ◌%◌, List, [], ◌∷◌, ◌++◌, length, map, refl, sym, ap, ◌∙◌, arith, subst}
+use Rattle.std.proofs.Common.{◌≡◌, ℕ, suc, ◌+◌, ◌*◌, ◌/◌, ◌%◌, List, [], ◌∷◌, ◌++◌, map, refl, sym, ap, ◌∙◌, arith, subst}
 use Rattle.std.specs.List.{AllByRecursion}
 use lib.Lanes.{number_l, digits_l, pick_l}
 use Rattle.qoi.specs.declared.encode.block.planes.Planes.{Planes}
 use Rattle.qoi.specs.Qoi.{RgbaPixel, IsPixel}
 use Rattle.qoi.specs.inner.Packed.{word}
 use Rattle.qoi.specs.inner.block.Planes.{AreFourWords, ArePlanes}
-
-module _ (p : RgbaPixel) (i : IsPixel p) (r : ℕ) where
-  -- the lowest 32 bits of bytes are the packed pixel
-  first : (p.r + 256 * (p.g + 256 * (p.b + 256 * (p.a + 256 * r)))) % 4294967296 ≡ word p
-  first = omega (arith, i.r, i.g, i.b, i.a)
-
-  -- and what is above them
-  above : (p.r + 256 * (p.g + 256 * (p.b + 256 * (p.a + 256 * r)))) / 4294967296 ≡ r
-  above = omega (arith, i.r, i.g, i.b, i.a)
+use Rattle.qoi.proofs.encoding.blocks.FourFours.{AreFourPixels}
 
 -- one packed pixel after the other
 one_word : (n : ℕ) (p : RgbaPixel) (i : IsPixel p) (bs : List ℕ)
     → digits_l 4294967296 (suc n) (number_l 256 (p.r ∷ p.g ∷ p.b ∷ p.a ∷ bs)) ≡ word p ∷ digits_l 4294967296 n (number_l 256 bs)
-one_word n p i bs = λ j. first p i (number_l 256 bs) j ∷ digits_l 4294967296 n (above p i (number_l 256 bs) j)
+one_word n p i bs =
+    let r = number_l 256 bs in
+    let first : (p.r + 256 * (p.g + 256 * (p.b + 256 * (p.a + 256 * r)))) % 4294967296 ≡ word p = omega (arith, i.r, i.g, i.b, i.a) in
+    let above : (p.r + 256 * (p.g + 256 * (p.b + 256 * (p.a + 256 * r)))) / 4294967296 ≡ r = omega (arith, i.r, i.g, i.b, i.a) in
+    λ j. first j ∷ digits_l 4294967296 n (above j)
 
 -- the bytes of four pixels
 abbrev bytes_of_four : RgbaPixel → RgbaPixel → RgbaPixel → RgbaPixel → List ℕ
@@ -52,11 +48,6 @@ high_fours xs ys = pick_l 0 (xs ++ ys) (8 ∷ 9 ∷ 24 ∷ 25 ∷ 10 ∷ 11 ∷ 
 -- sixteen bytes as four numbers
 abbrev to_words : List ℕ → List ℕ
 to_words bs = digits_l 4294967296 4 (number_l 256 bs)
-
--- four pixels
-pub record AreFourPixels (ps : List RgbaPixel) : Type 0 where
-  pub four : length ps ≡ 4
-  pub are : AllByRecursion IsPixel ps
 
 -- four packed pixels from the bytes of four
 words_are : (ps : List RgbaPixel) (bs : List ℕ) → AreFourPixels ps → (p q s t : RgbaPixel) → ps ≡ p ∷ q ∷ s ∷ t ∷ [] → bs ≡ bytes_of_four p q s t

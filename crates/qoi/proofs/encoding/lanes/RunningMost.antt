@@ -6,6 +6,7 @@ use Rattle.std.proofs.lemmas.List.{get_or-take, get_or-append_right, length-appe
 use Rattle.std.proofs.lemmas.Simd.{get_or-zip2, length-replicate, length-zip2}
 use lib.Lanes.{zip2}
 use Rattle.qoi.specs.inner.block.Counting.{IsMost, AreMost, counts}
+use Rattle.qoi.proofs.encoding.lanes.OverlaidRuns.{one_count}
 
 -- 0 at a repeat, else 64 and the index
 abbrev pub AreStamps : List Bool → List ℕ → Type 0
@@ -84,18 +85,12 @@ counts_by : (c : ℕ) (rs : List Bool) (ys : List ℕ) → length ys ≡ length 
 counts_by c [] [] e step = refl
 counts_by c [] (y ∷ ys) e step = absurd (omega arith)
 counts_by c (r ∷ rs) [] e step = absurd (omega arith)
-counts_by c (true ∷ rs) (y ∷ ys) e step =
-    let first : y ≡ suc c = step 0 (omega arith) in
-    λ i. first i ∷ counts_by (suc c) rs ys (omega arith) (λ k l. rest k l) i
+counts_by c (r ∷ rs) (y ∷ ys) e step =
+    let n = if r then suc c else 0 in
+    let first : y ≡ n = step 0 (omega arith) in
+    (λ i. first i ∷ counts_by n rs ys (omega arith) (λ k l. rest k l) i) ∙ sym (one_count c r rs)
   where
-    rest : (k : ℕ) → k < length rs → slice_index ys k ≡ (if get_or rs k true then suc (slice_index (suc c ∷ ys) k) else 0)
-    rest zero l = step 1 (omega arith) ∙ ap (λ z. if get_or rs 0 true then suc z else 0) (step 0 (omega arith))
-    rest (suc k) l = step (suc (suc k)) (omega arith)
-counts_by c (false ∷ rs) (y ∷ ys) e step =
-    let first : y ≡ 0 = step 0 (omega arith) in
-    λ i. first i ∷ counts_by 0 rs ys (omega arith) (λ k l. rest k l) i
-  where
-    rest : (k : ℕ) → k < length rs → slice_index ys k ≡ (if get_or rs k true then suc (slice_index (0 ∷ ys) k) else 0)
+    rest : (k : ℕ) → k < length rs → slice_index ys k ≡ (if get_or rs k true then suc (slice_index ((if r then suc c else 0) ∷ ys) k) else 0)
     rest zero l = step 1 (omega arith) ∙ ap (λ z. if get_or rs 0 true then suc z else 0) (step 0 (omega arith))
     rest (suc k) l = step (suc (suc k)) (omega arith)
 
@@ -107,11 +102,7 @@ module _ (rs : List Bool) (c : ℕ) (xs ms ys : List ℕ) (few : c < 62) (stampe
     (is : (k : ℕ) → k < 16 → slice_index ys k ≡ less (64 + k) (max (slice_index ms k) (63 - c))) where
   -- a member that was stamped is its index, or 0
   stamp_below : (k : ℕ) → k < 16 → slice_index xs k ≤ 64 + k
-  stamp_below k lt = go (get_or rs k true) (stamped.1 k lt)
-    where
-      go : (b : Bool) → slice_index xs k ≡ (if b then 0 else 64 + k) → slice_index xs k ≤ 64 + k
-      go true e = omega arith
-      go false e = omega arith
+  stamp_below k lt = grind (arith, stamped.1 k lt)
 
   -- the running maximum is no more than its lane
   most_below : (k : ℕ) → k < 16 → slice_index ms k ≤ 64 + k

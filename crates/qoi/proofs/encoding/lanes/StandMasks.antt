@@ -1,5 +1,5 @@
 -- Masks of packed pixels that are equal.
-use Rattle.std.proofs.Common.{◌≡◌, ◌≢◌, ◌⊎◌, inl, inr, ℕ, Bool, true, false, cond, eqb, List, [], ◌∷◌, ◌++◌, length, map, replicate, refl, sym, ap, ◌∙◌, arith}
+use Rattle.std.proofs.Common.{◌≡◌, ◌≢◌, ◌⊎◌, inl, inr, ℕ, ◌<◌, Bool, true, false, cond, eqb, List, [], ◌∷◌, ◌++◌, length, map, replicate, refl, sym, ap, ◌∙◌, arith}
 use Rattle.std.specs.List.{range_with_len}
 use Rattle.std.proofs.lemmas.Bool.{eq-eqb, ne_eqb}
 use lib.Lanes.{number_l, digits_l, pick_l, zip2, sel_l, top}
@@ -7,6 +7,7 @@ use Rattle.qoi.specs.Qoi.{RgbaPixel, IsPixel, pixel_eq}
 use Rattle.qoi.specs.inner.Packed.{word, pixel_of_word}
 use Rattle.qoi.proofs.format.SamePixels.{cases_pixel, pixel_eq-from, pixel_eq-ne}
 use Rattle.qoi.proofs.format.PackedPixels.{unpacked}
+use Rattle.qoi.proofs.encoding.stores.Shuffles.{four_bytes}
 use Rattle.qoi.specs.inner.block.Lanes.{mask}
 use Rattle.qoi.specs.inner.block.Planes.{AreFourWords}
 use Rattle.qoi.specs.inner.block.Positions.{all_same, four_times}
@@ -19,25 +20,24 @@ same_words p q ip iq = go (cases_pixel p q)
     go (inl e) = eq-eqb _ _ (ap word e) ∙ sym (pixel_eq-from p q e)
     go (inr n) = ne_eqb _ _ (λ e. n (sym (unpacked p ip) ∙ ap pixel_of_word e ∙ unpacked q iq)) ∙ sym (pixel_eq-ne p q n)
 
--- four masks of 32 bits as bytes
-wide_bytes : (a b c d : Bool) → digits_l 256 16 (number_l 4294967296 (cond a 4294967295 0 ∷ cond b 4294967295 0 ∷ cond c 4294967295 0 ∷ cond d 4294967295 0 ∷ []))
-    ≡ four_times (a ∷ b ∷ c ∷ d ∷ [])
-wide_bytes true true true true = refl
-wide_bytes true true true false = refl
-wide_bytes true true false true = refl
-wide_bytes true true false false = refl
-wide_bytes true false true true = refl
-wide_bytes true false true false = refl
-wide_bytes true false false true = refl
-wide_bytes true false false false = refl
-wide_bytes false true true true = refl
-wide_bytes false true true false = refl
-wide_bytes false true false true = refl
-wide_bytes false true false false = refl
-wide_bytes false false true true = refl
-wide_bytes false false true false = refl
-wide_bytes false false false true = refl
-wide_bytes false false false false = refl
+-- a mask of 32 bits
+abbrev wide : Bool → ℕ
+wide b = cond b 4294967295 0
+
+-- its bytes
+wide_mask : (b : Bool) → digits_l 256 4 (wide b) ≡ mask b ∷ mask b ∷ mask b ∷ mask b ∷ []
+wide_mask true = refl
+wide_mask false = refl
+
+-- it has 32 bits
+wide_below : (b : Bool) → wide b < 4294967296
+wide_below b = grind arith
+
+-- four of them as bytes
+wide_bytes : (a b c d : Bool) → digits_l 256 16 (number_l 4294967296 (wide a ∷ wide b ∷ wide c ∷ wide d ∷ [])) ≡ four_times (a ∷ b ∷ c ∷ d ∷ [])
+wide_bytes a b c d =
+    four_bytes (wide a) (wide b) (wide c) (wide d) (wide_below a) (wide_below b) (wide_below c) (wide_below d)
+    ∙ (λ i. wide_mask a i ++ (wide_mask b i ++ (wide_mask c i ++ wide_mask d i)))
 
 -- a choice by the highest bit of a mask
 picked : (b : Bool) → ◌≡◌ {A = ℕ} (cond (top 31 (cond b 4294967295 0)) 4294967295 0) (cond b 4294967295 0)

@@ -1,48 +1,34 @@
 -- The bytes of packed pixels, and their planes.
-use Rattle.std.proofs.Common.{◌≡◌, ℕ, suc, ◌+◌, ◌*◌, ◌/◌, ◌%◌, ◌<◌, List, [], ◌∷◌, ◌++◌, length, map, refl, ap, ◌∙◌, arith, take, drop}
-use Rattle.std.specs.List.{AllByRecursion}
+use Rattle.std.proofs.Common.{◌≡◌, ℕ, ◌+◌, ◌/◌, ◌%◌, ◌<◌, List, [], ◌∷◌, ◌++◌, length, map, refl, ap, ◌∙◌, arith, take, drop}
 use lib.Lanes.{number_l, digits_l, pick_l}
 use Rattle.qoi.specs.declared.encode.block.planes.Planes.{Planes}
 use Rattle.qoi.specs.Qoi.{RgbaPixel, IsPixel, pixel}
 use Rattle.qoi.specs.inner.Packed.{word}
 use Rattle.qoi.specs.inner.block.Planes.{AreSixteen, AreFourWords, four_packed, channel_words, ArePlanes}
-use Rattle.qoi.proofs.encoding.blocks.FourFours.{four_fours}
+use Rattle.qoi.proofs.encoding.blocks.FourFours.{AreFourPixels, four_fours}
 use Rattle.qoi.proofs.encoding.lanes.PlaneWords.{four_words}
+use Rattle.qoi.proofs.encoding.stores.Shuffles.{four_bytes}
 
-module _ (p : RgbaPixel) (i : IsPixel p) (r : ℕ) where
-  -- red is the lowest byte
-  low : (word p + 4294967296 * r) % 256 ≡ p.r
-  low = omega (arith, i.r, i.g, i.b, i.a)
+-- a packed pixel has 32 bits
+word_below : (p : RgbaPixel) → IsPixel p → word p < 4294967296
+word_below p i = omega (arith, i.r, i.g, i.b, i.a)
 
-  -- then green
-  second : (word p + 4294967296 * r) / 256 % 256 ≡ p.g
-  second = omega (arith, i.r, i.g, i.b, i.a)
-
-  -- blue
-  third : (word p + 4294967296 * r) / 256 / 256 % 256 ≡ p.b
-  third = omega (arith, i.r, i.g, i.b, i.a)
-
-  -- and alpha
-  fourth : (word p + 4294967296 * r) / 256 / 256 / 256 % 256 ≡ p.a
-  fourth = omega (arith, i.r, i.g, i.b, i.a)
-
-  -- above them is the rest
-  above : (word p + 4294967296 * r) / 256 / 256 / 256 / 256 ≡ r
-  above = omega (arith, i.r, i.g, i.b, i.a)
-
--- a pixel's four bytes, and those of what is above
-pub one_more : (n : ℕ) (p : RgbaPixel) (i : IsPixel p) (r : ℕ) → digits_l 256 (suc (suc (suc (suc n)))) (word p + 4294967296 * r) ≡ p.r ∷ p.g ∷ p.b ∷ p.a ∷ digits_l 256 n r
-one_more n p i r = λ j. low p i r j ∷ second p i r j ∷ third p i r j ∷ fourth p i r j ∷ digits_l 256 n (above p i r j)
+-- and these four bytes
+pub word_bytes : (p : RgbaPixel) → IsPixel p → digits_l 256 4 (word p) ≡ p.r ∷ p.g ∷ p.b ∷ p.a ∷ []
+word_bytes p i =
+    let r : word p % 256 ≡ p.r = omega (arith, i.r, i.g, i.b, i.a) in
+    let g : word p / 256 % 256 ≡ p.g = omega (arith, i.r, i.g, i.b, i.a) in
+    let b : word p / 256 / 256 % 256 ≡ p.b = omega (arith, i.r, i.g, i.b, i.a) in
+    let a : word p / 256 / 256 / 256 % 256 ≡ p.a = omega (arith, i.r, i.g, i.b, i.a) in
+    λ j. r j ∷ g j ∷ b j ∷ a j ∷ []
 
 -- the bytes of four packed pixels
-pub four_bytes : (p q s t : RgbaPixel) → IsPixel p → IsPixel q → IsPixel s → IsPixel t
+pub bytes_of_words : (p q s t : RgbaPixel) → IsPixel p → IsPixel q → IsPixel s → IsPixel t
     → digits_l 256 16 (number_l 4294967296 (word p ∷ word q ∷ word s ∷ word t ∷ []))
     ≡ p.r ∷ p.g ∷ p.b ∷ p.a ∷ q.r ∷ q.g ∷ q.b ∷ q.a ∷ s.r ∷ s.g ∷ s.b ∷ s.a ∷ t.r ∷ t.g ∷ t.b ∷ t.a ∷ []
-four_bytes p q s t ip iq is it =
-    one_more 12 p ip (number_l 4294967296 (word q ∷ word s ∷ word t ∷ []))
-    ∙ ap (λ z. p.r ∷ p.g ∷ p.b ∷ p.a ∷ z) (one_more 8 q iq (number_l 4294967296 (word s ∷ word t ∷ []))
-    ∙ ap (λ z. q.r ∷ q.g ∷ q.b ∷ q.a ∷ z) (one_more 4 s is (number_l 4294967296 (word t ∷ []))
-    ∙ ap (λ z. s.r ∷ s.g ∷ s.b ∷ s.a ∷ z) (one_more 0 t it 0)))
+bytes_of_words p q s t ip iq is it =
+    four_bytes (word p) (word q) (word s) (word t) (word_below p ip) (word_below q iq) (word_below s is) (word_below t it)
+    ∙ (λ j. word_bytes p ip j ++ (word_bytes q iq j ++ (word_bytes s is j ++ word_bytes t it j)))
 
 -- the bytes of one channel after those of another
 abbrev order : List ℕ
@@ -58,7 +44,7 @@ channels_of (p ∷ q ∷ s ∷ t ∷ []) w are =
     let is = i.1.1.0 in
     let it = i.1.1.1.0 in
     (λ j. let v = digits_l 256 16 (number_l 4294967296 (are.words_are j)) in digits_l 4294967296 4 (number_l 256 (pick_l 0 (v ++ v) order)))
-    ∙ ap (λ v. digits_l 4294967296 4 (number_l 256 (pick_l 0 (v ++ v) order))) (four_bytes p q s t ip iq is it)
+    ∙ ap (λ v. digits_l 4294967296 4 (number_l 256 (pick_l 0 (v ++ v) order))) (bytes_of_words p q s t ip iq is it)
     ∙ four_words (pixel p.r q.r s.r t.r) (pixel p.g q.g s.g t.g) (pixel p.b q.b s.b t.b) (pixel p.a q.a s.a t.a)
     (record { r = ip.r; g = iq.r; b = is.r; a = it.r }) (record { r = ip.g; g = iq.g; b = is.g; a = it.g })
     (record { r = ip.b; g = iq.b; b = is.b; a = it.b }) (record { r = ip.a; g = iq.a; b = is.a; a = it.a })
@@ -98,20 +84,24 @@ planes_from p q s t = record {
 }
 
 -- the bytes of a channel of sixteen pixels
-sixteen_bytes : (f : RgbaPixel → ℕ) → ((p : RgbaPixel) → IsPixel p → f p < 256) → (ps qs rs ts : List RgbaPixel) → length ps ≡ 4 → length qs ≡ 4 → length rs ≡ 4 → length ts ≡ 4
-    → AllByRecursion IsPixel ps → AllByRecursion IsPixel qs → AllByRecursion IsPixel rs → AllByRecursion IsPixel ts
+sixteen_bytes : (f : RgbaPixel → ℕ) → ((p : RgbaPixel) → IsPixel p → f p < 256) → (ps qs rs ts : List RgbaPixel)
+    → AreFourPixels ps → AreFourPixels qs → AreFourPixels rs → AreFourPixels ts
     → digits_l 256 16 (number_l 4294967296 (four_packed (map f ps) ∷ four_packed (map f qs) ∷ four_packed (map f rs) ∷ four_packed (map f ts) ∷ []))
     ≡ map f (ps ++ (qs ++ (rs ++ ts)))
-sixteen_bytes f small (p0 ∷ p1 ∷ p2 ∷ p3 ∷ []) (q0 ∷ q1 ∷ q2 ∷ q3 ∷ []) (s0 ∷ s1 ∷ s2 ∷ s3 ∷ []) (t0 ∷ t1 ∷ t2 ∷ t3 ∷ []) lp lq ls lt ip iq is it =
-    four_bytes (pixel (f p0) (f p1) (f p2) (f p3)) (pixel (f q0) (f q1) (f q2) (f q3)) (pixel (f s0) (f s1) (f s2) (f s3)) (pixel (f t0) (f t1) (f t2) (f t3))
+sixteen_bytes f small (p0 ∷ p1 ∷ p2 ∷ p3 ∷ []) (q0 ∷ q1 ∷ q2 ∷ q3 ∷ []) (s0 ∷ s1 ∷ s2 ∷ s3 ∷ []) (t0 ∷ t1 ∷ t2 ∷ t3 ∷ []) fp fq fs ft =
+    let ip = fp.are in
+    let iq = fq.are in
+    let is = fs.are in
+    let it = ft.are in
+    bytes_of_words (pixel (f p0) (f p1) (f p2) (f p3)) (pixel (f q0) (f q1) (f q2) (f q3)) (pixel (f s0) (f s1) (f s2) (f s3)) (pixel (f t0) (f t1) (f t2) (f t3))
     (record { r = small p0 ip.0; g = small p1 ip.1.0; b = small p2 ip.1.1.0; a = small p3 ip.1.1.1.0 })
     (record { r = small q0 iq.0; g = small q1 iq.1.0; b = small q2 iq.1.1.0; a = small q3 iq.1.1.1.0 })
     (record { r = small s0 is.0; g = small s1 is.1.0; b = small s2 is.1.1.0; a = small s3 is.1.1.1.0 })
     (record { r = small t0 it.0; g = small t1 it.1.0; b = small t2 it.1.1.0; a = small t3 it.1.1.1.0 })
-sixteen_bytes f small (p0 ∷ p1 ∷ p2 ∷ p3 ∷ []) (q0 ∷ q1 ∷ q2 ∷ q3 ∷ []) (s0 ∷ s1 ∷ s2 ∷ s3 ∷ []) ts lp lq ls lt ip iq is it = absurd (omega arith)
-sixteen_bytes f small (p0 ∷ p1 ∷ p2 ∷ p3 ∷ []) (q0 ∷ q1 ∷ q2 ∷ q3 ∷ []) rs ts lp lq ls lt ip iq is it = absurd (omega arith)
-sixteen_bytes f small (p0 ∷ p1 ∷ p2 ∷ p3 ∷ []) qs rs ts lp lq ls lt ip iq is it = absurd (omega arith)
-sixteen_bytes f small ps qs rs ts lp lq ls lt ip iq is it = absurd (omega arith)
+sixteen_bytes f small (p0 ∷ p1 ∷ p2 ∷ p3 ∷ []) (q0 ∷ q1 ∷ q2 ∷ q3 ∷ []) (s0 ∷ s1 ∷ s2 ∷ s3 ∷ []) ts fp fq fs ft = absurd (let l = ft.four in omega arith)
+sixteen_bytes f small (p0 ∷ p1 ∷ p2 ∷ p3 ∷ []) (q0 ∷ q1 ∷ q2 ∷ q3 ∷ []) rs ts fp fq fs ft = absurd (let l = fs.four in omega arith)
+sixteen_bytes f small (p0 ∷ p1 ∷ p2 ∷ p3 ∷ []) qs rs ts fp fq fs ft = absurd (let l = fq.four in omega arith)
+sixteen_bytes f small ps qs rs ts fp fq fs ft = absurd (let l = fp.four in omega arith)
 
 -- the planes of sixteen pixels
 pub sixteen_planes : (ps : List RgbaPixel) (p q s t : List ℕ) → AreSixteen ps → p ≡ channel_words (take 4 ps) → q ≡ channel_words (take 4 (drop 4 ps))
@@ -119,8 +109,7 @@ pub sixteen_planes : (ps : List RgbaPixel) (p q s t : List ℕ) → AreSixteen p
 sixteen_planes ps p q s t sixteen ep eq es et =
     let x = four_fours ps sixteen in
     let plane = λ (f : RgbaPixel → ℕ) (small : (p : RgbaPixel) → IsPixel p → f p < 256).
-    sixteen_bytes f small (take 4 ps) (take 4 (drop 4 ps)) (take 4 (drop 8 ps)) (take 4 (drop 12 ps)) x.one_long x.two_long x.three_long x.four_long
-    x.one_are x.two_are x.three_are x.four_are ∙ ap (map f) x.whole in
+    sixteen_bytes f small (take 4 ps) (take 4 (drop 4 ps)) (take 4 (drop 8 ps)) (take 4 (drop 12 ps)) x.one x.two x.three x.four ∙ ap (map f) x.whole in
     record {
       r_is = (λ i. lows (evens (ep i) (eq i)) (evens (es i) (et i))) ∙ plane (λ (p : RgbaPixel). p.r) (λ p i. i.r);
       g_is = (λ i. highs (evens (ep i) (eq i)) (evens (es i) (et i))) ∙ plane (λ (p : RgbaPixel). p.g) (λ p i. i.g);

@@ -91,7 +91,7 @@ chunks_held ns xs low high ln fn la fa el eh = absurd (omega arith)
 
 -- four of them
 four_held : (s t u v : ℕ) (ms ns : List ℕ) (a b c d : ℕ) → s ≤ 5 → t ≤ 5 → u ≤ 5 → v ≤ 5 → HoldChunks ms ns (a ∷ b ∷ c ∷ d ∷ []) → a < 256 → b < 256 → c < 256 → d < 256
-    → four_parts s t u v ms ≡ four_chunks (s ∷ t ∷ u ∷ v ∷ []) ns (a ∷ b ∷ c ∷ d ∷ []) 0
+    → four_parts (s ∷ t ∷ u ∷ v ∷ []) 0 ms ≡ four_chunks (s ∷ t ∷ u ∷ v ∷ []) ns (a ∷ b ∷ c ∷ d ∷ []) 0
 four_held s t u v ms ns a b c d ls lt lu lv held la lb lc ld =
     let first = held.parts s 0 ls (omega arith) la in
     let second = held.parts t 1 lt (omega arith) lb in

@@ -1,5 +1,5 @@
 -- Four chunks of at most four bytes each, from their codes.
-use Rattle.std.proofs.Common.{◌≡◌, ℕ, zero, suc, ◌+◌, ◌*◌, ◌/◌, ◌%◌, ◌<◌, ◌≤◌, List, [], ◌∷◌, ◌++◌, length, take, drop, replicate, slice_index, sym, ap, ◌∙◌, arith}
+use Rattle.std.proofs.Common.{◌≡◌, ℕ, ◌+◌, ◌*◌, ◌/◌, ◌%◌, ◌<◌, ◌≤◌, List, [], ◌∷◌, ◌++◌, length, take, drop, replicate, slice_index, sym, ap, ◌∙◌, arith}
 use Rattle.std.specs.Prelude.{min}
 use Rattle.std.proofs.lemmas.List.{take-append-le}
 use lib.Lanes.{digits_l, zip2}
@@ -10,11 +10,7 @@ use Rattle.qoi.proofs.encoding.stores.PrefixSums.{reduced}
 
 -- a size is at most 4
 code_few : (c : ℕ) → c < 4 → size_of_code c ≤ 4
-code_few zero lt = omega arith
-code_few (suc zero) lt = omega arith
-code_few (suc (suc zero)) lt = omega arith
-code_few (suc (suc (suc zero))) lt = omega arith
-code_few (suc (suc (suc (suc c)))) lt = absurd (omega arith)
+code_few c lt = grind arith
 
 -- so is that of one of four codes
 size_few : (i power : ℕ) → size_at i power ≤ 4

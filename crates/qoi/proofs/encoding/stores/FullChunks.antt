@@ -5,7 +5,7 @@ use Rattle.qoi.specs.inner.Packed.{pixel_of_word}
 use Rattle.qoi.specs.inner.block.Full.{full_bytes}
 use Rattle.qoi.specs.inner.block.Planes.{AreFour, pixels_of_words}
 use Rattle.qoi.proofs.encoding.blocks.PackedBlock.{four_numbers}
-use Rattle.qoi.proofs.encoding.lanes.WordPlanes.{four_bytes}
+use Rattle.qoi.proofs.encoding.lanes.WordPlanes.{bytes_of_words}
 
 -- the bytes of four numbers
 abbrev pub bytes_in : List ℕ → List ℕ
@@ -23,6 +23,6 @@ last v = pick_l 0 (v ++ replicate 16 255) (16 ∷ 12 ∷ 13 ∷ 14 ∷ 15 ∷ 16
 pub four_full : (xs : List ℕ) → AreFour xs → take 15 (three (bytes_in xs)) ++ take 5 (last (bytes_in xs)) ≡ full_bytes (pixels_of_words xs)
 four_full (a ∷ b ∷ c ∷ d ∷ []) f =
     let n = four_numbers (a ∷ b ∷ c ∷ d ∷ []) f in
-    let e = (λ i. bytes_in (n.packed i)) ∙ four_bytes (pixel_of_word a) (pixel_of_word b) (pixel_of_word c) (pixel_of_word d) n.are.0 n.are.1.0 n.are.1.1.0 n.are.1.1.1.0 in
+    let e = (λ i. bytes_in (n.packed i)) ∙ bytes_of_words (pixel_of_word a) (pixel_of_word b) (pixel_of_word c) (pixel_of_word d) n.are.0 n.are.1.0 n.are.1.1.0 n.are.1.1.1.0 in
     λ i. take 15 (three (e i)) ++ take 5 (last (e i))
 four_full xs f = absurd (let l = f.0 in omega arith)

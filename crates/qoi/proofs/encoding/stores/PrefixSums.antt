@@ -1,5 +1,5 @@
 -- Prefix sums by one product.
-use Rattle.std.proofs.Common.{◌≡◌, ℕ, zero, suc, ◌+◌, ◌*◌, ◌/◌, ◌%◌, ◌^◌, ◌<◌, List, [], ◌∷◌, get_or, ap, ◌∙◌, arith}
+use Rattle.std.proofs.Common.{◌≡◌, ℕ, zero, suc, ◌+◌, ◌*◌, ◌/◌, ◌%◌, ◌^◌, ◌<◌, List, [], ◌∷◌, ap, ◌∙◌, arith}
 use Rattle.qoi.specs.inner.block.Storing.{first_sum, AreSizes}
 
 -- eight numbers as the digits of one
@@ -16,42 +16,27 @@ summed : (a b c d e f g h : ℕ) → a + b + c + d + e + f + g + h < 256
     ≡ packed a (a + b) (a + b + c) (a + b + c + d) (a + b + c + d + e) (a + b + c + d + e + f) (a + b + c + d + e + f + g) (a + b + c + d + e + f + g + h)
 summed a b c d e f g h l = reduced _ _ (packed (b + c + d + e + f + g + h) (c + d + e + f + g + h) (d + e + f + g + h) (e + f + g + h) (f + g + h) (g + h) h 0) (omega arith) (omega arith)
 
--- a digit of such a number
-digit : (a b c d e f g h : ℕ) → a < 256 → b < 256 → c < 256 → d < 256 → e < 256 → f < 256 → g < 256 → h < 256 → (k : ℕ) → k < 8
-    → packed a b c d e f g h / 2 ^ (8 * k) % 256 ≡ get_or (a ∷ b ∷ c ∷ d ∷ e ∷ f ∷ g ∷ h ∷ []) k 0
-digit a b c d e f g h la lb lc ld le lf lg lh zero lt = omega arith
-digit a b c d e f g h la lb lc ld le lf lg lh (suc zero) lt = omega arith
-digit a b c d e f g h la lb lc ld le lf lg lh (suc (suc zero)) lt = omega arith
-digit a b c d e f g h la lb lc ld le lf lg lh (suc (suc (suc zero))) lt = omega arith
-digit a b c d e f g h la lb lc ld le lf lg lh (suc (suc (suc (suc zero)))) lt = omega arith
-digit a b c d e f g h la lb lc ld le lf lg lh (suc (suc (suc (suc (suc zero))))) lt = omega arith
-digit a b c d e f g h la lb lc ld le lf lg lh (suc (suc (suc (suc (suc (suc zero)))))) lt = omega arith
-digit a b c d e f g h la lb lc ld le lf lg lh (suc (suc (suc (suc (suc (suc (suc zero))))))) lt = omega arith
-digit a b c d e f g h la lb lc ld le lf lg lh (suc (suc (suc (suc (suc (suc (suc (suc k)))))))) lt = absurd (omega arith)
-
--- the sums are those of the first ones
-sums_at : (a b c d e f g h k : ℕ) → k < 8
-    → get_or (a ∷ (a + b) ∷ (a + b + c) ∷ (a + b + c + d) ∷ (a + b + c + d + e) ∷ (a + b + c + d + e + f) ∷ (a + b + c + d + e + f + g) ∷ (a + b + c + d + e + f + g + h) ∷ []) k 0
+-- each digit of such a number is the sum of the first ones
+digit : (a b c d e f g h : ℕ) → a + b + c + d + e + f + g + h < 256 → (k : ℕ) → k < 8
+    → packed a (a + b) (a + b + c) (a + b + c + d) (a + b + c + d + e) (a + b + c + d + e + f) (a + b + c + d + e + f + g) (a + b + c + d + e + f + g + h) / 2 ^ (8 * k) % 256
     ≡ first_sum (k + 1) (a ∷ b ∷ c ∷ d ∷ e ∷ f ∷ g ∷ h ∷ [])
-sums_at a b c d e f g h zero lt = omega arith
-sums_at a b c d e f g h (suc zero) lt = omega arith
-sums_at a b c d e f g h (suc (suc zero)) lt = omega arith
-sums_at a b c d e f g h (suc (suc (suc zero))) lt = omega arith
-sums_at a b c d e f g h (suc (suc (suc (suc zero)))) lt = omega arith
-sums_at a b c d e f g h (suc (suc (suc (suc (suc zero))))) lt = omega arith
-sums_at a b c d e f g h (suc (suc (suc (suc (suc (suc zero)))))) lt = omega arith
-sums_at a b c d e f g h (suc (suc (suc (suc (suc (suc (suc zero))))))) lt = omega arith
-sums_at a b c d e f g h (suc (suc (suc (suc (suc (suc (suc (suc k)))))))) lt = absurd (omega arith)
+digit a b c d e f g h few zero lt = omega arith
+digit a b c d e f g h few (suc zero) lt = omega arith
+digit a b c d e f g h few (suc (suc zero)) lt = omega arith
+digit a b c d e f g h few (suc (suc (suc zero))) lt = omega arith
+digit a b c d e f g h few (suc (suc (suc (suc zero)))) lt = omega arith
+digit a b c d e f g h few (suc (suc (suc (suc (suc zero))))) lt = omega arith
+digit a b c d e f g h few (suc (suc (suc (suc (suc (suc zero)))))) lt = omega arith
+digit a b c d e f g h few (suc (suc (suc (suc (suc (suc (suc zero))))))) lt = omega arith
+digit a b c d e f g h few (suc (suc (suc (suc (suc (suc (suc (suc k)))))))) lt = absurd (omega arith)
 
 -- a digit of the product is the sum of the first sizes
 pub prefix_sums : (ss : List ℕ) (sizes : ℕ) → AreSizes ss sizes → (k : ℕ) → k < 8
     → sizes * 0x0101010101010101 % 18446744073709551616 / 2 ^ (8 * k) % 256 ≡ first_sum (k + 1) ss
 prefix_sums (a ∷ b ∷ c ∷ d ∷ e ∷ f ∷ g ∷ h ∷ []) sizes are k lt =
-    let few : a + b + c + d + e + f + g + h < 256 = (let l = are.few in omega arith) in
+    let few : a + b + c + d + e + f + g + h < 256 = omega (arith, are.few 0, are.few 1, are.few 2, are.few 3, are.few 4, are.few 5, are.few 6, are.few 7) in
     let is : sizes ≡ packed a b c d e f g h = (let e = are.is in omega arith) in
     ap (λ n. n * 0x0101010101010101 % 18446744073709551616 / 2 ^ (8 * k) % 256) is
     ∙ ap (λ n. n / 2 ^ (8 * k) % 256) (summed a b c d e f g h few)
-    ∙ digit a (a + b) (a + b + c) (a + b + c + d) (a + b + c + d + e) (a + b + c + d + e + f) (a + b + c + d + e + f + g) (a + b + c + d + e + f + g + h)
-    (omega arith) (omega arith) (omega arith) (omega arith) (omega arith) (omega arith) (omega arith) (omega arith) k lt
-    ∙ sums_at a b c d e f g h k lt
+    ∙ digit a b c d e f g h few k lt
 prefix_sums _ sizes are k lt = absurd (let l = are.eight in omega arith)

@@ -34,29 +34,15 @@ may_shuffle i (j ∷ js) l b =
     let low = ltb-true j 16 p.0 in
     (grind arith, may_shuffle (suc i) js (omega arith) p.1)
 
--- the lowest byte of a number of 32 bits with more above it
-byte_0 : (a r : ℕ) → (a + 4294967296 * r) % 256 ≡ a % 256
-byte_0 a r = omega arith
-
--- the next
-byte_1 : (a r : ℕ) → (a + 4294967296 * r) / 256 % 256 ≡ a / 256 % 256
-byte_1 a r = omega arith
-
--- the third
-byte_2 : (a r : ℕ) → (a + 4294967296 * r) / 256 / 256 % 256 ≡ a / 256 / 256 % 256
-byte_2 a r = omega arith
-
--- the highest
-byte_3 : (a r : ℕ) → (a + 4294967296 * r) / 256 / 256 / 256 % 256 ≡ a / 256 / 256 / 256 % 256
-byte_3 a r = omega arith
-
--- what is above
-above : (a r : ℕ) → a < 4294967296 → (a + 4294967296 * r) / 256 / 256 / 256 / 256 ≡ r
-above a r lt = omega arith
-
 -- a number's four bytes, and those of what is above
 pub number_bytes : (n a r : ℕ) → a < 4294967296 → digits_l 256 (suc (suc (suc (suc n)))) (a + 4294967296 * r) ≡ digits_l 256 4 a ++ digits_l 256 n r
-number_bytes n a r lt = λ i. byte_0 a r i ∷ byte_1 a r i ∷ byte_2 a r i ∷ byte_3 a r i ∷ digits_l 256 n (above a r lt i)
+number_bytes n a r lt =
+    let b0 : (a + 4294967296 * r) % 256 ≡ a % 256 = omega arith in
+    let b1 : (a + 4294967296 * r) / 256 % 256 ≡ a / 256 % 256 = omega arith in
+    let b2 : (a + 4294967296 * r) / 256 / 256 % 256 ≡ a / 256 / 256 % 256 = omega arith in
+    let b3 : (a + 4294967296 * r) / 256 / 256 / 256 % 256 ≡ a / 256 / 256 / 256 % 256 = omega arith in
+    let above : (a + 4294967296 * r) / 256 / 256 / 256 / 256 ≡ r = omega arith in
+    λ i. b0 i ∷ b1 i ∷ b2 i ∷ b3 i ∷ digits_l 256 n (above i)
 
 -- the bytes of four
 pub four_bytes : (a b c d : ℕ) → a < 4294967296 → b < 4294967296 → c < 4294967296 → d < 4294967296

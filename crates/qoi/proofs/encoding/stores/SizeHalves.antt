@@ -1,11 +1,11 @@
 -- Sixteen bytes as two numbers; and a chunk's bytes from a word.
-use Rattle.std.proofs.Common.{◌≡◌, ℕ, ◌+◌, ◌*◌, ◌/◌, ◌%◌, ◌<◌, List, [], ◌∷◌, ◌++◌, length, take, drop, ap, ◌∙◌, arith, w8, Fits}
+use Rattle.std.proofs.Common.{◌≡◌, ℕ, ◌+◌, ◌*◌, ◌/◌, ◌%◌, ◌<◌, List, [], ◌∷◌, ◌++◌, length, take, drop, ap, arith, w8, Fits}
 use lib.Lanes.{number_l, digits_l, Each1}
 use Rattle.qoi.specs.Qoi.{RgbaPixel, IsPixel}
 use Rattle.qoi.specs.inner.Packed.{word}
 use Rattle.qoi.specs.inner.block.Storing.{chunk_of}
 use Rattle.qoi.proofs.encoding.stores.PrefixSums.{reduced}
-use Rattle.qoi.proofs.encoding.lanes.WordPlanes.{one_more}
+use Rattle.qoi.proofs.encoding.lanes.WordPlanes.{word_bytes}
 
 -- the high 64 bits
 high : (x y q : ℕ) → x ≡ y + 18446744073709551616 * q → y < 18446744073709551616 → q < 18446744073709551616 → x / 18446744073709551616 % 18446744073709551616 ≡ q
@@ -31,6 +31,4 @@ halves_are xs e f = absurd (omega arith)
 
 -- a chunk whose first four bytes are those of a word
 pub chunk_is : (p : RgbaPixel) (a size : ℕ) → IsPixel p → chunk_of size (word p) a ≡ take size (p.r ∷ p.g ∷ p.b ∷ p.a ∷ a ∷ [])
-chunk_is p a size i =
-    let same : word p ≡ word p + 4294967296 * 0 = omega arith in
-    ap (λ ds. take size (ds ++ a ∷ [])) (ap (digits_l 256 4) same ∙ one_more 0 p i 0)
+chunk_is p a size i = ap (λ ds. take size (ds ++ a ∷ [])) (word_bytes p i)

@@ -2,18 +2,17 @@
 use Rattle.std.proofs.Common.{◌≡◌, ℕ, zero, suc, ◌+◌, ◌*◌, ◌%◌, ◌<◌, ◌≤◌, ◌||◌, if◌then◌else◌, Bool, true, false, List, [], ◌∷◌, ◌++◌, length, map, take, drop, replicate, slice_index, append_assoc, append-nil, bit_and, refl, sym, ap, ◌∙◌, arith}
 use Rattle.std.specs.Prelude.{min, max}
 use Rattle.std.specs.List.{AllByRecursion}
-use lib.Lanes.{sum_l, number_l, zip2}
+use lib.Lanes.{sum_l, zip2}
 use Rattle.qoi.specs.declared.encode.block.planes.Words.{Words}
-use Rattle.qoi.specs.Qoi.{RgbaPixel, IsPixel, pixel, hash}
-use Rattle.qoi.specs.inner.block.Bytes.{firsts, sizes}
-use Rattle.qoi.specs.inner.block.Lanes.{Lane, AreLanes, mask, fits_luma, fits_diff, same_alpha, as_diff, as_luma, first_of, second_of, second_by, first_by, size_by}
+use Rattle.qoi.specs.Qoi.{RgbaPixel, IsPixel, pixel}
+use Rattle.qoi.specs.inner.block.Bytes.{sizes}
+use Rattle.qoi.specs.inner.block.Lanes.{Lane, mask, fits_luma, fits_diff, same_alpha, second_of, second_by, first_by, size_by}
 use Rattle.qoi.specs.inner.block.State.{is_rep, goes_on}
 use Rattle.qoi.specs.inner.Packed.{word}
-use Rattle.qoi.specs.inner.block.Planes.{AreBlockWords, reds, greens, blues, alphas}
-use Rattle.qoi.specs.inner.block.Storing.{AreSizes, chunk_of, four_chunks, sixteen_chunks}
+use Rattle.qoi.specs.inner.block.Planes.{AreBlockWords, ArePlanes}
+use Rattle.qoi.specs.inner.block.Storing.{chunk_of, four_chunks, sixteen_chunks}
 use Rattle.std.proofs.lemmas.Nat.{and_le_r}
-use Rattle.qoi.proofs.format.SamePixels.{hash_below}
-use Rattle.qoi.proofs.encoding.blocks.ReferenceBytes.{chunks_of}
+use Rattle.qoi.proofs.encoding.blocks.LaneBytes.{chunks_of}
 use Rattle.qoi.proofs.encoding.stores.SizeHalves.{chunk_is}
 
 -- each lane's chunk as a pixel: first and second byte, green and blue
@@ -28,30 +27,15 @@ pixels_long [] fs e = refl
 pixels_long (l ∷ ls) [] e = absurd (omega arith)
 pixels_long (l ∷ ls) (f ∷ fs) e = ap (λ n. suc n) (pixels_long ls fs (omega arith))
 
--- the first bytes
-pub first_plane : (ls : List Lane) (fs : List ℕ) → length fs ≡ length ls → fs ≡ reds (chunk_pixels ls fs)
-first_plane [] [] e = refl
-first_plane [] (f ∷ fs) e = absurd (omega arith)
-first_plane (l ∷ ls) [] e = absurd (omega arith)
-first_plane (l ∷ ls) (f ∷ fs) e = ap (λ z. f ∷ z) (first_plane ls fs (omega arith))
-
--- the second bytes
-pub second_plane : (ls : List Lane) (fs : List ℕ) → length fs ≡ length ls → map second_of ls ≡ greens (chunk_pixels ls fs)
-second_plane [] fs e = refl
-second_plane (l ∷ ls) [] e = absurd (omega arith)
-second_plane (l ∷ ls) (f ∷ fs) e = ap (λ z. second_of l ∷ z) (second_plane ls fs (omega arith))
-
--- green
-pub green_plane : (ls : List Lane) (fs : List ℕ) → length fs ≡ length ls → map (λ l. l.px.g) ls ≡ blues (chunk_pixels ls fs)
-green_plane [] fs e = refl
-green_plane (l ∷ ls) [] e = absurd (omega arith)
-green_plane (l ∷ ls) (f ∷ fs) e = ap (λ z. l.px.g ∷ z) (green_plane ls fs (omega arith))
-
--- and blue
-pub blue_plane : (ls : List Lane) (fs : List ℕ) → length fs ≡ length ls → map (λ l. l.px.b) ls ≡ alphas (chunk_pixels ls fs)
-blue_plane [] fs e = refl
-blue_plane (l ∷ ls) [] e = absurd (omega arith)
-blue_plane (l ∷ ls) (f ∷ fs) e = ap (λ z. l.px.b ∷ z) (blue_plane ls fs (omega arith))
+-- their planes
+pub chunk_planes : (ls : List Lane) (fs : List ℕ) → length fs ≡ length ls
+    → ArePlanes (chunk_pixels ls fs) (record { r = fs; g = map second_of ls; b = map (λ l. l.px.g) ls; a = map (λ l. l.px.b) ls })
+chunk_planes [] [] e = record { r_is = refl; g_is = refl; b_is = refl; a_is = refl }
+chunk_planes [] (f ∷ fs) e = absurd (omega arith)
+chunk_planes (l ∷ ls) [] e = absurd (omega arith)
+chunk_planes (l ∷ ls) (f ∷ fs) e =
+    let rest = chunk_planes ls fs (omega arith) in
+    record { r_is = ap (λ z. f ∷ z) rest.r_is; g_is = ap (λ z. second_of l ∷ z) rest.g_is; b_is = ap (λ z. l.px.g ∷ z) rest.b_is; a_is = ap (λ z. l.px.b ∷ z) rest.a_is }
 
 -- a second byte is one
 pub second_small : (b : Bool) (w p : RgbaPixel) → IsPixel p → second_by b w p < 256
@@ -60,59 +44,20 @@ second_small false w p i = i.r
 
 -- a first byte is one
 pub first_small : (st d l k : Bool) (h : ℕ) (s w : RgbaPixel) → h < 64 → (if st then h else first_by d l k s w) < 256
-first_small true d l k h s w lt = omega arith
-first_small false true l k h s w lt = omega arith
-first_small false false true k h s w lt = omega arith
-first_small false false false true h s w lt = omega arith
-first_small false false false false h s w lt = omega arith
+first_small st d l k h s w lt = grind arith
 
 -- a first byte, or that of a run
 pub over_small : (f m x : ℕ) → f < 256 → max f (bit_and m (x % 256)) < 256
 over_small f m x l = omega (arith, and_le_r m (x % 256))
 
--- first bytes and lanes make pixels
-pub pixels_are : (c : ℕ) (ls : List Lane) → AreLanes ls → AllByRecursion IsPixel (chunk_pixels ls (firsts c ls))
-pixels_are c [] a = tt
-pixels_are c (l ∷ ls) a =
-    let n = if is_rep l then suc c else 0 in
-    let i = a.0.px_is in (
-      record {
-        r = over_small (first_of l) (mask (is_rep l)) (n + 191) (first_small l.stands (fits_diff l) (fits_luma l) (same_alpha l) (hash l.px) (as_diff l) (as_luma l) (hash_below l.px));
-        g = second_small (fits_luma l) (as_luma l) l.px i;
-        b = i.g;
-        a = i.b;
-      },
-      pixels_are n ls a.1,
-    )
-
--- there are as many first bytes as lanes
-pub firsts_long : (c : ℕ) (ls : List Lane) → length (firsts c ls) ≡ length ls
-firsts_long c [] = refl
-firsts_long c (l ∷ ls) = ap (λ n. suc n) (firsts_long (if is_rep l then suc c else 0) ls)
-
--- and sizes
+-- there are as many sizes as lanes
 pub sizes_long : (ls : List Lane) → length (sizes ls) ≡ length ls
 sizes_long [] = refl
 sizes_long (l ∷ ls) = ap (λ n. suc n) (sizes_long ls)
 
 -- a size is at most 5, less one for a repeat that goes on
 one_few : (st l k r g : Bool) → (size_by st l k + bit_and (mask r) (mask g)) % 256 ≤ 5
-one_few true l k true true = omega arith
-one_few true l k true false = omega arith
-one_few true l k false true = omega arith
-one_few true l k false false = omega arith
-one_few false true k true true = omega arith
-one_few false true k true false = omega arith
-one_few false true k false true = omega arith
-one_few false true k false false = omega arith
-one_few false false true true true = omega arith
-one_few false false true true false = omega arith
-one_few false false true false true = omega arith
-one_few false false true false false = omega arith
-one_few false false false true true = omega arith
-one_few false false false true false = omega arith
-one_few false false false false true = omega arith
-one_few false false false false false = omega arith
+one_few st l k r g = grind arith
 
 -- each of them
 pub sizes_few : (ls : List Lane) (k : ℕ) → slice_index (sizes ls) k ≤ 5
@@ -154,15 +99,6 @@ lesser_most n m [] k = omega arith
 lesser_most zero m (s ∷ ss) k = omega arith
 lesser_most (suc n) m (s ∷ ss) zero = omega arith
 lesser_most (suc n) m (s ∷ ss) (suc k) = lesser_most n m ss k
-
--- their sum
-sum_few : (ss : List ℕ) → ((k : ℕ) → slice_index ss k ≤ 5) → sum_l ss ≤ 5 * length ss
-sum_few [] few = omega arith
-sum_few (s ∷ ss) few = omega (arith, few 0, sum_few ss (λ k. few (suc k)))
-
--- eight sizes as bytes of a number
-pub eight_sizes : (ss : List ℕ) (n : ℕ) → length ss ≡ 8 → ((k : ℕ) → slice_index ss k ≤ 5) → n ≡ number_l 256 ss → AreSizes ss n
-eight_sizes ss n long few is = record { eight = long; few = omega (arith, sum_few ss few); is = is }
 
 -- a lane's chunk of s bytes, of which f is the first
 abbrev lane_chunk : Lane → ℕ → ℕ → List ℕ

@@ -150,7 +150,8 @@ rest_names_none (suc k) zero before i some = refl
 rest_names_none k (suc zero) before i some = refl
 rest_names_none k (suc (suc r)) before i some = refl
 
-runs_name_none : (n : ℕ) (before : Option Chunk) (i : ℕ) → 0 < n → names (last_chunk before (runs_by (Run 1) n)) i ≡ false
+-- so it is of runs that are written
+pub runs_name_none : (n : ℕ) (before : Option Chunk) (i : ℕ) → 0 < n → names (last_chunk before (runs_by (Run 1) n)) i ≡ false
 unfolding runs_by
 runs_name_none n before i some =
     ap (λ b. names b i) (last_fulls (n / 62) before (last_by (Run 1) (n % 62)))
@@ -159,14 +160,9 @@ runs_name_none n before i some =
 -- whether the last chunk names the pixel's index position, after repeats
 pub placed_repeats : (n : ℕ) (past : Past) (before : Option Chunk) (placed : Bool) → placed ≡ names before (hash (previous past))
     → placed && nat_eq n 0 ≡ names (last_chunk before (runs_by (Run 1) n)) (hash (previous (replicate n (previous past) ++ past)))
-placed_repeats zero past before placed is = and_true placed ∙ is ∙ ap (λ cs. names (last_chunk before cs) (hash (previous past))) (sym runs_none)
-  where
-    and_true : (b : Bool) → b && true ≡ b
-    and_true true = refl
-    and_true false = refl
+placed_repeats zero past before placed is =
+    let same : placed && true ≡ placed = grind arith in
+    same ∙ is ∙ ap (λ cs. names (last_chunk before cs) (hash (previous past))) (sym runs_none)
 placed_repeats (suc n) past before placed is =
-    ap (λ b. placed && b) (ne_eqb (suc n) 0 (λ e. omega arith)) ∙ and_false placed ∙ sym (runs_name_none (suc n) before _ (omega arith))
-  where
-    and_false : (b : Bool) → b && false ≡ false
-    and_false true = refl
-    and_false false = refl
+    let none : placed && false ≡ false = grind arith in
+    ap (λ b. placed && b) (ne_eqb (suc n) 0 (λ e. omega arith)) ∙ none ∙ sym (runs_name_none (suc n) before _ (omega arith))

@@ -48,8 +48,7 @@ unseen_blank (p ∷ past) i e =
     cond-false (hash p == i) p (seen past i) both.0 ∙ unseen_blank past i (ap not both.1)
   where
     back : (t : Bool) → not t ≡ true → t ≡ false
-    back true h = absurd (true≢false (sym h))
-    back false h = refl
+    back t h = grind arith
 
 -- no pixel was put at an index position, or one of that position is seen there
 pub unseen_or : (past : Past) (i : ℕ) → (is_unseen past i ≡ true) ⊎ (hash (seen past i) ≡ i)

@@ -7,32 +7,26 @@ use Rattle.qoi.specs.Qoi.{hash}
 use Rattle.qoi.specs.inner.block.Lanes.{Lane, mask, first_of, size_of}
 use Rattle.qoi.specs.inner.block.State.{is_rep, goes_on}
 
--- first bytes: a repeat's is that of a run, after c repeats
-abbrev pub firsts : ℕ → List Lane → List ℕ
-firsts c [] = []
-firsts c (l ∷ ls) =
+-- In style Places a single repeat before a fresh pixel is the index position, if the chunk before it
+-- isn't. `f` is the byte otherwise, and `q` is whether the pixel before the lane stands at its
+-- position.
+abbrev pub named_in : Style → Bool → Bool → ℕ → ℕ → ℕ → ℕ
+named_in Reference rep q place n f = f
+named_in Places rep q place n f = min f (bit_or place (255 - bit_and (bit_and (mask rep) (mask (n == 1))) (255 - mask q)))
+named_in Tight rep q place n f = f
+
+-- the first byte of a lane, by whether it is a repeat, the n-th of its group: that of a run
+abbrev pub first_in : Style → Bool → Bool → Lane → ℕ → ℕ
+first_in style rep q l n = named_in style rep q (hash l.px) n (max (first_of l) (bit_and (mask rep) ((n + 191) % 256)))
+
+-- of each lane, after c repeats
+abbrev pub firsts_in : Style → Bool → ℕ → List Lane → List ℕ
+firsts_in style q c [] = []
+firsts_in style q c (l ∷ ls) =
     let n = if is_rep l then suc c else 0 in
-    max (first_of l) (bit_and (mask (is_rep l)) ((n + 191) % 256)) ∷ firsts n ls
+    first_in style (is_rep l) q l n ∷ firsts_in style l.stands n ls
 
 -- sizes: 0 of a repeat before another one, or at the end
 abbrev pub sizes : List Lane → List ℕ
 sizes [] = []
 sizes (l ∷ ls) = (size_of l + bit_and (mask (is_rep l)) (mask (goes_on ls))) % 256 ∷ sizes ls
-
--- In style Places: a single repeat before a fresh pixel is the index position, if the chunk
--- before it isn't. `q` is whether the pixel before the lane stands at its position.
-abbrev pub placed_first : Bool → Lane → ℕ → ℕ → ℕ
-placed_first q l n f = min f (bit_or (hash l.px) (255 - bit_and (bit_and (mask (is_rep l)) (mask (n == 1))) (255 - mask q)))
-
--- of each lane, where c repeats came before
-abbrev pub placed_firsts : Bool → ℕ → List Lane → List ℕ
-placed_firsts q c [] = []
-placed_firsts q c (l ∷ ls) =
-    let n = if is_rep l then suc c else 0 in
-    placed_first q l n (max (first_of l) (bit_and (mask (is_rep l)) ((n + 191) % 256))) ∷ placed_firsts l.stands n ls
-
--- first bytes in each style
-abbrev pub firsts_in : Style → Bool → ℕ → List Lane → List ℕ
-firsts_in Reference q c ls = firsts c ls
-firsts_in Places q c ls = placed_firsts q c ls
-firsts_in Tight q c ls = firsts c ls

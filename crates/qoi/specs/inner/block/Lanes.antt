@@ -86,19 +86,3 @@ size_of l = size_by (l.stands || fits_diff l) (fits_luma l) (same_alpha l)
 -- the bytes of a lane's chunk
 abbrev pub lane_bytes : Lane → List ℕ
 lane_bytes l = take (size_of l) (first_of l ∷ second_of l ∷ l.px.g ∷ l.px.b ∷ l.px.a ∷ [])
-
--- whether alpha stays, as a byte
-abbrev pub same_alpha_mask : Lane → ℕ
-same_alpha_mask l = mask (same_alpha l)
-
--- whether a Diff gives the pixel
-abbrev pub diff_mask : Lane → ℕ
-diff_mask l = mask (fits_diff l)
-
--- whether a Luma does
-abbrev pub luma_mask : Lane → ℕ
-luma_mask l = mask (fits_luma l)
-
--- whether the pixel stands at its index position
-abbrev pub stand_mask : Lane → ℕ
-stand_mask l = mask l.stands

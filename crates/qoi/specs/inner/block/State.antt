@@ -56,10 +56,6 @@ step_by rep more style s p =
 abbrev pub next_state : State → RgbaPixel → Bool → State
 next_state s p more = next_by (pixel_eq p s.last) more s p
 
--- the bytes that are written for it
-abbrev pub step_bytes : Style → State → RgbaPixel → Bool → List ℕ
-step_bytes style s p more = step_by (pixel_eq p s.last) more style s p
-
 -- whether the next pixel repeats, or there is none
 abbrev pub more_of : RgbaPixel → List RgbaPixel → Bool
 more_of p [] = true
@@ -68,7 +64,7 @@ more_of p (q ∷ qs) = pixel_eq q p
 -- what is written for a block's pixels, but for the repeats at its end
 abbrev pub block_bytes : Style → State → List RgbaPixel → List ℕ
 block_bytes style s [] = []
-block_bytes style s (p ∷ ps) = step_bytes style s p (more_of p ps) ++ block_bytes style (next_state s p (more_of p ps)) ps
+block_bytes style s (p ∷ ps) = step_by (pixel_eq p s.last) (more_of p ps) style s p ++ block_bytes style (next_state s p (more_of p ps)) ps
 
 -- no fresh pixel is transparent black that isn't at its position
 abbrev pub NoneBlank : State → List RgbaPixel → Type 0

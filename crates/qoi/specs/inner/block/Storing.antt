@@ -1,5 +1,5 @@
 -- Chunks of which each is the lowest bytes of a number and perhaps alpha.
-use Rattle.std.specs.Prelude.{◌≡◌, ℕ, ◌+◌, ◌<◌, ◌≤◌, List, [], ◌∷◌, ◌++◌, length, take, slice_index}
+use Rattle.std.specs.Prelude.{◌≡◌, ℕ, ◌+◌, ◌≤◌, List, [], ◌∷◌, ◌++◌, length, take, slice_index}
 use lib.Lanes.{digits_l, number_l, sum_l}
 use Rattle.qoi.specs.declared.encode.block.planes.Words.{Words}
 
@@ -7,17 +7,11 @@ use Rattle.qoi.specs.declared.encode.block.planes.Words.{Words}
 abbrev pub first_sum : ℕ → List ℕ → ℕ
 first_sum n ss = sum_l (take n ss)
 
--- eight sizes, as bytes of a number
+-- sizes of eight chunks, as bytes of a number
 pub record AreSizes (ss : List ℕ) (sizes : ℕ) : Type 0 where
   pub eight : length ss ≡ 8
-  pub few : sum_l ss < 256
-  pub is : sizes ≡ number_l 256 ss
-
--- those of eight chunks
-pub record AreChunkSizes (sizes : ℕ) : Type 0 where
-  pub ss : List ℕ
-  pub are : AreSizes ss sizes
   pub few : (k : ℕ) → slice_index ss k ≤ 5
+  pub is : sizes ≡ number_l 256 ss
 
 -- the bytes of a chunk: the lowest of a number and perhaps alpha
 abbrev pub chunk_of : ℕ → ℕ → ℕ → List ℕ

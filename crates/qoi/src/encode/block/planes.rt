@@ -1,11 +1,14 @@
 //! Sixteen pixels in planes: a vector of bytes for each channel (QOI specification 1.0, "Chunks").
 ghost use lib.Lanes.{digits_l, number_l};
 ghost use Rattle.std.specs.Prelude.{◌≡◌, ◌^◌, List, ◌++◌, take, drop, replicate, slice_index};
-ghost use Rattle.qoi.specs.Qoi.{RgbaPixel};
+ghost use Rattle.qoi.specs.Qoi.{RgbaPixel, pixel_eq, blank};
 ghost use Rattle.qoi.specs.Raw.{AreOpaque};
 ghost use Rattle.qoi.specs.inner.block.Block.{last_pixel};
+ghost use Rattle.qoi.specs.inner.block.LaneVectors.{AreMasks, ArePlanesBy};
+ghost use Rattle.qoi.specs.inner.block.Lanes.{Lane};
 ghost use Rattle.qoi.specs.inner.block.Planes.{AreFour, ArePacked, AreSixteen, AreFourWords, AreBlockWords, channel_words, ArePlanes};
 
+use crate::encode::block::lanes::where_is;
 use crate::encode::pixels::PixelOf;
 use crate::packed::Packed;
 use std::simd::prelude::*;
@@ -55,6 +58,15 @@ impl Planes {
             self.a.to_array()[15],
         )
     }
+}
+
+/// 255 in each lane whose channels are all 0, else 0.
+#[inline(always)]
+pub(in crate::encode) fn blanks(p: Planes) -> u8x16
+    ensures { (ls : List Lane) (f : Lane → RgbaPixel) → ArePlanesBy ls f p
+        → AreMasks ls (λ l. pixel_eq (f l) blank) result }
+{
+    where_is(p.r | p.g | p.b | p.a, 0)
 }
 
 // The channels of four pixels: four bytes of red, then green, blue and alpha, each four as a

@@ -1,13 +1,12 @@
 //! The index positions of sixteen pixels, and which of these pixels the table held there already
 //! (QOI specification 1.0, "Chunks").
-ghost use Rattle.std.specs.Prelude.{◌≡◌, ◌<◌, ◌≤◌, ◌-◌, ℕ, List, ◌++◌, map, length, take, drop, slice_index, Bool};
-ghost use Rattle.qoi.specs.Qoi.{RgbaPixel, blank, hash, pixel_eq, Past};
+ghost use Rattle.std.specs.Prelude.{◌≡◌, ◌<◌, ◌≤◌, ◌-◌, ℕ, false, List, ◌++◌, map, length, take, drop, slice_index, Bool};
+ghost use Rattle.qoi.specs.Qoi.{RgbaPixel, hash, Past};
 ghost use Rattle.qoi.specs.inner.Table.{Holds};
 ghost use Rattle.qoi.specs.inner.block.Lanes.{mask};
 ghost use Rattle.qoi.specs.inner.block.Planes.{AreSixteen, ArePlanes, AreFourWords, AreBlockWords};
 ghost use Rattle.qoi.specs.inner.block.Positions.{all_same, four_times, HasPutBlock};
 
-use crate::encode::block::lanes::where_is;
 use crate::encode::block::planes::{Planes, Words};
 use crate::encode::table::PixelTable;
 use std::simd::prelude::*;
@@ -24,28 +23,39 @@ pub(in crate::encode) fn index_positions(p: Planes) -> u8x16
     (u + u + s) & u8x16::splat(63)
 }
 
-/// Stores index positions in the last sixteen bytes of `out`, which has `ROOM` bytes. To read a
-/// position from there is faster than to take it from the vector. The compiler would take it from
-/// the vector, but for the byte that is stored in between (`Carry::store_run`): for all it knows,
-/// that is one of these.
+/// Stores index positions in the last sixteen bytes of `out`, which has `ROOM` bytes, but not if
+/// `FULL`. To read a position from there is faster than to take it from the vector. The compiler
+/// would take it from the vector, but for the byte that is stored in between (`Carry::store_run`):
+/// for all it knows, that is one of these.
 #[inline(always)]
-pub(in crate::encode) fn store_places<const ROOM: usize>(v: u8x16, out: &mut [u8])
+pub(in crate::encode) fn store_places<const ROOM: usize, const FULL: bool>(v: u8x16, out: &mut [u8])
     requires size { length out.old ≡ ROOM }
     requires room { 16 ≤ ROOM }
     ensures same { length out.new ≡ length out.old }
     ensures front { take (ROOM - 16) out.new ≡ take (ROOM - 16) out.old }
-    ensures lanes { drop (ROOM - 16) out.new ≡ v }
+    ensures lanes { FULL ≡ false → drop (ROOM - 16) out.new ≡ v }
 {
+    if FULL {
+        return;
+    }
     v.copy_to_slice(&mut out[ROOM - 16..]);
 }
 
-/// 255 in each lane whose pixel is transparent black, else 0.
+/// The index positions `lanes`, as `store_places` stored them in `out`, if it did.
 #[inline(always)]
-pub(in crate::encode) fn blanks(p: Planes) -> u8x16
-    ensures { (ps : List RgbaPixel) → AreSixteen ps → ArePlanes ps p
-        → result ≡ map (λ p. mask (pixel_eq p blank)) ps }
+pub(in crate::encode) fn read_places<'a, const ROOM: usize, const FULL: bool>(
+    lanes: &'a [u8; 16],
+    out: &'a [u8],
+) -> &'a [u8]
+    requires size { length out.now ≡ ROOM }
+    requires room { 16 ≤ ROOM }
+    requires stored { FULL ≡ false → drop (ROOM - 16) out.now ≡ lanes.now }
+    ensures { result.now ≡ lanes.now }
 {
-    where_is(p.r | p.g | p.b | p.a, 0)
+    if FULL {
+        return lanes;
+    }
+    &out[ROOM - 16..]
 }
 
 // Which of four packed pixels are those that were found: four bytes of 255 or 0 for each.

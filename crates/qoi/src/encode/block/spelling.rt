@@ -1,21 +1,22 @@
 //! The chunks of sixteen pixels, a lane for each: first and second bytes, and sizes (QOI
 //! specification 1.0, "Chunks"). A repeat has a run's byte, and size 0 unless a fresh pixel follows.
-ghost use Rattle.std.specs.Prelude.{◌≡◌, ◌<◌, ℕ, List, map, IsTrue};
+ghost use Rattle.std.specs.Prelude.{◌≡◌, ◌<◌, ℕ, Bool, List, map, IsTrue};
 ghost use Rattle.qoi.specs.Qoi.{RgbaPixel, IsPixel, run_max, hash};
 ghost use Rattle.qoi.specs.declared.types.Style.{Style};
 ghost use Rattle.qoi.specs.declared.types.Style.TheVariants.{Reference};
-ghost use Rattle.qoi.specs.inner.block.Bytes.{firsts, sizes};
+ghost use Rattle.qoi.specs.inner.block.Bytes.{firsts_in, sizes};
 ghost use Rattle.qoi.specs.inner.block.Counting.{counts};
 ghost use Rattle.qoi.specs.inner.block.Full.{AreFull};
-ghost use Rattle.qoi.specs.inner.block.LaneVectors.{AreBy, AreSteps, AreAsDiff, AreAsLuma, AreFits, AreChanges};
-ghost use Rattle.qoi.specs.inner.block.Lanes.{Lane, mask, step_of, diff_of, as_diff, same_alpha_mask, diff_mask, luma_mask, stand_mask, first_of, second_of, size_of};
+ghost use Rattle.qoi.specs.inner.block.LaneVectors.{AreBy, AreMasks, ArePlanesBy, AreFits, AreChanges};
+ghost use Rattle.qoi.specs.inner.block.Lanes.{Lane, mask, step_of, diff_of, as_diff, as_luma, same_alpha, fits_luma, first_of, second_of, size_of};
 ghost use Rattle.qoi.specs.inner.block.Planes.{AreSixteen, reds};
 ghost use Rattle.qoi.specs.inner.block.Spelling.{IsBlock, HasSpelled};
 ghost use Rattle.qoi.specs.inner.block.State.{State, lanes_of, is_rep};
 
 use crate::encode::block::counting::count_repeats;
 use crate::encode::block::lanes::{all_set, greater, lesser, where_is};
-use crate::encode::block::steps::{Changes, Steps};
+use crate::encode::block::planes::Planes;
+use crate::encode::block::steps::Changes;
 use std::simd::prelude::*;
 
 /// Which pixels fit a difference chunk, which fit a luma, and which keep alpha: 255 or 0.
@@ -41,53 +42,50 @@ pub(in crate::encode) struct Spelled {
 
 // Steps as a difference chunk has them: with 2 added.
 #[inline(always)]
-fn diff_steps(d: Steps) -> Steps
-    ensures { (ls : List Lane) → AreSteps ls d → AreAsDiff ls result }
+fn diff_steps(d: Planes) -> Planes
+    ensures { (ls : List Lane) → ArePlanesBy ls step_of d → ArePlanesBy ls as_diff result }
 {
     let two = u8x16::splat(2);
-    Steps {
+    Planes {
         r: d.r + two,
         g: d.g + two,
         b: d.b + two,
+        a: d.a,
     }
 }
 
 // Steps as a luma chunk has them: green's plus 32; red's and blue's minus green's, plus 8.
 #[inline(always)]
-fn luma_steps(d: Steps) -> Steps
-    ensures { (ls : List Lane) → AreSteps ls d → AreAsLuma ls result }
+fn luma_steps(d: Planes) -> Planes
+    ensures { (ls : List Lane) → ArePlanesBy ls step_of d → ArePlanesBy ls as_luma result }
 {
     let eight = u8x16::splat(8);
-    Steps {
+    Planes {
         r: d.r - d.g + eight,
         g: d.g + u8x16::splat(32),
         b: d.b - d.g + eight,
+        a: d.a,
     }
 }
 
-// Which pixels a difference chunk gives.
+// What the pixels fit, where `kept` says which keep alpha.
 #[inline(always)]
-fn fits_diff(as_diff: Steps, same_alpha: u8x16) -> u8x16
-    ensures { (ls : List Lane) → AreAsDiff ls as_diff → AreBy ls same_alpha_mask same_alpha
-        → AreBy ls diff_mask result }
+fn find_fits(diff: Planes, luma: Planes, kept: u8x16) -> Fits
+    ensures { (ls : List Lane) → ArePlanesBy ls as_diff diff → ArePlanesBy ls as_luma luma
+        → AreMasks ls same_alpha kept → AreFits ls result }
 {
-    where_is((as_diff.r | as_diff.g | as_diff.b) & u8x16::splat(0xfc), 0) & same_alpha
-}
-
-// Which pixels a luma chunk gives.
-#[inline(always)]
-fn fits_luma(as_luma: Steps, same_alpha: u8x16) -> u8x16
-    ensures { (ls : List Lane) → AreAsLuma ls as_luma → AreBy ls same_alpha_mask same_alpha
-        → AreBy ls luma_mask result }
-{
-    let above = ((as_luma.r | as_luma.b) & u8x16::splat(0xf0)) | (as_luma.g & u8x16::splat(0xc0));
-    where_is(above, 0) & same_alpha
+    let above = ((luma.r | luma.b) & u8x16::splat(0xf0)) | (luma.g & u8x16::splat(0xc0));
+    Fits {
+        diff: where_is((diff.r | diff.g | diff.b) & u8x16::splat(0xfc), 0) & kept,
+        luma: where_is(above, 0) & kept,
+        same_alpha: kept,
+    }
 }
 
 // The difference chunks of steps that fit.
 #[inline(always)]
-fn diffs(steps: Steps) -> u8x16
-    ensures { (ls : List Lane) → AreAsDiff ls steps → AreBy ls (λ l. diff_of (as_diff l)) result }
+fn diffs(steps: Planes) -> u8x16
+    ensures { (ls : List Lane) → ArePlanesBy ls as_diff steps → AreBy ls (λ l. diff_of (as_diff l)) result }
 {
     let t = steps.r + steps.r;
     let t = t + t + steps.g;
@@ -98,30 +96,30 @@ fn diffs(steps: Steps) -> u8x16
 // The first byte of each fresh pixel's chunk: as numbers, index position, difference, luma, RGB and
 // RGBA stand in this order, so it is the least that applies.
 #[inline(always)]
-fn first_bytes(as_diff: Steps, as_luma: Steps, fits: Fits, places: u8x16, stands: u8x16) -> u8x16
-    ensures { (ls : List Lane) → AreAsDiff ls as_diff → AreAsLuma ls as_luma → AreFits ls fits
-        → AreBy ls (λ l. hash l.px) places → AreBy ls stand_mask stands
+fn first_bytes(diff: Planes, luma: Planes, fits: Fits, places: u8x16, stands: u8x16) -> u8x16
+    ensures { (ls : List Lane) → ArePlanesBy ls as_diff diff → ArePlanesBy ls as_luma luma → AreFits ls fits
+        → AreBy ls (λ l. hash l.px) places → AreMasks ls (λ l. l.stands) stands
         → AreBy ls first_of result }
 {
     let full = u8x16::splat(0xff) + fits.same_alpha;
-    let first = lesser((as_luma.g + u8x16::splat(0x80)) | !fits.luma, full);
-    lesser(lesser(first, diffs(as_diff) | !fits.diff), places | !stands)
+    let first = lesser((luma.g + u8x16::splat(0x80)) | !fits.luma, full);
+    lesser(lesser(first, diffs(diff) | !fits.diff), places | !stands)
 }
 
 // The second byte: that of a luma, or red.
 #[inline(always)]
-fn second_bytes(as_luma: Steps, red: u8x16, luma: u8x16) -> u8x16
-    ensures { (ls : List Lane) → AreAsLuma ls as_luma → AreBy ls (λ l. l.px.r) red
-        → AreBy ls luma_mask luma → AreBy ls second_of result }
+fn second_bytes(luma: Planes, red: u8x16, fits: u8x16) -> u8x16
+    ensures { (ls : List Lane) → ArePlanesBy ls as_luma luma → AreBy ls (λ l. l.px.r) red
+        → AreMasks ls fits_luma fits → AreBy ls second_of result }
 {
-    let second = (as_luma.r << u8x16::splat(4)) + as_luma.b;
-    (luma & second) | (!luma & red)
+    let second = (luma.r << u8x16::splat(4)) + luma.b;
+    (fits & second) | (!fits & red)
 }
 
 // How many bytes each fresh pixel's chunk has.
 #[inline(always)]
 fn sizes_of(fits: Fits, stands: u8x16) -> u8x16
-    ensures { (ls : List Lane) → AreFits ls fits → AreBy ls stand_mask stands
+    ensures { (ls : List Lane) → AreFits ls fits → AreMasks ls (λ l. l.stands) stands
         → AreBy ls size_of result }
 {
     let one = stands | fits.diff;
@@ -136,9 +134,9 @@ fn sizes_of(fits: Fits, stands: u8x16) -> u8x16
 // where the mask is set, else 0; of `&` the compiler would make a blend, which takes longer.
 #[inline(always)]
 fn with_runs(first: u8x16, rep: u8x16, count: u8x16) -> u8x16
-    ensures { (ls : List Lane) (c : ℕ) → AreBy ls first_of first
-        → AreBy ls (λ l. mask (is_rep l)) rep → count ≡ counts c (map is_rep ls)
-        → result ≡ firsts c ls }
+    ensures { (ls : List Lane) (c : ℕ) (q : Bool) → AreBy ls first_of first
+        → AreMasks ls is_rep rep → count ≡ counts c (map is_rep ls)
+        → result ≡ firsts_in Reference q c ls }
 {
     greater(first, lesser(rep, count + u8x16::splat(0xbf)))
 }
@@ -147,7 +145,7 @@ fn with_runs(first: u8x16, rep: u8x16, count: u8x16) -> u8x16
 // would take longer.
 #[inline(always)]
 fn with_none(size: u8x16, rep: u8x16) -> u8x16
-    ensures { (ls : List Lane) → AreBy ls size_of size → AreBy ls (λ l. mask (is_rep l)) rep
+    ensures { (ls : List Lane) → AreBy ls size_of size → AreMasks ls is_rep rep
         → result ≡ sizes ls }
 {
     // Whether the next lane repeats, or there is none.
@@ -174,14 +172,10 @@ pub(in crate::encode) fn spell_block(
         → HasSpelled Reference s ps result }
 {
     let rep = changes.rep;
-    let same_alpha = where_is(changes.alpha, 0);
+    let same_alpha = where_is(changes.steps.a, 0);
     let as_diff = diff_steps(changes.steps);
     let as_luma = luma_steps(changes.steps);
-    let fits = Fits {
-        diff: fits_diff(as_diff, same_alpha),
-        luma: fits_luma(as_luma, same_alpha),
-        same_alpha,
-    };
+    let fits = find_fits(as_diff, as_luma, same_alpha);
     let first = first_bytes(as_diff, as_luma, fits, places, stands);
     let count = count_repeats(rep, carry);
     Spelled {
@@ -198,7 +192,7 @@ pub(in crate::encode) fn spell_block(
 /// position.
 #[inline(always)]
 pub(in crate::encode) fn are_full(alpha: u8x16, stands: u8x16) -> bool
-    ensures { (ls : List Lane) → AreBy ls (λ l. (step_of l).a) alpha → AreBy ls stand_mask stands
+    ensures { (ls : List Lane) → AreBy ls (λ l. (step_of l).a) alpha → AreMasks ls (λ l. l.stands) stands
         → IsTrue result → AreFull ls }
 {
     all_set(!(where_is(alpha, 0) | stands))

@@ -24,11 +24,14 @@ loop-rest-preserved g c =
           (subst (InBlocks (style_of g.row.STYLE) ahead n (pixels_in c.loop-rest.rest) more c.loop-rest.table c.loop-rest.now) (sym c.open.ensures) (i.written ahead n more whole b)));
     }
 
-pub returns-clause-less : goal.returns-clause-less
-returns-clause-less g c = elim c.loop-rest.invariant.less [
-  | inl less ↦ less
-  | inr same ↦ elim c.loop-rest-test.branch [
-    | then-loop-rest-test+else-has_block w ↦ absurd (true≢false (sym (w.has_block.ensures.1 (omega (arith, same.0, c.requires))) ∙ w.if-has_block.false))
-    | else-loop-rest-test w ↦ absurd (omega (arith, c.is_full.ensures.full w.loop-rest-test.false, same.1))
-  ]
-]
+pub returns : goal.returns
+returns g c = record {
+  less = elim c.loop-rest.invariant.less [
+    | inl less ↦ less
+    | inr same ↦ elim c.loop-rest-test.branch [
+      | then-loop-rest-test+else-has_block w ↦ absurd (true≢false (sym (w.has_block.ensures.1 (omega (arith, same.0, c.requires))) ∙ w.if-has_block.false))
+      | else-loop-rest-test w ↦ absurd (omega (arith, c.is_full.ensures.full w.loop-rest-test.false, same.1))
+    ]
+  ];
+  written = c.loop-rest.invariant.written;
+}

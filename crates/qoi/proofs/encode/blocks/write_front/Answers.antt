@@ -22,23 +22,18 @@ write_long_group-requires g c =
     sym (ap (all_repeat q) c.first-block.ensures.pixels) ∙ sym (all_unmarked q q ps refl) ∙ eq-eqb _ _ none in
     (omega arith, (omega arith, (omega arith, (omega arith, repeats_first (pixels_in c.args.front.raw) q c.args.front.enough all))))
 
+pub returns-then-marks-eq0 : goal.returns-then-marks-eq0
+returns-then-marks-eq0 g c = c.write_long_group.ensures (style_of g.row.STYLE) _ c.args.table.now
+
 pub write_marked_block-requires : goal.write_marked_block-requires
 write_marked_block-requires g c =
     let q = last_pixel c.args.carry.before in
     let marks = c.marks-marks.ensures c.args.carry.before c.first-block.ensures.changes ∙ ap (fresh_marks q) c.first-block.ensures.pixels in
     let some : 0 < c.marks-marks.result = omega (arith, c.if-marks-eq0.false) in
-    (omega arith, (omega arith, (omega arith, (omega arith, (omega arith, (some, (c.goes_by_marks.ensures.few c.if-goes_by_marks.true, marks)))))))
+    (omega arith, (omega arith, (omega arith, (omega arith, (omega arith, (some, (c.goes_by_marks.ensures.few c.if-goes_by_marks.true, (marks, c.goes_by_marks.ensures.later c.if-goes_by_marks.true))))))))
 
-pub returns-then-goes_by_marks-clause-written : goal.returns-then-goes_by_marks-clause-written
-returns-then-goes_by_marks-clause-written g c = λ ahead n more whole b.
-    c.write_marked_block.ensures.written ahead n more (omega (arith, c.goes_by_marks.ensures.later c.if-goes_by_marks.true, whole)) b
-
-pub returns-then-may_miss_blank-clause-written : goal.returns-then-may_miss_blank-clause-written
-returns-then-may_miss_blank-clause-written g c = λ ahead n more whole b.
-    c.write_group.ensures.written ahead n more b
-
-pub returns-clause-written : goal.returns-clause-written
-returns-clause-written g c = λ ahead n more whole b.
+pub returns : goal.returns
+returns g c =
     let block = c.first-block.ensures in
     let before = c.args.carry.before in
     let q = last_pixel before in
@@ -50,5 +45,8 @@ returns-clause-written g c = λ ahead n more whole b.
       no_blank = λ tight. c.may_miss_blank.ensures.none before block.changes c.if-may_miss_blank.false (c.style_of.ensures ∙ tight);
     } in
     let front = sym (take-append-drop 16 (pixels_in c.args.front.raw)) ∙ ap (λ ps. ps ++ after) (sym block.pixels) in
-    rw c.skip.ensures.rest (c.write_block-piece.ensures ahead n after more fits
-    (subst (λ ps. InBlocks (style_of g.row.STYLE) ahead n ps more c.args.table.now c.args.carry (kept_bytes c.args.piece.piece)) front b))
+    record {
+      less = omega (arith, c.skip.ensures.size);
+      written = λ ahead n more whole b. rw c.skip.ensures.rest (c.write_block-piece.ensures ahead n after more fits
+          (subst (λ ps. InBlocks (style_of g.row.STYLE) ahead n ps more c.args.table.now c.args.carry (kept_bytes c.args.piece.piece)) front b));
+    }

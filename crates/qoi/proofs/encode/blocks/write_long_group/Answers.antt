@@ -34,24 +34,22 @@ append_full_runs-requires g c =
 pub skip-requires : goal.skip-requires
 skip-requires g c = (omega arith, (near g (goal.at.skip-requires g c).After-repeats_of-ahead).within)
 
-pub returns-clause-less : goal.returns-clause-less
-returns-clause-less g c =
-    let group = near g (goal.at.returns-clause-less g c).After-repeats_of-ahead in
-    let some = near_some _ _ _ _ group c.requires (omega (arith, c.from-carried.ensures, c.args.carry.few)) in
-    omega (arith, c.skip.ensures.size, some)
-
-pub returns-clause-written : goal.returns-clause-written
-returns-clause-written g c = λ style all n more table b.
+pub returns : goal.returns
+returns g c = λ style least table.
+    let group = near g (goal.at.returns g c).After-repeats_of-ahead in
     let carry = c.args.carry in
     let ahead = c.repeats_of-ahead.result in
     let count = c.from-carried.result + ahead in
-    let group = near g (goal.at.returns-clause-written g c).After-repeats_of-ahead in
     let later = drop ahead (pixels_in c.args.raw) in
     let first = subst (λ x. slice_get x 0 ≡ Some (last_pixel carry.before)) group.same c.requires in
-    let start = subst (λ x. InBlocks style all n x more table carry (kept_bytes c.args.piece.piece)) group.same b in
     let few : slice_get later 0 ≡ Some (last_pixel carry.before) → count % 62 ≤ 45 = λ e. (elim group.ends as (λ _. count % 62 ≤ 45) [
       | inl other ↦ absurd (other e)
       | inr full ↦ omega (arith, full, c.from-carried.ensures, carry.few)
     ]) in
-    rw (c.skip.ensures.rest, c.append_full_runs.ensures.kept) (blocks_on carry _ ahead (count / 62) (omega (arith, c.from-carried.ensures)) (omega arith) refl
-    (ap (λ k. carry.placed && nat_lt (k + ahead) 62) c.from-carried.ensures) few first start)
+    record {
+      less = omega (arith, c.skip.ensures.size, near_some _ _ _ _ group c.requires (omega (arith, c.from-carried.ensures, carry.few)));
+      written = λ all n more whole b. rw (c.skip.ensures.rest, c.append_full_runs.ensures.kept)
+          (blocks_on carry _ ahead (count / 62) (omega (arith, c.from-carried.ensures)) (omega arith) refl
+          (ap (λ k. carry.placed && nat_lt (k + ahead) 62) c.from-carried.ensures) few first
+          (subst (λ x. InBlocks style all n x more table carry (kept_bytes c.args.piece.piece)) group.same b));
+    }

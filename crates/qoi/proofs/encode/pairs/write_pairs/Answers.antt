@@ -4,14 +4,11 @@ use Rattle.qoi.specs.inner.CoderLoop.{CoderBetween}
 use Rattle.qoi.specs.inner.CoderState.{style_of}
 use Rattle.qoi.specs.inner.Piece.{kept_bytes}
 use Rattle.qoi.specs.inner.Pixels.{pixels_in}
+use Rattle.qoi.proofs.encoding.blocks.InStyle.{in_style}
 use Rattle.qoi.proofs.encode.pairs.write_pairs.Goals as goal
 
 pub returns-clause-written : goal.returns-clause-written
 returns-clause-written g c = λ ahead more b.
-    let on = c.write_on-rest in
-    let coder = c.new-coder in
-    let style = coder.ensures.style ∙ c.style_of.ensures in
-    let start = subst (λ s. CoderBetween s ahead (pixels_in c.args.raw ++ more) c.args.table.now coder.result.last (kept_bytes c.args.piece.piece)) (sym style)
-    (subst (λ last. CoderBetween (style_of g.row.STYLE) ahead (pixels_in c.args.raw ++ more) c.args.table.now last (kept_bytes c.args.piece.piece)) (sym coder.ensures.last) b) in
-    subst (λ s. CoderBetween s ahead (pixels_in on.result ++ more) on.new.table on.new.coder.last (kept_bytes on.new.piece)) (on.ensures.style ∙ style)
-    (on.ensures.written ahead more start)
+    let coder = c.new-coder.ensures in
+    in_style (coder.style ∙ c.style_of.ensures) c.write_on-rest.ensures.style (c.write_on-rest.ensures.written ahead more)
+    (subst (λ last. CoderBetween (style_of g.row.STYLE) ahead (pixels_in c.args.raw ++ more) c.args.table.now last (kept_bytes c.args.piece.piece)) (sym coder.last) b)

@@ -2,7 +2,7 @@
 ghost use lib.Lanes.{digits_l};
 ghost use Rattle.std.specs.Prelude.{◌≡◌, ◌+◌, ◌*◌, ◌/◌, ◌%◌, ◌^◌, ◌≤◌, ◌<◌, ℕ, List, ◌++◌, length, take, slice_index};
 ghost use Rattle.qoi.specs.inner.block.Each.{AreStarts, HoldChunks, four_parts, eight_parts};
-ghost use Rattle.qoi.specs.inner.block.Storing.{AreSizes, AreChunkSizes, first_sum, sixteen_chunks};
+ghost use Rattle.qoi.specs.inner.block.Storing.{AreSizes, first_sum, sixteen_chunks};
 
 use crate::encode::block::lanes::{halves, lesser};
 use crate::encode::block::planes::{Planes, Words, make_words};
@@ -56,10 +56,10 @@ fn store_four(out: &mut [u8], at: usize, starts: [usize; 4], numbers: [u64; 4])
     requires few { (k : ℕ) → k < 4 → slice_index starts k ≤ 35 }
     requires room { at + 43 ≤ length out.old }
     ensures same { length out.new ≡ length out.old }
-    ensures written { (b s0 s1 s2 s3 : ℕ) → s0 ≤ 8 → s1 ≤ 8 → s2 ≤ 8 → s3 ≤ 8
-        → AreStarts starts b s0 s1 s2
-        → take (at + (b + s0 + s1 + s2 + s3)) out.new
-        ≡ take (at + b) out.old ++ four_parts s0 s1 s2 s3 numbers }
+    ensures written { (ss : List ℕ) (n : ℕ) → ((k : ℕ) → slice_index ss k ≤ 5)
+        → AreStarts starts n ss
+        → take (at + first_sum (n + 4) ss) out.new
+        ≡ take (at + first_sum n ss) out.old ++ four_parts ss n numbers }
 {
     store_number(out, at + starts[0], numbers[0]);
     store_number(out, at + starts[1], numbers[1]);
@@ -70,11 +70,11 @@ fn store_four(out: &mut [u8], at: usize, starts: [usize; 4], numbers: [u64; 4])
 // Stores eight chunks of these sizes from `at` on, and returns where they end.
 #[inline(always)]
 fn store_eight(out: &mut [u8], at: usize, sizes: u64, one: [u64; 4], two: [u64; 4]) -> usize
-    requires sizes { AreChunkSizes sizes }
+    requires sizes { (ss : List ℕ) × AreSizes ss sizes }
     requires room { at + 43 ≤ length out.old }
     ensures same { length out.new ≡ length out.old }
     ensures near { (at ≤ result) × (result ≤ at + 40) }
-    ensures written { (ss : List ℕ) → AreSizes ss sizes → ((k : ℕ) → slice_index ss k ≤ 5)
+    ensures written { (ss : List ℕ) → AreSizes ss sizes
         → take result out.new ≡ take at out.old ++ eight_parts ss one two }
 {
     let e = ends(sizes);

@@ -9,7 +9,5 @@ pub returns : goal.returns
 returns c = λ ps s e.
     let f = four_fours ps s in
     let r = all_words (take 4 ps) (take 4 (drop 4 ps)) (take 4 (drop 8 ps)) (take 4 (drop 12 ps)) c.args.p
-    (record { four = f.one_long; are = f.one_are }) (record { four = f.two_long; are = f.two_are })
-    (record { four = f.three_long; are = f.three_are }) (record { four = f.four_long; are = f.four_are })
-    (subst (λ xs. ArePlanes xs c.args.p) (sym f.whole) e) in
+    f.one f.two f.three f.four (subst (λ xs. ArePlanes xs c.args.p) (sym f.whole) e) in
     record { one_are = r.0.words_are; two_are = r.1.words_are; three_are = r.2.words_are; four_are = r.3.words_are }

@@ -6,4 +6,4 @@ pub returns-clause-front : goal.returns-clause-front
 returns-clause-front g c = front_stays g.row.ROOM c.args.out.now c.args.v c.requires.size c.requires.room c.fits-v.0
 
 pub returns-clause-lanes : goal.returns-clause-lanes
-returns-clause-lanes g c = end_stored g.row.ROOM c.args.out.now c.args.v c.requires.size c.requires.room c.fits-v.0
+returns-clause-lanes g c = λ _. end_stored g.row.ROOM c.args.out.now c.args.v c.requires.size c.requires.room c.fits-v.0

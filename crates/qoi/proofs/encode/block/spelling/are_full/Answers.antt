@@ -1,5 +1,5 @@
 -- Lane by lane.
-use Rattle.std.proofs.Common.{◌≡◌, ◌==◌, ◌||◌, not, List, map, bit_or, sym, ◌∙◌}
+use Rattle.std.proofs.Common.{◌==◌, map, bit_or, sym, ◌∙◌}
 use Rattle.std.proofs.lemmas.List.{length-map}
 use Rattle.std.proofs.lemmas.Simd.{map-map}
 use Rattle.qoi.specs.inner.block.Full.{is_full}

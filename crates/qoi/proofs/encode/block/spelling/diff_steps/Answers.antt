@@ -8,4 +8,5 @@ returns c = λ ls s. record {
   r_is = each _ (two _ s.r_is (flat 2 s.r_is)) (λ l is. refl);
   g_is = each _ (two _ s.g_is (flat 2 s.r_is)) (λ l is. refl);
   b_is = each _ (two _ s.b_is (flat 2 s.r_is)) (λ l is. refl);
+  a_is = s.a_is;
 }

@@ -12,14 +12,14 @@ use Rattle.qoi.specs.inner.block.Shuffled.{HaveCodes, HasCode}
 use Rattle.qoi.specs.inner.block.Planes.{AreSixteen, ArePlanes, AreBlockWords, block_pixels}
 use Rattle.qoi.specs.inner.block.Spelling.{HasSpelled}
 use Rattle.qoi.specs.inner.block.Storing.{sixteen_chunks}
-use Rattle.qoi.proofs.encoding.blocks.FullBlock.{full_written}
+use Rattle.qoi.proofs.encoding.blocks.FullBlock.{full_lanes, full_written}
 use Rattle.qoi.proofs.encoding.blocks.PackedBlock.{block_sixteen}
-use Rattle.qoi.proofs.encoding.blocks.ReferenceBytes.{chunks_of}
+use Rattle.qoi.proofs.encoding.blocks.LaneBytes.{chunks_of}
 use Rattle.qoi.proofs.encoding.lanes.LaneTests.{themselves}
 use Rattle.qoi.proofs.encoding.stores.SizeCodes.{sizes_coded}
 use Rattle.qoi.proofs.encoding.blocks.SpelledBlock.{lanes_long, lanes_are}
-use Rattle.qoi.proofs.encoding.stores.StoredBlock.{chunk_pixels, pixels_long, first_plane, second_plane, green_plane, blue_plane, sizes_long, sixteen_parts}
-use Rattle.qoi.proofs.encoding.blocks.StyledBlock.{firsts_in_long, pixels_in, out_in}
+use Rattle.qoi.proofs.encoding.stores.StoredBlock.{chunk_pixels, pixels_long, chunk_planes, sizes_long, sixteen_parts}
+use Rattle.qoi.proofs.encoding.blocks.StyledBytes.{firsts_long, pixels_in, out_in}
 use Rattle.qoi.proofs.encode.block.storing.store_sixteen.Goals as goal
 
 -- sixteen chunks of what is spelled out are the block's
@@ -30,17 +30,18 @@ block_is style s ps x p words sixteen last planes spelled carry made =
     let ls : List Lane = lanes_of s.held s.last ps in
     let fs : List ℕ = x.first in
     let long : length ls ≡ 16 = lanes_long s.held s.last ps ∙ sixteen.long in
-    let long_first : length fs ≡ 16 = ap length spelled.first_is ∙ firsts_in_long style s.placed s.carry ls ∙ long in
+    let long_first : length fs ≡ 16 = ap length spelled.first_is ∙ firsts_long style s.placed s.carry ls ∙ long in
     let long_size : length x.size ≡ 16 = ap length spelled.size_is ∙ sizes_long ls ∙ long in
     let same : length fs ≡ length ls = long_first ∙ sym long in
     let own : (f : RgbaPixel → ℕ) (xs : List ℕ) → xs ≡ map f ps → xs ≡ map (λ (l : Lane). f l.px) ls = λ f xs is. is ∙ sym (themselves f s.held s.last ps) in
     let pixels : AllByRecursion IsPixel (chunk_pixels ls fs) = subst (λ z. AllByRecursion IsPixel (chunk_pixels ls z)) (sym spelled.first_is)
     (pixels_in style s.placed s.carry ls (lanes_are s.held s.last ps last sixteen.are)) in
+    let chunks = chunk_planes ls fs same in
     let words_are = made (chunk_pixels ls fs) (record { long = pixels_long ls fs same ∙ long; are = pixels }) (record {
-      r_is = first_plane ls fs same;
-      g_is = spelled.second_is ∙ second_plane ls fs same;
-      b_is = own (λ q. q.g) p.g planes.g_is ∙ green_plane ls fs same;
-      a_is = own (λ q. q.b) p.b planes.b_is ∙ blue_plane ls fs same;
+      r_is = chunks.r_is;
+      g_is = spelled.second_is ∙ chunks.g_is;
+      b_is = own (λ q. q.g) p.g planes.g_is ∙ chunks.b_is;
+      a_is = own (λ q. q.b) p.b planes.b_is ∙ chunks.a_is;
     }) in
     sixteen_parts ls fs x.size p.a words long long_first long_size (own (λ q. q.a) p.a planes.a_is) pixels words_are
     ∙ (λ i. chunks_of ls (spelled.first_is i) (spelled.size_is i)) ∙ out_in style s ps sixteen.are (omega (arith, sixteen.long, carry))
@@ -56,7 +57,8 @@ returns-then-x-clause-written g c = λ style s last spelled carry few.
     let words = c.args.block.words in
     let sixteen = block_sixteen words c.args.block.packed in
     c.store_full.ensures.written
-    ∙ ap (λ z. take c.args.at c.args.out.now ++ z) (sym (full_written style s (block_pixels words) last sixteen.are (spelled.full_is c.if-x.true)))
+    ∙ ap (λ z. take c.args.at c.args.out.now ++ z) (sym (full_written style s (block_pixels words)
+    (full_lanes _ (lanes_are s.held s.last (block_pixels words) last sixteen.are) (spelled.full_is c.if-x.true))))
 
 pub returns-then-are_short-clause-written : goal.returns-then-are_short-clause-written
 returns-then-are_short-clause-written g c = λ style s last spelled carry few.

@@ -4,17 +4,16 @@ use Rattle.std.specs.Prelude.{min}
 use lib.Lanes.{number_l, zip2}
 use Rattle.std.proofs.lemmas.List.{length-take-le}
 use Rattle.qoi.specs.inner.block.Each.{HoldChunks, eight_parts}
-use Rattle.qoi.specs.inner.block.Storing.{AreChunkSizes}
+use Rattle.qoi.specs.inner.block.Storing.{AreSizes}
 use Rattle.qoi.proofs.encoding.stores.EachChunk.{widened_are, twice_eight}
-use Rattle.qoi.proofs.encoding.stores.StoredBlock.{take_few, drop_few, lesser_few, lesser_most, eight_sizes}
+use Rattle.qoi.proofs.encoding.stores.StoredBlock.{take_few, drop_few, lesser_few, lesser_most}
 use Rattle.qoi.proofs.encode.block.storing.each.store_each.Goals as goal
 
 -- the sizes of eight of sixteen lanes, none above five
 cut_sizes : (xs ss part : List ℕ) (n : ℕ) → ss ≡ zip2 min xs (replicate 16 5) → length part ≡ 8
-    → (((k : ℕ) → slice_index ss k ≤ 5) → (k : ℕ) → slice_index part k ≤ 5) → n ≡ number_l 256 part → AreChunkSizes n
+    → (((k : ℕ) → slice_index ss k ≤ 5) → (k : ℕ) → slice_index part k ≤ 5) → n ≡ number_l 256 part → (ss : List ℕ) × AreSizes ss n
 cut_sizes xs ss part n cut long of is =
-    let few : (k : ℕ) → slice_index part k ≤ 5 = of (λ k. omega (arith, ap (λ z. slice_index z k) cut, lesser_most 16 5 xs k)) in
-    record { ss = part; are = eight_sizes part n long few is; few = few }
+    (part, record { eight = long; few = of (λ k. omega (arith, ap (λ z. slice_index z k) cut, lesser_most 16 5 xs k)); is = is })
 
 pub store_eight-end-requires-clause-sizes : goal.store_eight-end-requires-clause-sizes
 store_eight-end-requires-clause-sizes c =
@@ -41,9 +40,9 @@ returns-clause-written c = λ few.
     let halves : c.halves-sizes.result ≡ number_l 256 (take 8 ss) ∷ number_l 256 (drop 8 ss) ∷ [] =
     c.halves-sizes.ensures ∙ ap (λ z. number_l 256 (take 8 z) ∷ number_l 256 (drop 8 z) ∷ []) (c.lesser.ensures ∙ lesser_few 16 5 ss c.fits-size.0 few) in
     let first = c.store_eight-end.ensures.written (take 8 ss)
-    (eight_sizes (take 8 ss) _ (length-take-le 8 ss (omega arith)) (take_few 8 5 ss few) (ap (λ z. slice_index z 0) halves)) (take_few 8 5 ss few) in
+    (record { eight = length-take-le 8 ss (omega arith); few = take_few 8 5 ss few; is = ap (λ z. slice_index z 0) halves }) in
     let second = c.store_eight.ensures.written (drop 8 ss)
-    (eight_sizes (drop 8 ss) _ (omega (arith, length-drop 8 ss)) (drop_few 8 5 ss few) (ap (λ z. slice_index z 1) halves)) (drop_few 8 5 ss few) in
+    (record { eight = omega (arith, length-drop 8 ss); few = drop_few 8 5 ss few; is = ap (λ z. slice_index z 1) halves }) in
     let low = eight_parts (take 8 ss) m1 m2 in
     let high = eight_parts (drop 8 ss) m3 m4 in
     let front = take c.args.at c.args.out.now in

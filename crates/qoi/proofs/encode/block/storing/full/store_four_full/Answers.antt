@@ -1,5 +1,5 @@
 -- Sixteen bytes are put, of which fifteen count, and eight, of which five do.
-use Rattle.std.proofs.Common.{◌≡◌, ℕ, ◌+◌, ◌-◌, List, ◌++◌, take, drop, refl, ap, ◌∙◌, arith, append_assoc}
+use Rattle.std.proofs.Common.{ℕ, ◌+◌, ◌-◌, List, ◌++◌, take, drop, refl, ap, ◌∙◌, arith, append_assoc}
 use borrow.Rule.Slice.PartMut.{put_mid}
 use lib.Lanes.{put_chunk}
 use Rattle.qoi.proofs.encoding.stores.FullChunks.{bytes_in, three, last, four_full}

@@ -20,10 +20,10 @@ use Rattle.qoi.proofs.encoding.blocks.BlockStep.{ready, first_repeats, group_sto
 use Rattle.qoi.proofs.encoding.blocks.BlockWritten.{Carrying}
 use Rattle.qoi.proofs.encoding.coder.CoderLink.{first_more}
 use Rattle.qoi.proofs.encoding.blocks.PackedBlock.{block_sixteen, block_words}
-use Rattle.qoi.proofs.encoding.lanes.RereadLanes.{read_back, end_stays}
+use Rattle.qoi.proofs.encoding.lanes.RereadLanes.{end_stays}
 use Rattle.qoi.proofs.encoding.stores.StoredBlock.{sizes_few}
 use Rattle.qoi.proofs.encoding.blocks.OpaqueBlock.{sizes_opaque}
-use Rattle.qoi.proofs.encode.block.write_any.Goals as goal
+use Rattle.qoi.proofs.encode.block.write_block.Goals as goal
 
 -- a chunk has at most as many bytes as a pixel has channels, and one more
 sizes_in : (n : ℕ) (s : State) (q : RgbaPixel) (ps : List RgbaPixel) (xs : List ℕ) → IsChannels n → (n ≡ 3 → AreOpaque ps) → (n ≡ 3 → q.a ≡ 255)
@@ -31,13 +31,16 @@ sizes_in : (n : ℕ) (s : State) (q : RgbaPixel) (ps : List RgbaPixel) (xs : Lis
 sizes_in n s q ps xs (inl three) opaque last e k = omega (arith, sizes_opaque s.held q ps (last three) (opaque three) k, ap (λ z. slice_index z k) e)
 sizes_in n s q ps xs (inr four) opaque last e k = omega (arith, sizes_few (lanes_of s.held q ps) k, ap (λ z. slice_index z k) e)
 
+pub read_places-requires-clause-stored : goal.read_places-requires-clause-stored
+read_places-requires-clause-stored g c = λ no.
+    end_stays g.row.ROOM c.args.piece.piece.end c.store_places.new.out c.store_run.new.out c.index_positions-places.result
+    (omega (arith, c.args.piece.not_full)) c.store_run.ensures.later (c.store_places.ensures.lanes no)
+
 pub put_block-stands-requires-clause-below : goal.put_block-stands-requires-clause-below
 put_block-stands-requires-clause-below g c = λ k lt.
     let w = c.args.block.words in
-    let v = c.index_positions-places.result in
     let at = c.index_positions-places.ensures (block_pixels w) (block_sixteen w c.args.block.packed) c.args.block.planes_are in
-    let lanes = end_stays g.row.ROOM c.args.piece.piece.end c.store_places.new.out c.store_run.new.out v (omega (arith, c.args.piece.not_full)) c.store_run.ensures.later c.store_places.ensures.lanes in
-    omega (arith, hashes_below (block_pixels w) k, ap (λ z. slice_index z k) (read_back g.row.ROOM c.store_run.new.out v (c.store_run.ensures.same ∙ c.store_places.ensures.same ∙ c.args.piece.piece.room) lanes ∙ at))
+    omega (arith, hashes_below (block_pixels w) k, ap (λ z. slice_index z k) (c.read_places.ensures ∙ at))
 
 pub returns : goal.returns
 returns g c = λ ahead n rest more fits b.
@@ -64,17 +67,16 @@ returns g c = λ ahead n rest more fits b.
       placed_is = refl;
     } in
     let end = c.args.piece.piece.end in
-    let v = c.index_positions-places.result in
-    let lanes = end_stays g.row.ROOM end c.store_places.new.out c.store_run.new.out v (omega (arith, c.args.piece.not_full)) c.store_run.ensures.later c.store_places.ensures.lanes in
     let low : end ≤ g.row.ROOM - 16 = omega (arith, c.args.piece.not_full) in
     let front : take end c.store_places.new.out ≡ take end c.args.piece.piece.bytes.now =
     sym (take-take end (g.row.ROOM - 16) c.store_places.new.out low) ∙ ap (take end) c.store_places.ensures.front ∙ take-take end (g.row.ROOM - 16) c.args.piece.piece.bytes.now low in
     let at : c.index_positions-places.result ≡ map hash all = c.index_positions-places.ensures all sixteen planes in
-    let put = c.put_block-stands.ensures s.held all b.state.table_is sixteen (block_words words c.args.block.packed) (read_back g.row.ROOM c.store_run.new.out v (c.store_run.ensures.same ∙ c.store_places.ensures.same ∙ c.args.piece.piece.room) lanes ∙ at) in
+    let put = c.put_block-stands.ensures s.held all b.state.table_is sixteen (block_words words c.args.block.packed) (c.read_places.ensures ∙ at) in
     let run : 0 < carry.count → take (end + 1) c.store_run.new.out ≡ take end c.store_places.new.out ++ group_bytes style carry.placed (last_pixel carry.before) carry.count =
     λ some. subst (λ s. take (end + 1) c.store_run.new.out ≡ take end c.store_places.new.out ++ group_bytes s carry.placed (last_pixel carry.before) carry.count) c.style_of-style.ensures (c.store_run.ensures.run some) in
     let placed : style ≡ Places → s.placed ≡ carry.placed = λ is. sym (b.state.placed_is is) in
-    let spelled = c.spell-x.ensures s b.to_write.before_is b.state.last_is fits.changes refl placed put.stands_are at in
+    let spelled = c.spell-x.ensures s b.state.last_is fits.changes refl placed
+    (record { sixteen = sixteen; last_is = b.to_write.before_is; red_is = planes.r_is; stands_are = put.stands_are; places_are = at }) in
     let x = c.spell-x.result in
     let rep = slice_index x.rep 0 in
     let q_is : q ≡ last_pixel carry.before = b.state.last_is in
