@@ -31,6 +31,7 @@ pub(crate) mod piece;
 mod pixel_writer;
 mod pixels;
 pub(crate) mod runs;
+mod sparse;
 mod table;
 
 use crate::encode::chunks::{FEW_BYTES, encode_file, fill_few};

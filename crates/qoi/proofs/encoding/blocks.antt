@@ -4,6 +4,7 @@ pub mod BlockPuts
 pub mod BlockStep
 pub mod BlockWritten
 pub mod FourFours
+pub mod FreshWords
 pub mod FrontBlock
 pub mod FullBlock
 pub mod InStyle

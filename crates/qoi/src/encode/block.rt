@@ -21,7 +21,7 @@ mod counting;
 mod lanes;
 pub(super) mod planes;
 mod positions;
-mod reading;
+pub(super) mod reading;
 mod single_repeats;
 mod spelling;
 mod steps;

@@ -25,6 +25,7 @@ use crate::encode::pairs::{go_by_pairs, write_pairs};
 use crate::encode::piece::{OpenPiece, Piece, REPEATS_AT_ONCE};
 use crate::encode::pixels::{FrontBlock, Marked, PixelOf, Pixels};
 use crate::encode::runs::repeats_of;
+use crate::encode::sparse::{go_by_fresh, write_sparse};
 use crate::encode::table::PixelTable;
 use crate::types::Style::{self, Places, Reference, Tight};
 
@@ -274,6 +275,11 @@ pub(super) fn write_some<'a, 'p, const N: usize, const STYLE: u8, const ROOM: us
 {
     if go_by_pairs(last.px, raw) {
         let (rest, after, piece) = write_pairs::<N, STYLE, ROOM>(*last, table, piece, raw);
+        *last = after;
+        return (rest, piece);
+    }
+    if go_by_fresh::<N>(PixelOf { px: last.px }, raw) {
+        let (rest, after, piece) = write_sparse::<N, STYLE, ROOM>(*last, table, piece, raw);
         *last = after;
         return (rest, piece);
     }

@@ -16,9 +16,9 @@ use crate::encode::piece::Piece;
 use crate::encode::pixels::{FrontBlock, Group, Marked, Pixels};
 use crate::encode::table::PixelTable;
 
-// Whether at most two bits are set: each step drops the lowest.
+/// Whether at most two bits are set: each step drops the lowest.
 #[inline(always)]
-fn are_few(marks: u64) -> bool {
+pub(super) fn are_few(marks: u64) -> bool {
     let others = marks & marks.wrapping_sub(1);
     others & others.wrapping_sub(1) == 0
 }

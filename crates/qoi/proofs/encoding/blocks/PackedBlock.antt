@@ -7,11 +7,11 @@ use Rattle.qoi.specs.inner.Packed.{word, pixel_of_word}
 use Rattle.qoi.specs.inner.block.Planes.{AreFour, AreSixteen, AreBlockWords, ArePacked, pixels_of_words, block_pixels}
 
 -- a number of 32 bits is a pixel
-number_pixel : (w : ℕ) → w < 2 ^ 32 → IsPixel (pixel_of_word w)
+pub number_pixel : (w : ℕ) → w < 2 ^ 32 → IsPixel (pixel_of_word w)
 number_pixel w l = record { r = omega arith; g = omega arith; b = omega arith; a = omega arith }
 
 -- which is this number, packed
-repacked : (w : ℕ) → w < 2 ^ 32 → w ≡ word (pixel_of_word w)
+pub repacked : (w : ℕ) → w < 2 ^ 32 → w ≡ word (pixel_of_word w)
 repacked w l = omega arith
 
 -- the pixels of four numbers

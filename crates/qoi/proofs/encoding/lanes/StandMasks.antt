@@ -13,7 +13,7 @@ use Rattle.qoi.specs.inner.block.Planes.{AreFourWords}
 use Rattle.qoi.specs.inner.block.Positions.{all_same, four_times}
 
 -- equal words are equal pixels
-same_words : (p q : RgbaPixel) → IsPixel p → IsPixel q → eqb (word p) (word q) ≡ pixel_eq p q
+pub same_words : (p q : RgbaPixel) → IsPixel p → IsPixel q → eqb (word p) (word q) ≡ pixel_eq p q
 same_words p q ip iq = go (cases_pixel p q)
   where
     go : (p ≡ q) ⊎ (p ≢ q) → eqb (word p) (word q) ≡ pixel_eq p q
