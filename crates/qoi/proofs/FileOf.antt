@@ -1,19 +1,19 @@
 -- The file of an image: what holds of it.
-use Rattle.std.proofs.Common.{◌≡◌, ◌≢◌, ℕ, ◌+◌, ◌*◌, ◌^◌, ◌<◌, ◌≤◌, List, [], ◌∷◌, ◌++◌, length, take, min, slice_set, ◌-◌, refl, sym, ap, ◌∙◌, subst, arith, rules, append-nil, length-append}
+use Rattle.std.proofs.Common.{◌≡◌, ◌≢◌, ℕ, ◌+◌, ◌*◌, ◌^◌, ◌<◌, ◌≤◌, List, [], ◌∷◌, ◌++◌, length, take, min, ◌-◌, refl, sym, ap, ◌∙◌, subst, arith, rules, append-nil, length-append}
 use Rattle.std.proofs.Math.Nat.{mul_comm}
 use lib.Seq.{take-append_seam}
 use Rattle.qoi.specs.declared.types.Channels.{Channels}
 use Rattle.qoi.specs.declared.types.Channels.TheVariants.{Rgb, Rgba}
-use Rattle.qoi.specs.declared.types.ColorSpace.{ColorSpace}
 use Rattle.qoi.specs.declared.header.Header.{Header}
 use Rattle.qoi.specs.declared.chunk.Chunk.{Chunk}
-use Rattle.qoi.specs.declared.chunk.Chunk.TheVariants.{Place}
-use Rattle.qoi.specs.Qoi.{AreBytes, channels_number, colorspace_number, header_bytes, pixel_count, IsValid, RgbaPixel, AreChunks, bytes_of, chunk_bytes, Reaches, meaning, file, file_pixels, end_marker, IsFile}
+use Rattle.qoi.specs.Qoi.{AreBytes, channels_number, header_bytes, pixel_count, IsValid, RgbaPixel, bytes_of, chunk_bytes, Reaches, meaning, file, file_pixels, end_marker, IsFile}
 use Rattle.qoi.specs.Raw.{IsChannels, output, HasChannels, image_byte_count}
 use Rattle.qoi.specs.declared.types.Style.{Style}
 use Rattle.qoi.specs.declared.types.Style.TheVariants.{Reference, Places, Tight}
 use Rattle.qoi.specs.EncoderState.{EncoderState}
 use Rattle.qoi.specs.Written.{Written}
+use Rattle.qoi.specs.Regular.{Regular}
+use Rattle.qoi.specs.Shortest.{floor}
 use Rattle.qoi.specs.Styles.{WrittenIn}
 use Rattle.qoi.specs.Decoding.{DecodesFile}
 use Rattle.qoi.specs.WrittenList.{written_list}
@@ -60,155 +60,111 @@ text_some : (cs : List Chunk) → 0 < length (meaning cs) → 0 < length (chunk_
 text_some [] none = none
 text_some (c ∷ cs) some = omega (arith, length-append (bytes_of c) (chunk_bytes cs), length-bytes_of c)
 
--- another color space changes the fourteenth byte alone
-other_space : (h : Header) (space : ColorSpace) (cs : List Chunk)
-    → file (record h { colorspace = space }) cs ≡ slice_set (file h cs) 13 (colorspace_number space)
-other_space h space cs = refl
-
--- What the lists that are written for images have in common: the chunks are chunks and mean the
--- image, there is one list, it reaches the pixels, it fits, and no two neighbours name one index
--- position.
-pub record WritesLists (Lists : List RgbaPixel → List Chunk → Type 0) : Type 0 where
-  pub chunks : (image : List RgbaPixel) (cs : List Chunk) → Lists image cs → AreChunks cs
-  pub means : (image : List RgbaPixel) (cs : List Chunk) → Lists image cs → meaning cs ≡ image
-  pub one : (image : List RgbaPixel) (cs ds : List Chunk) → Lists image cs → Lists image ds → cs ≡ ds
-  pub reaches : (image : List RgbaPixel) (n : ℕ) (cs : List Chunk) → Lists image cs → length image ≡ n → Reaches n cs
-  pub fits : (image : List RgbaPixel) (channels n : ℕ) (cs : List Chunk) → HasChannels image channels → length image ≡ n
-      → Lists image cs → length (chunk_bytes cs) ≤ n * channels + n
-  pub apart : (image : List RgbaPixel) (cs front rest : List Chunk) (i : ℕ) → Lists image cs → cs ≡ front ++ Place i ∷ Place i ∷ rest → ⊥
-
--- so do those of each style
-written_lists : (style : Style) → WritesLists (WrittenIn style)
-written_lists style = record {
-  chunks = style_chunks style;
-  means = style_means style;
-  one = style_unique style;
-  reaches = style_reaches style;
-  fits = style_fits style;
-  apart = style_apart style;
-}
-
 module _ (h : Header) (raw : List ℕ) (valid : IsValid h) (size : length raw ≡ image_byte_count h) where
-  channels : IsChannels (channels_number h.channels)
-  channels = channels_are h.channels (channels_number h.channels) refl
+  abbrev image : List RgbaPixel
+  image = image_pixels h raw
 
-  image_size : length raw ≡ channels_number h.channels * pixel_count h
-  image_size = size ∙ mul_comm (pixel_count h) (channels_number h.channels)
+  -- how many bytes a pixel has
+  abbrev each : ℕ
+  each = channels_number h.channels
+
+  channels : IsChannels each
+  channels = channels_are h.channels each refl
+
+  image_size : length raw ≡ each * pixel_count h
+  image_size = size ∙ mul_comm (pixel_count h) each
 
   -- as many pixels as the header says
-  count : length (image_pixels h raw) ≡ pixel_count h
-  count = length-pixels_of (channels_number h.channels) (pixel_count h) raw channels image_size
+  count : length image ≡ pixel_count h
+  count = length-pixels_of each (pixel_count h) raw channels image_size
 
-  has : HasChannels (image_pixels h raw) (channels_number h.channels)
-  has = pixels_of_have (channels_number h.channels) raw channels
+  has : HasChannels image each
+  has = pixels_of_have each raw channels
 
-  module _ (Lists : List RgbaPixel → List Chunk → Type 0) (lists : WritesLists Lists) where
-    -- the chunks that are written fit
-    list_fits : (cs : List Chunk) → Lists (image_pixels h raw) cs → length (chunk_bytes cs) ≤ pixel_count h * channels_number h.channels + pixel_count h
-    list_fits cs w = lists.fits (image_pixels h raw) (channels_number h.channels) (pixel_count h) cs has count w
+  -- The file of a list that is written in a style.
+  module _ (style : Style) (cs : List Chunk) (w : WrittenIn style (image_pixels h raw) cs) where
+    means : meaning cs ≡ image
+    means = style_means style image cs w
 
-    -- they have a byte
-    text_long : (cs : List Chunk) → Lists (image_pixels h raw) cs → 0 < length (chunk_bytes cs)
-    text_long cs w = text_some cs (omega (arith, count, ap length (lists.means (image_pixels h raw) cs w), valid.0))
+    -- the list has a byte
+    text_long : 0 < length (chunk_bytes cs)
+    text_long = text_some cs (omega (arith, count, ap length means, valid.0))
 
-    -- they are those of a file
-    is_file : (cs : List Chunk) → Lists (image_pixels h raw) cs → IsFile h cs
-    is_file cs w = record {
-      valid = valid;
-      chunks = lists.chunks (image_pixels h raw) cs w;
-      reaches = lists.reaches (image_pixels h raw) (pixel_count h) cs w count;
-    }
+    -- it is that of a file
+    is_list : IsFile h cs
+    is_list = record { valid = valid; chunks = style_chunks style image cs w; reaches = style_reaches style image (pixel_count h) cs w count }
 
-    -- it comes back
-    back : (cs : List Chunk) (rest : List ℕ) → Lists (image_pixels h raw) cs → DecodesFile (file h cs ++ rest) h rest raw
-    back cs rest w =
-        let means = lists.means (image_pixels h raw) cs w in
-        let image : raw ≡ output (channels_number h.channels) (channels_number h.channels) (file_pixels h cs)
-        = sym (output-pixels_of (channels_number h.channels) (pixel_count h) raw channels image_size)
-        ∙ ap (output (channels_number h.channels) (channels_number h.channels))
-        (sym (take_whole (pixel_count h) (image_pixels h raw) count) ∙ ap (take (pixel_count h)) (sym means)) in
-        decodes_file h cs (file h cs ++ rest) rest raw (is_file cs w) refl image
+    -- the image comes back
+    back : (rest : List ℕ) → DecodesFile (file h cs ++ rest) h rest raw
+    back rest =
+        let pixels : file_pixels h cs ≡ image = ap (take (pixel_count h)) means ∙ take_whole (pixel_count h) image count in
+        let given : raw ≡ output each each (file_pixels h cs)
+        = sym (output-pixels_of each (pixel_count h) raw channels image_size) ∙ ap (output each each) (sym pixels) in
+        decodes_file h cs (file h cs ++ rest) rest raw is_list refl given
 
     -- also if nothing follows
-    whole : (cs : List Chunk) → Lists (image_pixels h raw) cs → DecodesFile (file h cs) h [] raw
-    whole cs w = subst (λ z. DecodesFile z h [] raw) (append-nil (file h cs)) (back cs [] w)
+    whole : DecodesFile (file h cs) h [] raw
+    whole = subst (λ z. DecodesFile z h [] raw) (append-nil (file h cs)) (back [])
 
-    -- what holds whatever lists are written
-    pub file_by : (cs : List Chunk) → Lists (image_pixels h raw) cs → IsFileBy Lists h raw (file h cs)
-    file_by cs w = record {
+    -- what holds in each style
+    file_by : IsFileBy (WrittenIn style) h raw (file h cs)
+    file_by = record {
       valid = valid;
       size = size;
       encoded = record { cs = cs; written = w; bytes_are = refl };
-      only = λ others e. e.bytes_are ∙ ap (file h) (lists.one (image_pixels h raw) e.cs cs e.written w);
-      fits = omega (arith, list_fits cs w, length-file h cs, max_is_exact h valid);
-      long = omega (arith, text_long cs w, length-file h cs);
-      comes_back = λ rest. back cs rest w;
-      color_space = λ space others e. e.bytes_are ∙ ap (file (record h { colorspace = space })) (lists.one (image_pixels h raw) e.cs cs e.written w)
-          ∙ other_space h space cs;
-      apart = λ others front rest i v. lists.apart (image_pixels h raw) others front rest i v;
+      only = λ others e. e.bytes_are ∙ ap (file h) (style_unique style image e.cs cs e.written w);
+      fits = omega (arith, style_fits style image each (pixel_count h) cs has count w, length-file h cs, max_is_exact h valid);
+      long = omega (arith, text_long, length-file h cs);
+      comes_back = back;
+      color_space = λ space others e. e.bytes_are ∙ ap (file (record h { colorspace = space })) (style_unique style image e.cs cs e.written w);
+      apart = λ others front rest i v. style_apart style image others front rest i v;
     }
 
     -- what is read of it
-    pub read_by : (cs : List Chunk) → Lists (image_pixels h raw) cs → IsReadBack h raw (file h cs)
-    read_by cs w = record {
-      header = (whole cs w).header;
-      image = sym (file_image_is (file h cs) h [] raw (whole cs w));
-      header_then = λ rest. (back cs rest w).header;
-      image_then = λ rest. sym (file_image_is (file h cs ++ rest) h rest raw (back cs rest w));
-      rest_then = λ rest. sym (file_rest_is (file h cs ++ rest) h rest raw (back cs rest w));
-      stands = stands_after (file h cs) h [] raw (whole cs w);
-      stands_then = λ rest. stands_after (file h cs ++ rest) h rest raw (back cs rest w);
+    read_by : IsReadBack h raw (file h cs)
+    read_by = record {
+      header = whole.header;
+      image = sym (file_image_is (file h cs) h [] raw whole);
+      header_then = λ rest. (back rest).header;
+      image_then = λ rest. sym (file_image_is (file h cs ++ rest) h rest raw (back rest));
+      rest_then = λ rest. sym (file_rest_is (file h cs ++ rest) h rest raw (back rest));
+      stands = stands_after (file h cs) h [] raw whole;
+      stands_then = λ rest. stands_after (file h cs ++ rest) h rest raw (back rest);
     }
 
-  -- the chunks that are written fit
-  pub text_fits : (style : Style) (cs : List Chunk) → WrittenIn style (image_pixels h raw) cs
-      → length (chunk_bytes cs) ≤ pixel_count h * channels_number h.channels + pixel_count h
-  text_fits style = list_fits (WrittenIn style) (written_lists style)
+    -- it is near the shortest
+    near : IsNearShortest h raw (file h cs)
+    near =
+        let most = style_upper style image each cs has w in
+        let size_is = length-file h cs in
+        let least : (others : List Chunk) → Spans h raw others → Regular others → floor image + 22 ≤ length (file h others)
+        = λ others s regular. omega (arith, lower image others s.covers.0 regular s.covers.1, length-file h others) in
+        record {
+          floor_is_below = λ others s regular. lower image others s.covers.0 regular s.covers.1;
+          near_floor = omega arith;
+          near_others = λ others s regular. omega (arith, least others s regular);
+          four_at_most = λ others s regular. omega (arith, least others s regular, slack_most image each, four_channels h.channels);
+          none_shorter = λ other others s regular. omega (arith, least others s regular, slack_opens image each other);
+          all_regular = λ no_blank others s. no_blank_regular image others (subst (λ n. Reaches n others) (sym count) s.reaches) s.covers.1 no_blank;
+        }
 
-  -- it is near the shortest
-  near : (style : Style) (cs : List Chunk) → WrittenIn style (image_pixels h raw) cs → IsNearShortest h raw (file h cs)
-  near style cs w =
-      let image = image_pixels h raw in
-      let most = style_upper style image (channels_number h.channels) cs has w in
-      let size_is = length-file h cs in
-      record {
-        floor_is_below = λ others s regular. lower image others s.covers.0 regular s.covers.1;
-        near_floor = omega arith;
-        near_others = λ others s regular. omega (arith, lower image others s.covers.0 regular s.covers.1, length-file h others);
-        four_at_most = λ others s regular. omega (
-          arith,
-          lower image others s.covers.0 regular s.covers.1,
-          length-file h others,
-          slack_most image (channels_number h.channels),
-          four_channels h.channels,
-        );
-        none_shorter = λ other others s regular. omega (
-          arith,
-          lower image others s.covers.0 regular s.covers.1,
-          length-file h others,
-          slack_opens image (channels_number h.channels) other,
-        );
-        all_regular = λ no_blank others s. no_blank_regular image others (subst (λ n. Reaches n others) (sym count) s.reaches) s.covers.1 no_blank;
-      }
-
-  -- except in style Tight the list is regular, and as long as that of `Written`
-  as_reference : (style : Style) → style ≢ Tight → (cs : List Chunk) (w : WrittenIn style (image_pixels h raw) cs) → Written (image_pixels h raw) w.list
-      → IsAsReference style h raw (file h cs)
-  as_reference style other cs w written = record {
-    regular = λ others v. style_regular style (image_pixels h raw) others other v;
-    list = w.list;
-    written = written;
-    as_long = length-file h cs ∙ ap (λ k. 22 + k) (style_length style (image_pixels h raw) cs w) ∙ sym (length-file h w.list);
-  }
+    -- except in style Tight the list is regular, and as long as that of `Written`
+    as_reference : style ≢ Tight → Written (image_pixels h raw) w.list → IsAsReference style h raw (file h cs)
+    as_reference other written = record {
+      regular = λ others v. style_regular style image others other v;
+      list = w.list;
+      written = written;
+      as_long = omega (arith, length-file h cs, style_length style image cs w, length-file h w.list);
+    }
 
   -- how short it is in each style
   short_in : (style : Style) (cs : List Chunk) → WrittenIn style (image_pixels h raw) cs → IsShortIn style h raw (file h cs)
-  short_in Reference cs w = as_reference Reference (λ e. absurd (let x = e in cc)) cs w w.written
-  short_in Places cs w = as_reference Places (λ e. absurd (let x = e in cc)) cs w w.written
+  short_in Reference cs w = as_reference Reference cs w (λ e. absurd (let x = e in cc)) w.written
+  short_in Places cs w = as_reference Places cs w (λ e. absurd (let x = e in cc)) w.written
   short_in Tight cs w =
       let size_is = length-file h cs in
-      let exact = style_length Tight (image_pixels h raw) cs w ∙ tight_exact (image_pixels h raw) w.list w.written in
-      record { floor0_is = omega arith; shortest = λ others s. omega (arith, lower0 (image_pixels h raw) others s.covers.0 s.covers.1, length-file h others) }
+      let exact = style_length Tight image cs w ∙ tight_exact image w.list w.written in
+      record { floor0_is = omega arith; shortest = λ others s. omega (arith, lower0 image others s.covers.0 s.covers.1, length-file h others) }
 
   -- the list that is written
   list_is : (style : Style) → AreBytes raw → WrittenIn style (image_pixels h raw) (written_list style (image_pixels h raw))
@@ -218,11 +174,11 @@ module _ (h : Header) (raw : List ℕ) (valid : IsValid h) (size : length raw �
   pub file_of : (style : Style) → AreBytes raw → (cs : List Chunk) → WrittenIn style (image_pixels h raw) cs → IsFileOf style h raw (file h cs)
   unfolding image_file
   file_of style are cs w = record {
-    is_file = file_by (WrittenIn style) (written_lists style) cs w;
+    is_file = file_by style cs w;
     is_image_file = ap (file h) (style_unique style (image_pixels h raw) cs (written_list style (image_pixels h raw)) w (list_is style are));
     near_shortest = near style cs w;
     shortness = short_in style cs w;
-    read_back = read_by (WrittenIn style) (written_lists style) cs w;
+    read_back = read_by style cs w;
   }
 
 -- an image of valid size has a file

@@ -37,32 +37,15 @@ pub fn read_chunk(data: &[u8]) -> Option<(Chunk, &[u8])>
         → IsSomeAnd result (λ x. (x.0 ≡ c) × (x.1.now ≡ rest)) }
     ensures part { IsPartOfChunk «data».now → IsNone result }
 {
-    let [first, rest @ ..] = data else {
-        return None;
-    };
     // Each kind's bytes end where the next one's begin: those of runs of 63 and 64 are RGB's and
     // RGBA's.
-    match *first {
-        QOI_OP_INDEX..QOI_OP_DIFF => Some((Chunk::Place(*first), rest)),
-        QOI_OP_DIFF..QOI_OP_LUMA => Some((Chunk::Diff(*first), rest)),
-        QOI_OP_LUMA..QOI_OP_RUN => {
-            match rest {
-                [second, rest @ ..] => Some((Chunk::Luma(*first, *second), rest)),
-                _ => None,
-            }
-        }
-        QOI_OP_RUN..QOI_OP_RGB => Some((Chunk::Run(*first - (QOI_OP_RUN - 1)), rest)),
-        QOI_OP_RGB => {
-            match rest {
-                [r, g, b, rest @ ..] => Some((Chunk::Rgb(*r, *g, *b), rest)),
-                _ => None,
-            }
-        }
-        QOI_OP_RGBA => {
-            match rest {
-                [r, g, b, a, rest @ ..] => Some((Chunk::Rgba(*r, *g, *b, *a), rest)),
-                _ => None,
-            }
-        }
+    match data {
+        [b @ QOI_OP_INDEX..QOI_OP_DIFF, rest @ ..] => Some((Chunk::Place(*b), rest)),
+        [b @ QOI_OP_DIFF..QOI_OP_LUMA, rest @ ..] => Some((Chunk::Diff(*b), rest)),
+        [b @ QOI_OP_LUMA..QOI_OP_RUN, second, rest @ ..] => Some((Chunk::Luma(*b, *second), rest)),
+        [b @ QOI_OP_RUN..QOI_OP_RGB, rest @ ..] => Some((Chunk::Run(*b - (QOI_OP_RUN - 1)), rest)),
+        [QOI_OP_RGB, r, g, b, rest @ ..] => Some((Chunk::Rgb(*r, *g, *b), rest)),
+        [QOI_OP_RGBA, r, g, b, a, rest @ ..] => Some((Chunk::Rgba(*r, *g, *b, *a), rest)),
+        _ => None,
     }
 }

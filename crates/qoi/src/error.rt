@@ -1,4 +1,8 @@
 //! The errors of encoding and decoding.
+ghost use Rattle.std.specs.Prelude.{◌≡◌};
+ghost use Rattle.qoi.specs.declared.error.Error.TheVariants.{IoError, OutOfMemory};
+ghost use Rattle.qoi.specs.ErrorText.{printed};
+
 use crate::consts::QOI_MAGIC;
 use std::alloc::{AllocError, AllocFailed};
 use std::{fmt, io};
@@ -58,8 +62,6 @@ pub enum Error {
 pub type Result<T> = std::result::Result<T, Error>;
 
 impl fmt::Display for Error {
-    ghost use Rattle.qoi.specs.ErrorText.{printed};
-
     ghost output = { printed };
 
     fn fmt<W: fmt::Write>(&self, f: &mut fmt::Formatter<W>) -> fmt::Result {
@@ -101,9 +103,6 @@ impl fmt::Display for Error {
 impl std::error::Error for Error {}
 
 impl From<io::Error> for Error {
-    ghost use Rattle.std.specs.Prelude.{◌≡◌};
-    ghost use Rattle.qoi.specs.declared.error.Error.TheVariants.{IoError};
-
     ghost from_gives = { λ error e. e ≡ IoError error };
 
     /// `IoError` with this error.
@@ -113,9 +112,6 @@ impl From<io::Error> for Error {
 }
 
 impl From<AllocError> for Error {
-    ghost use Rattle.std.specs.Prelude.{◌≡◌};
-    ghost use Rattle.qoi.specs.declared.error.Error.TheVariants.{OutOfMemory};
-
     ghost from_gives = { λ _ e. e ≡ OutOfMemory };
 
     /// `OutOfMemory`.
@@ -125,9 +121,6 @@ impl From<AllocError> for Error {
 }
 
 impl<T: Drop> From<AllocFailed<T>> for Error {
-    ghost use Rattle.std.specs.Prelude.{◌≡◌};
-    ghost use Rattle.qoi.specs.declared.error.Error.TheVariants.{OutOfMemory};
-
     ghost from_gives = { λ _ e. e ≡ OutOfMemory };
 
     /// `OutOfMemory`.

@@ -1,6 +1,8 @@
 //! The header of a file (QOI specification 1.0, "QOI Header").
-ghost use Rattle.qoi.specs.Encoded.{max_len};
-ghost use Rattle.std.specs.Prelude.{◌≡◌, ◌*◌, take, IfOk};
+ghost use Rattle.qoi.specs.Encoded.{max_len, max_file_len};
+ghost use Rattle.qoi.specs.Qoi.{default_header, header_bytes, header_of, header_size, IsValid, number_at, pixel_count, tried_header};
+ghost use Rattle.qoi.specs.Raw.{capped_byte_count};
+ghost use Rattle.std.specs.Prelude.{◌≡◌, ◌+◌, ◌*◌, ◌≤◌, length, take, IfOk};
 ghost use Rattle.qoi.specs.declared.header.Header.{Header};
 
 use crate::consts::{QOI_HEADER_SIZE, QOI_MAGIC, QOI_PADDING_SIZE, QOI_PIXELS_MAX};
@@ -30,8 +32,6 @@ pub struct Header {
 }
 
 impl Default for Header {
-    ghost use Rattle.qoi.specs.Qoi.{default_header};
-
     ghost is_default = { λ header. header ≡ default_header };
 
     /// The header of one pixel of three channels in sRGB.
@@ -46,10 +46,6 @@ impl Default for Header {
 }
 
 impl Header {
-    ghost use Rattle.qoi.specs.Qoi.{header_bytes, header_of, tried_header, pixel_count, header_size, IsValid};
-    ghost use Rattle.qoi.specs.Raw.{capped_byte_count};
-    ghost use Rattle.qoi.specs.Encoded.{max_file_len};
-
     /// A header of these fields; `InvalidImageDimensions` if width times height is 0 or above
     /// 400,000,000.
     pub fn try_new(
@@ -99,51 +95,32 @@ impl Header {
         ensures read { result ≡ header_of bytes.now }
         ensures own { IfOk result (λ h. (take header_size bytes.now ≡ header_bytes h) × IsValid h) }
     {
-        let [
-            m0,
-            m1,
-            m2,
-            m3,
-            w0,
-            w1,
-            w2,
-            w3,
-            h0,
-            h1,
-            h2,
-            h3,
-            channels,
-            colorspace,
-            ..
-        ] = *bytes
-        else {
+        if bytes.len() < QOI_HEADER_SIZE {
             return Err(Error::UnexpectedBufferEnd);
-        };
-        let channels = Channels::try_from(channels)?;
-        let colorspace = ColorSpace::try_from(colorspace)?;
-        let magic = u32::from_be_bytes([m0, m1, m2, m3]);
+        }
+        let channels = Channels::try_from(bytes[12])?;
+        let colorspace = ColorSpace::try_from(bytes[13])?;
+        let magic = number_at(bytes, 0);
         if magic != QOI_MAGIC {
             return Err(Error::InvalidMagic { magic });
         }
-        let width = u32::from_be_bytes([w0, w1, w2, w3]);
-        let height = u32::from_be_bytes([h0, h1, h2, h3]);
+        let width = number_at(bytes, 4);
+        let height = number_at(bytes, 8);
         Header::try_new(width, height, channels, colorspace)
     }
 
     /// A copy with other channels.
-    pub fn with_channels(mut self, channels: Channels) -> Header
+    pub fn with_channels(self, channels: Channels) -> Header
         ensures { result ≡ record self { channels = channels } }
     {
-        self.channels = channels;
-        self
+        Header { channels, ..self }
     }
 
     /// A copy with another color space.
-    pub fn with_colorspace(mut self, colorspace: ColorSpace) -> Header
+    pub fn with_colorspace(self, colorspace: ColorSpace) -> Header
         ensures { result ≡ record self { colorspace = colorspace } }
     {
-        self.colorspace = colorspace;
-        self
+        Header { colorspace, ..self }
     }
 
     /// Width times height, in pixels.
@@ -168,6 +145,16 @@ impl Header {
     {
         max_len(self.width, self.height, self.channels.as_u8())
     }
+}
+
+// Four bytes from `i` on, as a number, the highest byte first.
+#[inline(always)]
+fn number_at(bytes: &[u8], i: usize) -> u32
+    requires { i + 4 ≤ length bytes.now }
+    ensures { result ≡ number_at bytes.now i }
+{
+    let four = &bytes[i..i + 4];
+    u32::from_be_bytes([four[0], four[1], four[2], four[3]])
 }
 
 // The most bytes that the file of an image of this size has, or the greatest `usize` if that is

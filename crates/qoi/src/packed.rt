@@ -1,5 +1,5 @@
 //! Pixels as single numbers of 32 bits.
-ghost use Rattle.std.specs.Prelude.{◌≡◌, ◌↔◌, ◌+◌, ◌*◌, ◌%◌, ◌^◌, ◌<◌, ◌≤◌, [], ◌∷◌, length, take, drop, replicate, IsTrue};
+ghost use Rattle.std.specs.Prelude.{◌≡◌, ◌↔◌, ◌+◌, ◌*◌, ◌%◌, ◌^◌, ◌<◌, ◌≤◌, length, take, drop, replicate, IsTrue};
 ghost use Rattle.qoi.specs.Qoi.{IsPixel, pixel, rgba, start, blank, hash};
 ghost use Rattle.qoi.specs.Raw.{IsChannels, output};
 ghost use Rattle.qoi.specs.inner.Packed.{word, pixel_of_word};
@@ -124,14 +124,6 @@ impl Packed {
         (self.0 / 0x100_0000) as u8
     }
 
-    /// Red, green, blue and alpha.
-    #[inline(always)]
-    pub(crate) fn bytes(self) -> [u8; 4]
-        ensures { result ≡ self.r ∷ self.g ∷ self.b ∷ self.a ∷ [] }
-    {
-        self.0.to_le_bytes()
-    }
-
     /// Its number.
     #[inline(always)]
     pub(crate) fn number(self) -> u32
@@ -139,15 +131,6 @@ impl Packed {
         ensures bytes { IsPixel self }
     {
         self.0
-    }
-
-    /// The number in the low half of 64 bits.
-    #[inline(always)]
-    pub(crate) fn wide(self) -> u64
-        ensures number { result ≡ word self }
-        ensures bytes { IsPixel self }
-    {
-        u64::from(self.0)
     }
 
     /// The `PART`th sixteen of the bytes that the pixel has when it is written sixteen times in `N`
@@ -159,7 +142,7 @@ impl Packed {
         ensures bytes { result ≡ take 16 (drop (16 * PART) (output N N (replicate 16 self))) }
         ensures sixteen { length result ≡ 16 }
     {
-        let word = self.wide();
+        let word = u64::from(self.number());
         let four = u64x2::splat(word * 0x1_0000_0001).to_le_bytes();
         if N == 4 {
             return four;
@@ -187,7 +170,7 @@ impl Packed {
         ensures position { result ≡ hash self }
         ensures within { result < 64 }
     {
-        let word = self.wide();
+        let word = u64::from(self.number());
         let spread = ((word & 0xff00_ff00) << 32) | (word & 0x00ff_00ff);
         (spread.wrapping_mul(HASH_FACTOR) >> 56) as u8 % 64
     }

@@ -1,5 +1,6 @@
 //! The number of channels and the color space of a header, and the style of an encoder.
 ghost use Rattle.std.specs.Prelude.{◌≡◌, ◌↔◌, IsTrue};
+ghost use Rattle.qoi.specs.Qoi.{channels_number, channels_of, colorspace_number, colorspace_of};
 
 use crate::error::Error;
 
@@ -10,17 +11,16 @@ use crate::error::Error;
 /// ```
 /// let number = ColorSpace::Linear.as_u8(); // 1
 /// ```
-#[derive(Clone, Copy, PartialEq, Eq, PartialOrd, Ord, Hash, Debug)]
+#[derive(Clone, Copy, PartialEq, Eq, PartialOrd, Ord, Default, Hash, Debug)]
 pub enum ColorSpace {
     /// sRGB with linear alpha.
+    #[default]
     Srgb = 0,
     /// All channels linear.
     Linear = 1,
 }
 
 impl ColorSpace {
-    ghost use Rattle.qoi.specs.Qoi.{colorspace_number};
-
     /// Whether the color space is sRGB with linear alpha.
     pub fn is_srgb(self) -> bool
         ensures { IsTrue result ↔ (self ≡ ColorSpace.Srgb) }
@@ -43,20 +43,7 @@ impl ColorSpace {
     }
 }
 
-impl Default for ColorSpace {
-    ghost use Rattle.qoi.specs.declared.types.ColorSpace.TheVariants.{Srgb};
-
-    ghost is_default = { λ colorspace. colorspace ≡ Srgb };
-
-    /// `Srgb`.
-    fn default() -> ColorSpace {
-        ColorSpace::Srgb
-    }
-}
-
 impl From<ColorSpace> for u8 {
-    ghost use Rattle.qoi.specs.Qoi.{colorspace_number};
-
     ghost from_gives = { λ colorspace n. n ≡ colorspace_number colorspace };
 
     /// The number that a header has for the color space: 0 for `Srgb`, 1 for `Linear`.
@@ -67,8 +54,6 @@ impl From<ColorSpace> for u8 {
 
 impl TryFrom<u8> for ColorSpace {
     type Error = Error;
-
-    ghost use Rattle.qoi.specs.Qoi.{colorspace_of};
 
     ghost try_from_gives = { λ n r. r ≡ colorspace_of n };
 
@@ -89,17 +74,16 @@ impl TryFrom<u8> for ColorSpace {
 /// ```
 /// let channels = Channels::try_from(4)?; // Channels::Rgba
 /// ```
-#[derive(Clone, Copy, PartialEq, Eq, PartialOrd, Ord, Hash, Debug)]
+#[derive(Clone, Copy, PartialEq, Eq, PartialOrd, Ord, Default, Hash, Debug)]
 pub enum Channels {
     /// Three channels: red, green and blue.
+    #[default]
     Rgb = 3,
     /// Four channels: red, green, blue and alpha.
     Rgba = 4,
 }
 
 impl Channels {
-    ghost use Rattle.qoi.specs.Qoi.{channels_number};
-
     /// Whether there are three channels.
     pub fn is_rgb(self) -> bool
         ensures { IsTrue result ↔ (self ≡ Channels.Rgb) }
@@ -122,20 +106,7 @@ impl Channels {
     }
 }
 
-impl Default for Channels {
-    ghost use Rattle.qoi.specs.declared.types.Channels.TheVariants.{Rgb};
-
-    ghost is_default = { λ channels. channels ≡ Rgb };
-
-    /// `Rgb`.
-    fn default() -> Channels {
-        Channels::Rgb
-    }
-}
-
 impl From<Channels> for u8 {
-    ghost use Rattle.qoi.specs.Qoi.{channels_number};
-
     ghost from_gives = { λ channels n. n ≡ channels_number channels };
 
     /// The number of channels: 3 for `Rgb`, 4 for `Rgba`.
@@ -146,8 +117,6 @@ impl From<Channels> for u8 {
 
 impl TryFrom<u8> for Channels {
     type Error = Error;
-
-    ghost use Rattle.qoi.specs.Qoi.{channels_of};
 
     ghost try_from_gives = { λ n r. r ≡ channels_of n };
 

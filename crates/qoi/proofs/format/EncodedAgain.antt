@@ -22,12 +22,7 @@ found_channels k Rgba = refl
 pub found_by : (k : Header) (d : Channels) (m n : ℕ) → m ≡ n * channels_number d → 0 < n
     → (if m % n == 0 then with_number k (channels_of (min (m / n) 255)) else Err (InvalidImageLength m k.width k.height))
     ≡ Ok (record k { channels = d })
-found_by k d m n size some =
-    let c = channels_number d in
-    let P : ℕ → ℕ → ℕ → Result Header Error = λ rest count all. if rest == 0 then with_number k (channels_of (min count 255))
-    else Err (InvalidImageLength all k.width k.height) in
-    ap (λ z. P (z % n) (z / n) m) size ∙ ap (λ z. P z (n * c / n) m) (mul-mod_right n c) ∙ ap (λ z. P 0 z m) (mul-div_cancel_left c some)
-    ∙ found_channels k d
+found_by k d m n size some = rw (size, mul-mod_right n (channels_number d), mul-div_cancel_left (channels_number d) some) (found_channels k d)
 
 -- raw bytes of a header's image are accepted with its width and height, and get its header, in sRGB
 pub encoded_again : (h : Header) (raw : List ℕ) → IsValid h → length raw ≡ image_byte_count h

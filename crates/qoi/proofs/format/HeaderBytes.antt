@@ -1,12 +1,13 @@
 -- A header's fourteen bytes are read as the header, and no other bytes are.
 use Rattle.std.proofs.Common.{◌≡◌, ℕ, ◌+◌, ◌*◌, ◌^◌, ◌<◌, ◌≤◌, zero, suc, List, [], ◌∷◌, ◌++◌, length, take, drop, arith, refl, ap, sym, ◌∙◌, subst, Bool, true, false, Option, Result, Ok, Err, IfOk, slice_index, nat_le, nat_lt, ◌==◌, cond, ◌&&◌, length-append}
-use Rattle.std.proofs.lemmas.List.{length-take-le, length-drop, drop_at, take-append-drop, take-append-le, drop-append-le, get_or_append_left}
+use Rattle.std.proofs.lemmas.List.{append-nil, length-take-le, drop_at}
 use Rattle.std.proofs.lemmas.Bool.{cond-true, le-ltb, ltb-false, le-leb, leb-true, and_from, and_parts, eqb-true}
 use Rattle.std.proofs.Math.Nat.{mul-zero, mul_comm, le-mul_of_pos_right}
 use Rattle.std.proofs.lemmas.Nat.{from_be_bytes-to_be_bytes_4, be_bytes_4}
 use Rattle.std.specs.Int.{w32, to_be_bytes, from_be_bytes}
 use Rattle.std.specs.Io.KnownBytes.{Consumes}
 use Rattle.qoi.specs.Decoding.{ReadsHeader}
+use Rattle.qoi.proofs.format.PartOfChunk.{byte_and}
 use Rattle.qoi.proofs.format.WholePixels.{take_whole}
 use Rattle.qoi.specs.declared.error.Error.{Error}
 use Rattle.qoi.specs.declared.error.Error.TheVariants.{InvalidMagic, InvalidImageDimensions, UnexpectedBufferEnd, IoError}
@@ -96,12 +97,6 @@ guard_false : {A E : Type 0} (b : Bool) (r : Result A E) (refusal : E) (x : A) �
 guard_false true r refusal x e = absurd cc
 guard_false false r refusal x e = (refl, e)
 
--- what bytes say besides their length, if their channels and color space are read
-record SaysRest (bytes : List ℕ) (c : Channels) (s : ColorSpace) (h : Header) : Type 0 where
-  pub magic : number_at bytes 0 ≡ magic_number
-  pub is_header : record { width = number_at bytes 4; height = number_at bytes 8; channels = c; colorspace = s } ≡ h
-  pub valid : IsValid h
-
 -- a header that is tried has the fields that were given, and is valid
 pub tried_says : (width height : ℕ) (c : Channels) (s : ColorSpace) (h : Header) → tried_header width height c s ≡ Ok h
     → (record { width = width; height = height; channels = c; colorspace = s } ≡ h) × IsValid h
@@ -112,48 +107,35 @@ tried_says width height c s h e =
     let same : k ≡ h = cc in
     (same, subst IsValid same (leb-true 1 (pixel_count k) bounds.0, leb-true (pixel_count k) pixels_max bounds.1))
 
--- dimensions that are taken are within bounds
-rest_from : (bytes : List ℕ) (c : Channels) (s : ColorSpace) (h : Header) → checked_header bytes c s ≡ Ok h → SaysRest bytes c s h
-rest_from bytes c s h e =
-    let outer = guard_true (number_at bytes 0 == magic_number) (tried_header (number_at bytes 4) (number_at bytes 8) c s)
-    (InvalidMagic (number_at bytes 0)) h e in
-    let inner = tried_says (number_at bytes 4) (number_at bytes 8) c s h outer.1 in
-    record { magic = eqb-true (number_at bytes 0) magic_number outer.0; is_header = inner.0; valid = inner.1 }
-
 -- bytes that are read as a header say it
 says_from : (bytes : List ℕ) (h : Header) → header_of bytes ≡ Ok h → SaysHeader bytes h
 says_from bytes h e =
     let long = guard_false (nat_lt (length bytes) 14) (with_channels_read bytes (channels_of (slice_index bytes 12))) UnexpectedBufferEnd h e in
-    with_channels (channels_of (slice_index bytes 12)) refl (ltb-false (length bytes) 14 long.0) long.1
+    both (channels_of (slice_index bytes 12)) (colorspace_of (slice_index bytes 13)) refl refl (ltb-false (length bytes) 14 long.0) long.1
   where
-    with_both : (c : Channels) → channels_of (slice_index bytes 12) ≡ Ok c → 14 ≤ length bytes
-        → (r : Result ColorSpace Error) → colorspace_of (slice_index bytes 13) ≡ r → with_channels_read bytes (Ok c) ≡ Ok h → SaysHeader bytes h
-    with_both c is_c long (Err x) is k = let f : Err x ≡ Ok h = rw is at k in absurd cc
-    with_both c is_c long (Ok s) is k =
+    both : (r : Result Channels Error) (q : Result ColorSpace Error) → channels_of (slice_index bytes 12) ≡ r → colorspace_of (slice_index bytes 13) ≡ q
+        → 14 ≤ length bytes → with_channels_read bytes r ≡ Ok h → SaysHeader bytes h
+    both (Err x) q is_c is long k = absurd cc
+    both (Ok c) (Err x) is_c is long k = let f : Err x ≡ Ok h = rw is at k in absurd cc
+    both (Ok c) (Ok s) is_c is long k =
         let f : checked_header bytes c s ≡ Ok h = rw is at k in
-        let rest = rest_from bytes c s h f in
+        let g = guard_true (number_at bytes 0 == magic_number) (tried_header (number_at bytes 4) (number_at bytes 8) c s)
+        (InvalidMagic (number_at bytes 0)) h f in
+        let tried = tried_says (number_at bytes 4) (number_at bytes 8) c s h g.1 in
         record {
           long = long;
-          channels = is_c ∙ ap (λ (x : Header). Ok x.channels) rest.is_header;
-          colorspace = is ∙ ap (λ (x : Header). Ok x.colorspace) rest.is_header;
-          magic = rest.magic;
-          width = ap (λ (x : Header). x.width) rest.is_header;
-          height = ap (λ (x : Header). x.height) rest.is_header;
-          valid = rest.valid;
+          channels = is_c ∙ ap (λ (x : Header). Ok x.channels) tried.0;
+          colorspace = is ∙ ap (λ (x : Header). Ok x.colorspace) tried.0;
+          magic = eqb-true (number_at bytes 0) magic_number g.0;
+          width = ap (λ (x : Header). x.width) tried.0;
+          height = ap (λ (x : Header). x.height) tried.0;
+          valid = tried.1;
         }
-
-    with_channels : (r : Result Channels Error) → channels_of (slice_index bytes 12) ≡ r → 14 ≤ length bytes → with_channels_read bytes r ≡ Ok h
-        → SaysHeader bytes h
-    with_channels (Err x) is long k = absurd cc
-    with_channels (Ok c) is long k = with_both c is long (colorspace_of (slice_index bytes 13)) refl k
 
 -- four bytes are bytes
 four_bytes : (a b c d : ℕ) → a < 256 → b < 256 → c < 256 → d < 256 → AreBytes (a ∷ b ∷ c ∷ d ∷ [])
-four_bytes a b c d ha hb hc hd zero = ha
-four_bytes a b c d ha hb hc hd (suc zero) = hb
-four_bytes a b c d ha hb hc hd (suc (suc zero)) = hc
-four_bytes a b c d ha hb hc hd (suc (suc (suc zero))) = hd
-four_bytes a b c d ha hb hc hd (suc (suc (suc (suc i)))) = omega arith
+four_bytes a b c d ha hb hc hd =
+    byte_and a (b ∷ c ∷ d ∷ []) ha (byte_and b (c ∷ d ∷ []) hb (byte_and c (d ∷ []) hc (byte_and d [] hd (λ i. omega arith))))
 
 -- bytes that say a header are its own, and then the rest
 head_from_says : (bytes : List ℕ) (h : Header) → AreBytes bytes → SaysHeader bytes h → bytes ≡ header_bytes h ++ drop 14 bytes
@@ -189,48 +171,30 @@ stream_header old new bytes (Ok h) size came e own = (bytes, came, size, sym e, 
 stream_header old new bytes (Err (IoError i)) size came e own = absurd (grind (arith, e))
 stream_header old new bytes (Err x) size came e own = (bytes, came, (size, sym e))
 
--- a number at the front of bytes isn't changed by what follows
-number_at-append : (bytes rest : List ℕ) (i : ℕ) → i + 4 ≤ length bytes → number_at (bytes ++ rest) i ≡ number_at bytes i
-number_at-append bytes rest i h =
-    ap (λ z. from_be_bytes w32 (take 4 z)) (drop-append-le i bytes rest (omega arith))
-    ∙ ap (from_be_bytes w32) (take-append-le 4 (drop i bytes) rest (omega (arith, length-drop i bytes)))
-
--- what fourteen bytes say, they say with any bytes after them
-says-append : (bytes rest : List ℕ) (h : Header) → SaysHeader bytes h → SaysHeader (bytes ++ rest) h
-says-append bytes rest h s =
-    let long = s.long in
-    record {
-      long = omega (arith, long, length-append bytes rest);
-      channels = ap channels_of (get_or_append_left bytes rest 0 12 (omega arith)) ∙ s.channels;
-      colorspace = ap colorspace_of (get_or_append_left bytes rest 0 13 (omega arith)) ∙ s.colorspace;
-      magic = number_at-append bytes rest 0 (omega arith) ∙ s.magic;
-      width = number_at-append bytes rest 4 (omega arith) ∙ s.width;
-      height = number_at-append bytes rest 8 (omega arith) ∙ s.height;
-      valid = s.valid;
-    }
-
--- and what they say with bytes after them, they say alone
-says-before : (bytes rest : List ℕ) (h : Header) → 14 ≤ length bytes → SaysHeader (bytes ++ rest) h → SaysHeader bytes h
-says-before bytes rest h long s = record {
-  long = long;
-  channels = sym (ap channels_of (get_or_append_left bytes rest 0 12 (omega arith))) ∙ s.channels;
-  colorspace = sym (ap colorspace_of (get_or_append_left bytes rest 0 13 (omega arith))) ∙ s.colorspace;
-  magic = sym (number_at-append bytes rest 0 (omega arith)) ∙ s.magic;
-  width = sym (number_at-append bytes rest 4 (omega arith)) ∙ s.width;
-  height = sym (number_at-append bytes rest 8 (omega arith)) ∙ s.height;
-  valid = s.valid;
+-- what bytes say, their first fourteen say with any bytes after them
+says_front : (bytes rest : List ℕ) (h : Header) → SaysHeader bytes h → SaysHeader (take 14 bytes ++ rest) h
+says_front (m0 ∷ m1 ∷ m2 ∷ m3 ∷ w0 ∷ w1 ∷ w2 ∷ w3 ∷ h0 ∷ h1 ∷ h2 ∷ h3 ∷ c ∷ s ∷ more) rest h says = record {
+  long = omega arith;
+  channels = says.channels;
+  colorspace = says.colorspace;
+  magic = says.magic;
+  width = says.width;
+  height = says.height;
+  valid = says.valid;
 }
+says_front bytes rest h says = let long = says.long in absurd (omega arith)
 
 -- the fourteen bytes at the front of bytes that are read as a header
 pub header_front : (bytes : List ℕ) (h : Header) → header_of bytes ≡ Ok h → (length (take 14 bytes) ≡ 14) × (header_of (take 14 bytes) ≡ Ok h)
 header_front bytes h e =
-    let s = says_from bytes h e in
-    let size = length-take-le 14 bytes s.long in
-    let whole : SaysHeader (take 14 bytes ++ drop 14 bytes) h = subst (λ z. SaysHeader z h) (sym (take-append-drop 14 bytes)) s in
-    (size, header_from_says (take 14 bytes) h (says-before (take 14 bytes) (drop 14 bytes) h (omega arith) whole))
+    let says = says_from bytes h e in
+    let read = header_from_says (take 14 bytes ++ []) h (says_front bytes [] h says) in
+    (length-take-le 14 bytes says.long, subst (λ z. header_of z ≡ Ok h) (append-nil (take 14 bytes)) read)
 
 -- bytes whose front is read as a header, and what follows it
 pub header_split : (bytes taken rest : List ℕ) (h : Header) → bytes ≡ taken ++ rest → length taken ≡ 14 → header_of taken ≡ Ok h
     → (header_of bytes ≡ Ok h) × (rest ≡ drop 14 bytes)
 header_split bytes taken rest h split size read =
-    (rw split (header_from_says (taken ++ rest) h (says-append taken rest h (says_from taken h read))), sym (ap (drop 14) split ∙ drop_at taken rest 14 size))
+    let same : take 14 taken ++ rest ≡ bytes = ap (λ z. z ++ rest) (take_whole 14 taken size) ∙ sym split in
+    let whole = header_from_says (take 14 taken ++ rest) h (says_front taken rest h (says_from taken h read)) in
+    (subst (λ z. header_of z ≡ Ok h) same whole, sym (ap (drop 14) split ∙ drop_at taken rest 14 size))

@@ -15,11 +15,7 @@ use Rattle.qoi.proofs.format.HeaderBytes.{channels_from, guard_true, tried_says}
 
 -- a number of channels, of which greater ones are given as 255, is found from itself alone
 number_from : (n : ℕ) (c : Channels) → channels_of (min n 255) ≡ Ok c → n ≡ channels_number c
-number_from n c e = exact c (channels_from (min n 255) c e)
-  where
-    exact : (c : Channels) → min n 255 ≡ channels_number c → n ≡ channels_number c
-    exact Rgb is = omega arith
-    exact Rgba is = omega arith
+number_from n c e = grind arith
 
 -- the header with channels that were found
 found : (k h : Header) (r : Result Channels Error) → with_number k r ≡ Ok h → (c : Channels) × (r ≡ Ok c) × (record k { channels = c } ≡ h)

@@ -1,6 +1,6 @@
 -- At most one verdict holds of any bytes, with one chunk list.
-use Rattle.std.proofs.Common.{◌≡◌, ℕ, ◌<◌, ◌≤◌, ◌⊎◌, inl, inr, List, [], ◌∷◌, ◌++◌, length, arith, refl, ap, sym, ◌∙◌, subst, append_assoc, length-append}
-use Rattle.std.proofs.lemmas.List.{append_cancel_left}
+use Rattle.std.proofs.Common.{◌≡◌, ℕ, ◌<◌, ◌≤◌, ◌⊎◌, inl, inr, List, [], ◌∷◌, ◌++◌, length, take, drop, arith, refl, ap, sym, ◌∙◌, subst, append_assoc, length-append}
+use Rattle.std.proofs.lemmas.List.{append_cancel_left, drop_at, take_at}
 use Rattle.qoi.specs.declared.chunk.Chunk.{Chunk}
 use Rattle.qoi.specs.Qoi.{Past, IsChunk, AreChunks, bytes_of, chunk_bytes, then_chunk, Each, then_chunks, meaning, end_marker}
 use Rattle.qoi.specs.Verdicts.{IsPartOfChunk, HasChunks, IsWhole, IsCut, IsWrong}
@@ -39,80 +39,76 @@ one_takes_after n past (c ∷ cs) (d ∷ ds) x y hc hd bc bd ec ed e =
     let more = one_takes_after n (then_chunk past c) cs ds x y hc.1 hd.1 bc.1 (subst Below (sym first.0) bd.1) ec (subst Ends (sym first.0) ed) first.1 in
     (cc, more.1)
 
--- the chunks have reached n pixels
-enough_ends : (n : ℕ) (cs : List Chunk) (x : List ℕ) → n ≤ length (meaning cs) → EndsChunks n (then_chunks [] cs) x
-enough_ends n cs x h = inl (omega (arith, length-meaning cs))
+-- chunks that begin the bytes, and what follows where reading ends
+record Reads (n : ℕ) (bytes : List ℕ) (cs : List Chunk) (x : List ℕ) : Type 0 where
+  pub has : HasChunks n bytes cs x
+  pub ends : EndsChunks n (then_chunks [] cs) x
 
 -- two readings of the same bytes are one
-one_takes : (n : ℕ) (bytes : List ℕ) (cs ds : List Chunk) (x y : List ℕ) → HasChunks n bytes cs x → HasChunks n bytes ds y
-    → EndsChunks n (then_chunks [] cs) x → EndsChunks n (then_chunks [] ds) y → (cs ≡ ds) × (x ≡ y)
-one_takes n bytes cs ds x y s t ec ed =
-    one_takes_after n [] cs ds x y s.chunks t.chunks s.stays_below t.stays_below ec ed (sym s.split ∙ t.split)
+one_reading : {n : ℕ} {bytes : List ℕ} {cs ds : List Chunk} {x y : List ℕ} → Reads n bytes cs x → Reads n bytes ds y → (cs ≡ ds) × (x ≡ y)
+one_reading {n = n} {cs = cs} {ds = ds} {x = x} {y = y} s t =
+    one_takes_after n [] cs ds x y s.has.chunks t.has.chunks s.has.stays_below t.has.stays_below s.ends t.ends (sym s.has.split ∙ t.has.split)
 
--- reading of cut bytes ends after their chunks
-cut_ends : (n : ℕ) (bytes : List ℕ) (cs : List Chunk) (x : List ℕ) → IsCut n bytes cs x → EndsChunks n (then_chunks [] cs) x
-cut_ends n bytes cs x h = ends n cs x h.ends
+-- chunks that reach n pixels are a reading
+enough : {n : ℕ} {bytes : List ℕ} {cs : List Chunk} {x : List ℕ} → HasChunks n bytes cs x → n ≤ length (meaning cs) → Reads n bytes cs x
+enough {cs = cs} has h = record { has = has; ends = inl (omega (arith, h, length-meaning cs)) }
+
+-- so are the chunks of cut bytes
+cut : {n : ℕ} {bytes : List ℕ} {cs : List Chunk} {x : List ℕ} → IsCut n bytes cs x → Reads n bytes cs x
+cut {n = n} {cs = cs} {x = x} c = record { has = c.has; ends = ends c.ends }
   where
-    ends : (n : ℕ) (cs : List Chunk) (x : List ℕ) → ((length (meaning cs) < n) × IsPartOfChunk x) ⊎ ((n ≤ length (meaning cs)) × (length x < 8))
-        → EndsChunks n (then_chunks [] cs) x
-    ends n cs x (inl (short, part)) = inr (omega (arith, length-meaning cs), part)
-    ends n cs x (inr (enough, part)) = enough_ends n cs x enough
+    ends : ((length (meaning cs) < n) × IsPartOfChunk x) ⊎ ((n ≤ length (meaning cs)) × (length x < 8)) → EndsChunks n (then_chunks [] cs) x
+    ends (inl (short, part)) = inr (omega (arith, short, length-meaning cs), part)
+    ends (inr (many, few)) = inl (omega (arith, many, length-meaning cs))
 
 -- cut bytes whose chunks reach n pixels have fewer than eight bytes after them
 cut_is_short : (n : ℕ) (bytes : List ℕ) (cs : List Chunk) (x : List ℕ) → IsCut n bytes cs x → n ≤ length (meaning cs) → length x < 8
-cut_is_short n bytes cs x h enough = short h.ends
+cut_is_short n bytes cs x h many = short h.ends
   where
     short : ((length (meaning cs) < n) × IsPartOfChunk x) ⊎ ((n ≤ length (meaning cs)) × (length x < 8)) → length x < 8
-    short (inl (below, part)) = absurd (omega arith)
-    short (inr (above, part)) = part
+    short (inl (below, part)) = absurd (omega (arith, below, many))
+    short (inr (above, few)) = few
 
 -- lists of one length that begin the same bytes are one, and so is what follows
 same_front : (a b x y : List ℕ) → length a ≡ length b → a ++ x ≡ b ++ y → (a ≡ b) × (x ≡ y)
-same_front [] [] x y h e = (refl, e)
-same_front [] (b ∷ bs) x y h e = absurd (omega arith)
-same_front (a ∷ «as») [] x y h e = absurd (omega arith)
-same_front (a ∷ as1) (b ∷ bs) x y h e =
-    let more = same_front as1 bs x y (omega arith) cc in
-    (cc, more.1)
+same_front a b x y h e = (
+  sym (take_at a x (length a) refl) ∙ ap (take (length a)) e ∙ take_at b y (length a) (sym h),
+  sym (drop_at a x (length a) refl) ∙ ap (drop (length a)) e ∙ drop_at b y (length a) (sym h),
+)
 
 -- bytes are whole in one way only
 pub whole_is_one : (n : ℕ) (bytes : List ℕ) (cs ds : List Chunk) (x y : List ℕ) → IsWhole n bytes cs x → IsWhole n bytes ds y → (cs ≡ ds) × (x ≡ y)
 whole_is_one n bytes cs ds x y s t =
-    let both = one_takes n bytes cs ds (end_marker ++ x) (end_marker ++ y) s.has t.has (enough_ends n cs (end_marker ++ x) s.enough)
-    (enough_ends n ds (end_marker ++ y) t.enough) in
-    (both.0, append_cancel_left end_marker x y both.1)
+    let both = one_reading (enough s.has s.enough) (enough t.has t.enough) in (both.0, append_cancel_left end_marker x y both.1)
 
 -- bytes are cut in one way only
 pub cut_is_one : (n : ℕ) (bytes : List ℕ) (cs ds : List Chunk) (x y : List ℕ) → IsCut n bytes cs x → IsCut n bytes ds y → (cs ≡ ds) × (x ≡ y)
-cut_is_one n bytes cs ds x y s t = one_takes n bytes cs ds x y s.has t.has (cut_ends n bytes cs x s) (cut_ends n bytes ds y t)
+cut_is_one n bytes cs ds x y s t = one_reading (cut s) (cut t)
 
 -- bytes are wrong in one way only
 pub wrong_is_one : (n : ℕ) (bytes : List ℕ) (cs ds : List Chunk) (eight other x y : List ℕ)
     → IsWrong n bytes cs eight x → IsWrong n bytes ds other y → (cs ≡ ds) × (eight ≡ other) × (x ≡ y)
 wrong_is_one n bytes cs ds eight other x y s t =
-    let both = one_takes n bytes cs ds (eight ++ x) (other ++ y) s.has t.has (enough_ends n cs _ s.enough) (enough_ends n ds _ t.enough) in
+    let both = one_reading (enough s.has s.enough) (enough t.has t.enough) in
     let ends = same_front eight other x y (s.length_is ∙ sym t.length_is) both.1 in
     (both.0, ends.0, ends.1)
 
 -- whole bytes aren't cut
 pub whole_not_cut : (n : ℕ) (bytes : List ℕ) (cs ds : List Chunk) (x part : List ℕ) → IsWhole n bytes cs x → IsCut n bytes ds part → ⊥
 whole_not_cut n bytes cs ds x part s t =
-    let both = one_takes n bytes cs ds (end_marker ++ x) part s.has t.has (enough_ends n cs (end_marker ++ x) s.enough) (cut_ends n bytes ds part t) in
-    let P : List Chunk → Type 0 = λ bs. n ≤ length (meaning bs) in
-    let short = cut_is_short n bytes ds part t (subst P both.0 s.enough) in
-    omega (arith, ap length both.1)
+    let both = one_reading (enough s.has s.enough) (cut t) in
+    let short = cut_is_short n bytes ds part t (subst (λ (bs : List Chunk). n ≤ length (meaning bs)) both.0 s.enough) in
+    omega (arith, ap length both.1, short)
 
 -- whole bytes aren't wrong
 pub whole_not_wrong : (n : ℕ) (bytes : List ℕ) (cs ds : List Chunk) (x eight rest : List ℕ) → IsWhole n bytes cs x → IsWrong n bytes ds eight rest → ⊥
 whole_not_wrong n bytes cs ds x eight rest s t =
-    let both = one_takes n bytes cs ds (end_marker ++ x) (eight ++ rest) s.has t.has (enough_ends n cs (end_marker ++ x) s.enough)
-    (enough_ends n ds _ t.enough) in
+    let both = one_reading (enough s.has s.enough) (enough t.has t.enough) in
     t.other (sym (same_front end_marker eight x rest (sym t.length_is) both.1).0)
 
 -- cut bytes aren't wrong
 pub cut_not_wrong : (n : ℕ) (bytes : List ℕ) (cs ds : List Chunk) (part eight rest : List ℕ) → IsCut n bytes cs part → IsWrong n bytes ds eight rest → ⊥
 cut_not_wrong n bytes cs ds part eight rest s t =
-    let both = one_takes n bytes cs ds part (eight ++ rest) s.has t.has (cut_ends n bytes cs part s) (enough_ends n ds _ t.enough) in
-    let P : List Chunk → Type 0 = λ bs. n ≤ length (meaning bs) in
-    let short = cut_is_short n bytes cs part s (subst P (sym both.0) t.enough) in
-    omega (arith, ap length both.1, length-append eight rest, t.length_is)
+    let both = one_reading (cut s) (enough t.has t.enough) in
+    let short = cut_is_short n bytes cs part s (subst (λ (bs : List Chunk). n ≤ length (meaning bs)) (sym both.0) t.enough) in
+    omega (arith, ap length both.1, length-append eight rest, t.length_is, short)

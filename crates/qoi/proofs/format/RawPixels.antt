@@ -1,9 +1,9 @@
 -- The pixels of raw bytes: they are pixels, of as many channels, and give the bytes back.
-use Rattle.std.proofs.Common.{◌≡◌, inl, inr, ℕ, zero, suc, ◌*◌, ◌<◌, List, [], ◌∷◌, ◌++◌, length, refl, ap, arith}
+use Rattle.std.proofs.Common.{◌≡◌, inl, inr, ℕ, zero, suc, ◌*◌, ◌<◌, List, [], ◌∷◌, ◌++◌, length, refl, sym, ap, ◌∙◌, arith}
 use Rattle.std.specs.List.{AllByRecursion}
 use Rattle.qoi.specs.Qoi.{RgbaPixel, IsPixel, pixel}
 use Rattle.qoi.specs.Raw.{IsChannels, output, pixels_of_3, pixels_of_4, pixels_of, AreOpaque, HasChannels}
-use Rattle.qoi.proofs.format.WholePixels.{by_channels}
+use Rattle.qoi.proofs.format.WholePixels.{by_channels, length-output}
 
 -- three bytes each: they are pixels
 pixels_3 : (bytes : List ℕ) → AllByRecursion (λ b. b < 256) bytes → AllByRecursion IsPixel (pixels_of_3 bytes)
@@ -30,22 +30,6 @@ pub pixels_of_have : (channels : ℕ) (bytes : List ℕ) → IsChannels channels
 pixels_of_have channels bytes (inl e) = inr (e, rw e (opaque_3 bytes))
 pixels_of_have channels bytes (inr e) = inl e
 
--- three bytes each: there are as many pixels
-count_3 : (bytes : List ℕ) (n : ℕ) → length bytes ≡ 3 * n → length (pixels_of_3 bytes) ≡ n
-count_3 [] zero e = refl
-count_3 (r ∷ g ∷ b ∷ bytes) (suc n) e = ap suc (count_3 bytes n (omega arith))
-count_3 _ _ e = absurd (omega arith)
-
--- four bytes each: there are as many pixels
-count_4 : (bytes : List ℕ) (n : ℕ) → length bytes ≡ 4 * n → length (pixels_of_4 bytes) ≡ n
-count_4 [] zero e = refl
-count_4 (r ∷ g ∷ b ∷ a ∷ bytes) (suc n) e = ap suc (count_4 bytes n (omega arith))
-count_4 _ _ e = absurd (omega arith)
-
--- there are as many pixels as the bytes have room for
-pub length-pixels_of : (channels n : ℕ) (bytes : List ℕ) → IsChannels channels → length bytes ≡ channels * n → length (pixels_of channels bytes) ≡ n
-length-pixels_of channels n bytes is = by_channels (λ c. length bytes ≡ c * n → length (pixels_of c bytes) ≡ n) is (count_3 bytes n) (count_4 bytes n)
-
 -- three bytes each: they give the bytes back
 back_3 : (bytes : List ℕ) (n : ℕ) → length bytes ≡ 3 * n → output 3 3 (pixels_of_3 bytes) ≡ bytes
 back_3 [] zero e = refl
@@ -62,6 +46,12 @@ back_4 _ _ e = absurd (omega arith)
 pub output-pixels_of : (channels n : ℕ) (bytes : List ℕ) → IsChannels channels → length bytes ≡ channels * n
     → output channels channels (pixels_of channels bytes) ≡ bytes
 output-pixels_of channels n bytes is = by_channels (λ c. length bytes ≡ c * n → output c c (pixels_of c bytes) ≡ bytes) is (back_3 bytes n) (back_4 bytes n)
+
+-- so there are as many pixels as the bytes have room for
+pub length-pixels_of : (channels n : ℕ) (bytes : List ℕ) → IsChannels channels → length bytes ≡ channels * n → length (pixels_of channels bytes) ≡ n
+length-pixels_of channels n bytes is e =
+    let made = sym (length-output channels channels (pixels_of channels bytes) is) ∙ ap length (output-pixels_of channels n bytes is e) ∙ e in
+    by_channels (λ c. c * length (pixels_of channels bytes) ≡ c * n → length (pixels_of channels bytes) ≡ n) is (λ k. omega (arith, k)) (λ k. omega (arith, k)) made
 
 -- three bytes each: the pixels of joined bytes
 append_3 : (xs ys : List ℕ) (n : ℕ) → length xs ≡ 3 * n → pixels_of_3 (xs ++ ys) ≡ pixels_of_3 xs ++ pixels_of_3 ys

@@ -4,7 +4,8 @@ use Rattle.std.proofs.lemmas.List.{ext_get_or, append_assoc, append-nil, length-
 use Rattle.std.proofs.Math.Nat.{add-suc, div-add-mod, mod-lt, mul-add, mul-suc, mul-zero, mul_comm, zero-mul, zero-add}
 use Rattle.std.proofs.Math.Seq.{take-add}
 use Rattle.std.proofs.lemmas.Bool.{cases_eq, cases_lt}
-use Rattle.std.proofs.lemmas.Nat.{mul-le, row_fits}
+use Rattle.std.proofs.lemmas.Grind.{common_steps}
+use Rattle.std.proofs.lemmas.Nat.{mul-le, row_fits, row-Below}
 use Rattle.qoi.specs.Rectangles.{row_bytes, rectangle, with_tile, IsOutside, KeepsOutside}
 
 -- one row more ends within the rows
@@ -12,15 +13,15 @@ pub row_end : (stride k rows : ℕ) → k < rows → stride * k + stride ≤ str
 row_end stride k rows below =
     omega (arith, row_fits k stride rows stride below (omega arith), mul_comm stride k, mul_comm stride rows)
 
+-- a part of a part of bytes is a part of them
+pub part_of_part : (left size l s : ℕ) (row : List ℕ) → l + s ≤ size → take s (drop l (take size (drop left row))) ≡ take s (drop (left + l) row)
+part_of_part left size l s row fits = grind (arith, common_steps, drop-take l (size - l) (drop left row), drop-drop l left row, fits)
+
 -- the part of a row stands in the raw bytes
 pub part_stands : (stride left size k : ℕ) (raw : List ℕ) → left + size ≤ stride
     → take size (drop left (row_bytes stride raw k)) ≡ take size (drop (stride * k + left) raw)
 part_stands stride left size k raw fits =
-    let m = stride - left in
-    let split : stride ≡ left + m = omega arith in
-    let row = drop (stride * k) raw in
-    ap (λ n. take size (drop left (take n row))) split ∙ ap (take size) (drop-take left m row)
-    ∙ take-take size m (drop left row) (omega arith) ∙ ap (take size) (drop-drop left (stride * k) raw)
+    part_of_part (stride * k) stride left size raw fits
 
 -- it has `size` bytes
 pub length-part : (stride left size k : ℕ) (raw : List ℕ) → left + size ≤ stride → stride * k + stride ≤ length raw
@@ -62,16 +63,11 @@ rows_follow stride top left m (suc n) size raw =
     ∙ append_assoc (rectangle stride top left m size raw) (rectangle stride (top + m) left n size raw) _
     ∙ ap (λ k. rectangle stride top left m size raw ++ (rectangle stride (top + m) left n size raw ++ take size (drop left (row_bytes stride raw k)))) next
 
--- a rectangle of no rows is empty
-no_rows : (stride top left size : ℕ) (raw : List ℕ) → rectangle stride top left 0 size raw ≡ []
-no_rows stride top left size raw = refl
-
 -- a rectangle of one row is the part of that row
 pub one_row : (stride top left size : ℕ) (raw : List ℕ) → rectangle stride top left 1 size raw ≡ take size (drop left (row_bytes stride raw top))
 one_row stride top left size raw =
     let none : top + 0 ≡ top = omega arith in
-    row_more stride top left 0 size raw ∙ ap (λ z. z ++ take size (drop left (row_bytes stride raw (top + 0)))) (no_rows stride top left size raw)
-    ∙ ap (λ k. take size (drop left (row_bytes stride raw k))) none
+    row_more stride top left 0 size raw ∙ ap (λ k. take size (drop left (row_bytes stride raw k))) none
 
 -- a rectangle that lies within the rows has `size` bytes of each
 pub length-rectangle : (stride top left rows size : ℕ) (raw : List ℕ) → left + size ≤ stride → stride * (top + rows) ≤ length raw
@@ -81,13 +77,8 @@ length-rectangle stride top left (suc rows) size raw fits inside =
     let below = row_end stride (top + rows) (top + suc rows) (omega arith) in
     let before = length-rectangle stride top left rows size raw fits (omega (arith, inside, below)) in
     let last = length-part stride left size (top + rows) raw fits (omega (arith, inside, below)) in
-    omega (
-      arith,
-      before,
-      last,
-      mul-suc size rows,
-      length-append (rectangle stride top left rows size raw) (take size (drop left (row_bytes stride raw (top + rows)))),
-    )
+    let both = length-append (rectangle stride top left rows size raw) (take size (drop left (row_bytes stride raw (top + rows)))) in
+    omega (arith, before, last, both, mul-suc size rows)
 
 -- a rectangle that lies within a picture of so many rows, too
 pub length-part_of_picture : (stride height top left rows size : ℕ) (raw : List ℕ) → length raw ≡ stride * height → top + rows ≤ height → left + size ≤ stride
@@ -134,14 +125,6 @@ row_of_rectangle stride top left rows size i raw fits inside below =
     ∙ ap (take size) (drop_at front (row ++ later) (size * i) (length-rectangle stride top left i size raw fits (omega (arith, inside, upper))))
     ∙ take_at row later size (length-part stride left size (top + i) raw fits (omega (arith, inside, upper)))
 
--- a part of a part of a row is a part of the row
-pub part_of_part : (left size l s : ℕ) (row : List ℕ) → l + s ≤ size → take s (drop l (take size (drop left row))) ≡ take s (drop (left + l) row)
-part_of_part left size l s row fits =
-    let m = size - l in
-    let split : size ≡ l + m = omega arith in
-    ap (λ n. take s (drop l (take n (drop left row)))) split ∙ ap (take s) (drop-take l m (drop left row))
-    ∙ take-take s m (drop l (drop left row)) (omega arith) ∙ ap (take s) (drop-drop l left row)
-
 -- a rectangle of a rectangle is one of the picture
 pub rectangle_of_rectangle : (stride top left rows size t l r s : ℕ) (raw : List ℕ) → left + size ≤ stride → stride * (top + rows) ≤ length raw
     → l + s ≤ size → t + r ≤ rows
@@ -175,9 +158,7 @@ next_row stride k raw given row size is =
 
 -- one row more at the front
 pub front_more : (stride k : ℕ) (raw : List ℕ) → take (stride * (k + 1)) raw ≡ take (stride * k) raw ++ row_bytes stride raw k
-front_more stride k raw =
-    let more : stride * (k + 1) ≡ stride * k + stride = omega (arith, mul-suc stride k) in
-    ap (λ n. take n raw) more ∙ take-add (stride * k) stride raw
+front_more stride k raw = grind (arith, common_steps, mul-suc stride k, take-add (stride * k) stride raw)
 
 -- a rectangle of the first rows is one of the picture
 pub of_first_rows : (stride top left rows size : ℕ) (front more : List ℕ) → stride * (top + rows) ≤ length front
@@ -226,58 +207,32 @@ module _ (stride top left rows size : ℕ) (old new row : List ℕ) (fits : left
 
   -- as many bytes as before
   length-put : length new ≡ length old
-  length-put = omega (
-    arith,
-    ap length is,
-    length-append front (row ++ later),
-    length-append row later,
-    length-front,
-    many,
-    before_end,
-    length-drop size (drop at old),
-    length-drop at old,
-  )
+  length-put = grind (arith, common_steps, is, length-front, many, before_end)
 
   -- a byte before them stays
   before : (p : ℕ) → p < at → get_or new p 0 ≡ get_or old p 0
-  before p below = ap (λ z. get_or z p 0) is ∙ get_or_append_left front (row ++ drop size (drop at old)) 0 p (omega (arith, below, length-front))
-      ∙ get_or-take at old p 0 below
+  before p below = grind (arith, common_steps, is, length-front, below)
 
   -- so does a byte behind them
   behind : (p : ℕ) → at + size ≤ p → get_or new p 0 ≡ get_or old p 0
-  behind p above =
-      let same : at + (size + (p - at - size)) ≡ p = omega (arith, above) in
-      ap (λ z. get_or z p 0) is ∙ get_or-append_right front (row ++ drop size (drop at old)) at p 0 length-front (omega (arith, above))
-      ∙ get_or-append_right row (drop size (drop at old)) size (p - at) 0 many (omega (arith, above))
-      ∙ get_or-drop size (drop at old) (p - at - size) 0 ∙ get_or-drop at old (size + (p - at - size)) 0 ∙ ap (λ q. get_or old q 0) same
+  behind p above = grind (arith, common_steps, is, length-front, many, above)
 
-  -- a byte of an earlier or a later row stays
-  other_row : (i j : ℕ) → j < stride → i ≢ top + rows → get_or new (stride * i + j) 0 ≡ get_or old (stride * i + j) 0
-  other_row i j within other = ⊎_elim
-      (λ earlier. before (stride * i + j) (omega (arith, within, row_end stride i (top + rows) earlier)))
-      (λ after. behind (stride * i + j) (omega (arith, fits, row_end stride (top + rows) i (later_row after))))
-      (cases_lt i (top + rows))
+  -- a byte outside of the rectangle with this row stands before or behind them
+  apart : (i j : ℕ) → j < stride → IsOutside top left (rows + 1) size i j → (stride * i + j < at) ⊎ (at + size ≤ stride * i + j)
+  apart i j within out = elim (cases_lt i (top + rows)) as (λ _. (stride * i + j < at) ⊎ (at + size ≤ stride * i + j)) [
+    | inl earlier ↦ inl (omega (arith, within, row_end stride i (top + rows) earlier))
+    | inr from ↦ elim (cases_lt (top + rows) i) as (λ _. (stride * i + j < at) ⊎ (at + size ≤ stride * i + j)) [
+      | inl later ↦ inr (omega (arith, fits, row_end stride (top + rows) i later))
+      | inr to ↦ let same : i ≡ top + rows = omega (arith, from, to) in beside out (ap (λ k. stride * k) same) same
+    ]
+  ]
     where
-      later_row : top + rows ≤ i → top + rows < i
-      later_row after = omega (arith, after, other)
-
-  -- a byte of this row that isn't in the rectangle stays
-  this_row : (j : ℕ) → (j < left) ⊎ (left + size ≤ j) → get_or new (stride * (top + rows) + j) 0 ≡ get_or old (stride * (top + rows) + j) 0
-  this_row j (inl early) = before (stride * (top + rows) + j) (omega (arith, early))
-  this_row j (inr late) = behind (stride * (top + rows) + j) (omega (arith, late))
-
-  -- beside the rectangle all bytes of all rows stay
-  beside : (i j : ℕ) → j < stride → (j < left) ⊎ (left + size ≤ j) → get_or new (stride * i + j) 0 ≡ get_or old (stride * i + j) 0
-  beside i j within next = ⊎_elim
-      (λ same. ap (λ k. get_or new (stride * k + j) 0) same ∙ this_row j next ∙ ap (λ k. get_or old (stride * k + j) 0) (sym same))
-      (λ other. other_row i j within other)
-      (cases_eq i (top + rows))
-
-  -- a byte outside of the rectangle with this row stays
-  stays : (i j : ℕ) → j < stride → IsOutside top left (rows + 1) size i j → get_or new (stride * i + j) 0 ≡ get_or old (stride * i + j) 0
-  stays i j within (inl above) = other_row i j within (omega (arith, above))
-  stays i j within (inr (inl below)) = other_row i j within (omega (arith, below))
-  stays i j within (inr (inr next)) = beside i j within next
+      beside : IsOutside top left (rows + 1) size i j → stride * i ≡ stride * (top + rows) → i ≡ top + rows
+          → (stride * i + j < at) ⊎ (at + size ≤ stride * i + j)
+      beside (inl above) row same = absurd (omega (arith, above, same))
+      beside (inr (inl below)) row same = absurd (omega (arith, below, same))
+      beside (inr (inr (inl early))) row same = inl (omega (arith, early, row))
+      beside (inr (inr (inr late))) row same = inr (omega (arith, late, row))
 
   -- it is outside of the rectangle without this row, too
   outside_less : (i j : ℕ) → IsOutside top left (rows + 1) size i j → IsOutside top left rows size i j
@@ -289,7 +244,8 @@ module _ (stride top left rows size : ℕ) (old new row : List ℕ) (fits : left
   pub outside_put : {start : List ℕ} → KeepsOutside stride top left rows size start old → KeepsOutside stride top left (rows + 1) size start new
   outside_put k = record {
     length_is = length-put ∙ k.length_is;
-    same = λ i j within out. stays i j within out ∙ k.same i j within (outside_less i j out);
+    same = λ i j within out. ⊎_elim (before (stride * i + j)) (behind (stride * i + j)) (apart i j within out)
+        ∙ k.same i j within (outside_less i j out);
   }
 
 -- nothing was put in yet
@@ -315,7 +271,7 @@ rows_with_tile : (stride top left rows size : ℕ) (tile raw : List ℕ) → lef
     → (rectangle stride top left rows size (with_tile stride top left rows size tile raw) ≡ take (size * rows) tile)
     × KeepsOutside stride top left rows size raw (with_tile stride top left rows size tile raw)
 rows_with_tile stride top left zero size tile raw fits inside long = (
-  no_rows stride top left size raw ∙ ap (λ n. take n tile) (sym (mul-zero size)),
+  ap (λ n. take n tile) (sym (mul-zero size)),
   subst (λ z. KeepsOutside stride top left 0 size raw z) (sym (with_no_row stride top left size tile raw)) (keeps_all stride top left 0 size raw),
 )
 rows_with_tile stride top left (suc rows) size tile raw fits inside long =
@@ -377,19 +333,7 @@ module _ (stride top left rows size height : ℕ) (old new : List ℕ) (within :
 
   -- and any other
   same_byte : (i j : ℕ) → j < stride → get_or new (stride * i + j) 0 ≡ get_or old (stride * i + j) 0
-  same_byte i j byte = ⊎_elim
-      (λ above. kept.same i j byte (inl above))
-      (λ first. ⊎_elim
-      (λ last. ⊎_elim
-      (λ before. kept.same i j byte (inr (inr (inl before))))
-      (λ start. ⊎_elim
-      (λ end. same_there i j first last start end)
-      (λ after. kept.same i j byte (inr (inr (inr after))))
-      (cases_lt j (left + size)))
-      (cases_lt j left))
-      (λ later. kept.same i j byte (inr (inl later)))
-      (cases_lt i (top + rows)))
-      (cases_lt i top)
+  same_byte i j byte = grind (arith, kept.same i j byte, same_there i j)
 
   -- so the pictures are the same
   pub same_picture : new ≡ old
@@ -399,13 +343,6 @@ module _ (stride top left rows size height : ℕ) (old new : List ℕ) (within :
       let at = div-add-mod p stride in
       ap (λ q. get_or new q 0) (sym at) ∙ same_byte (p / stride) (p % stride) (mod-lt p some) ∙ ap (λ q. get_or old q 0) at)
 
--- a byte of the first rows is one of those rows
-row_below : (stride n p : ℕ) → p < stride * n → p / stride < n
-row_below stride n p below = elim (cases_lt (p / stride) n) [
-  | inl less ↦ less
-  | inr more ↦ absurd (omega (arith, mul-le stride n stride (p / stride) (omega arith) more, div-add-mod p stride, below))
-]
-
 -- rows above a rectangle stay
 rows_above : (stride top left rows size : ℕ) (old new : List ℕ) → KeepsOutside stride top left rows size old new → take (stride * top) new ≡ take (stride * top) old
 rows_above stride top left rows size old new k =
@@ -414,7 +351,7 @@ rows_above stride top left rows size old new k =
     let within : p < m = omega (arith, inside, length-take m new) in
     let at = div-add-mod p stride in
     get_or-take m new p 0 within ∙ ap (λ q. get_or new q 0) (sym at)
-    ∙ k.same (p / stride) (p % stride) (mod-lt p (some_bytes stride top p within)) (inl (row_below stride top p within))
+    ∙ k.same (p / stride) (p % stride) (mod-lt p (some_bytes stride top p within)) (inl (row-Below p stride stride top within (omega arith)).1)
     ∙ ap (λ q. get_or old q 0) at ∙ sym (get_or-take m old p 0 within))
 
 -- The first rows of a picture are those of another, and whole rows that were put in below them, too.

@@ -15,8 +15,7 @@ same_pixel p q r g b a = let e : pixel p.r p.g p.b p.a ≡ pixel q.r q.g q.b q.a
 -- the test passes for the same pixel
 pub pixel_eq-same : (p : RgbaPixel) → pixel_eq p p ≡ true
 unfolding pixel_eq
-pixel_eq-same p =
-    and_from _ _ (and_from _ _ (and_from _ _ (eq-eqb p.r p.r refl) (eq-eqb p.g p.g refl)) (eq-eqb p.b p.b refl)) (eq-eqb p.a p.a refl)
+pixel_eq-same p = grind arith
 
 -- the test passes for equal pixels
 pub pixel_eq-from : (p q : RgbaPixel) → p ≡ q → pixel_eq p q ≡ true
@@ -26,10 +25,7 @@ pixel_eq-from p q e = rw e (pixel_eq-same q)
 pub pixel_eq-true : (p q : RgbaPixel) → pixel_eq p q ≡ true → p ≡ q
 unfolding pixel_eq
 pixel_eq-true p q h =
-    let x = and_parts (eqb p.r q.r && eqb p.g q.g && eqb p.b q.b) (eqb p.a q.a) h in
-    let y = and_parts (eqb p.r q.r && eqb p.g q.g) (eqb p.b q.b) x.0 in
-    let z = and_parts (eqb p.r q.r) (eqb p.g q.g) y.0 in
-    same_pixel p q (eqb-true p.r q.r z.0) (eqb-true p.g q.g z.1) (eqb-true p.b q.b y.1) (eqb-true p.a q.a x.1)
+    same_pixel p q (grind arith) (grind arith) (grind arith) (grind arith)
 
 -- different pixels don't pass the test
 pub pixel_eq-ne : (p q : RgbaPixel) → p ≢ q → pixel_eq p q ≡ false

@@ -8,11 +8,7 @@ use Rattle.qoi.specs.inner.Table.{Holds}
 seen_copies : (n : ℕ) (p : RgbaPixel) (past : Past) (i : ℕ) → 0 < n → seen (replicate n p ++ past) i ≡ cond (eqb (hash p) i) p (seen past i)
 seen_copies zero p past i h = absurd (omega arith)
 seen_copies (suc zero) p past i h = refl
-seen_copies (suc (suc n)) p past i h = rw (seen_copies (suc n) p past i (omega arith)) (twice (eqb (hash p) i))
-  where
-    twice : (b : Bool) → cond b p (cond b p (seen past i)) ≡ cond b p (seen past i)
-    twice true = refl
-    twice false = refl
+seen_copies (suc (suc n)) p past i h = grind (arith, seen_copies (suc n) p past i (omega arith))
 
 -- the last of some copies is the pixel itself
 pub previous_copies : (n : ℕ) (p : RgbaPixel) (past : Past) → 0 < n → previous (replicate n p ++ past) ≡ p

@@ -7,19 +7,15 @@ use Rattle.std.specs.Str.{bytes_eq}
 use Rattle.qoi.specs.declared.chunk.Chunk.{Chunk}
 use Rattle.qoi.specs.declared.chunk.Chunk.TheVariants.{Place, Diff, Luma, Run, Rgb, Rgba}
 use Rattle.qoi.specs.Qoi.{AreBytes, Past, IsChunk, AreChunks, bytes_of, chunk_bytes, then_chunk, then_chunks, meaning, end_marker}
-use Rattle.qoi.specs.Verdicts.{IsPartOfChunk, HasChunks, IsWhole, IsCut, IsWrong}
+use Rattle.qoi.specs.Verdicts.{IsPartOfChunk, HasChunks, IsWhole, IsWrong, AreCut}
 use Rattle.qoi.proofs.format.PartOfChunk.{part_empty, part_luma, part_rgb, part_rgba}
 use Rattle.qoi.proofs.format.OneVerdict.{StayBelowAfter, EndsChunks}
 use Rattle.qoi.proofs.format.Appended.{length-bytes_of, length-meaning}
 
--- what follows the first byte is bytes
-bytes_after : (b : ℕ) (bytes : List ℕ) → AreBytes (b ∷ bytes) → AreBytes bytes
-bytes_after b bytes fits i = let h = fits (i + 1) in rw add-one at h
-
 -- what follows some bytes is bytes
 pub bytes_after_front : (front rest : List ℕ) → AreBytes (front ++ rest) → AreBytes rest
 bytes_after_front [] rest fits = fits
-bytes_after_front (b ∷ front) rest fits = bytes_after_front front rest (bytes_after b (front ++ rest) fits)
+bytes_after_front (b ∷ front) rest fits = bytes_after_front front rest (λ i. let h = fits (i + 1) in rw add-one at h)
 
 -- the bytes begin with a whole chunk
 abbrev BeginsWithChunk : List ℕ → Type 0
@@ -33,17 +29,12 @@ luma_front b (e ∷ rest) fits low high = inl (Luma b e, rest, (low, high, fits 
 -- bytes whose first byte is fe
 rgb_front : (b : ℕ) (bytes : List ℕ) → AreBytes (b ∷ bytes) → b ≡ 254 → BeginsWithChunk (b ∷ bytes) ⊎ IsPartOfChunk (b ∷ bytes)
 rgb_front x (r ∷ g ∷ b ∷ rest) fits is = inl (Rgb r g b, rest, (fits 1, fits 2, fits 3), cc)
-rgb_front x [] fits is = inr (part_rgb (x ∷ []) fits (omega arith) is)
-rgb_front x (r ∷ []) fits is = inr (part_rgb (x ∷ r ∷ []) fits (omega arith) is)
-rgb_front x (r ∷ g ∷ []) fits is = inr (part_rgb (x ∷ r ∷ g ∷ []) fits (omega arith) is)
+rgb_front x bytes fits is = inr (part_rgb (x ∷ bytes) fits (omega arith) is)
 
 -- bytes whose first byte is ff
 rgba_front : (b : ℕ) (bytes : List ℕ) → AreBytes (b ∷ bytes) → b ≡ 255 → BeginsWithChunk (b ∷ bytes) ⊎ IsPartOfChunk (b ∷ bytes)
 rgba_front x (r ∷ g ∷ b ∷ a ∷ rest) fits is = inl (Rgba r g b a, rest, (fits 1, fits 2, fits 3, fits 4), cc)
-rgba_front x [] fits is = inr (part_rgba (x ∷ []) fits (omega arith) is)
-rgba_front x (r ∷ []) fits is = inr (part_rgba (x ∷ r ∷ []) fits (omega arith) is)
-rgba_front x (r ∷ g ∷ []) fits is = inr (part_rgba (x ∷ r ∷ g ∷ []) fits (omega arith) is)
-rgba_front x (r ∷ g ∷ b ∷ []) fits is = inr (part_rgba (x ∷ r ∷ g ∷ b ∷ []) fits (omega arith) is)
+rgba_front x bytes fits is = inr (part_rgba (x ∷ bytes) fits (omega arith) is)
 
 -- bytes whose first byte is that of a run
 run_front : (b : ℕ) (bytes : List ℕ) → 192 ≤ b → b < 254 → BeginsWithChunk (b ∷ bytes) ⊎ IsPartOfChunk (b ∷ bytes)
@@ -118,9 +109,8 @@ reading_of (suc fuel) n past bytes h fits =
 
 -- the bytes are whole, cut or wrong
 abbrev pub HasVerdict : ℕ → List ℕ → Type 0
-HasVerdict n bytes = ((cs : List Chunk) × (rest : List ℕ) × IsWhole n bytes cs rest)
-    ⊎ (((cs : List Chunk) × (part : List ℕ) × IsCut n bytes cs part)
-    ⊎ ((cs : List Chunk) × (eight : List ℕ) × (rest : List ℕ) × IsWrong n bytes cs eight rest))
+HasVerdict n bytes = ((cs : List Chunk) × (rest : List ℕ) × IsWhole n bytes cs rest) ⊎ (AreCut n bytes
+    ⊎ ((cs : List Chunk) × (eight rest : List ℕ) × IsWrong n bytes cs eight rest))
 
 -- the verdict if n pixels are reached and eight bytes or more follow
 marker_verdict : (n : ℕ) (bytes : List ℕ) (cs : List Chunk) (eight rest : List ℕ) → HasChunks n bytes cs (eight ++ rest)
@@ -131,11 +121,7 @@ marker_verdict n bytes cs eight rest t enough h =
       | inl yes_same ↦ inl (
         cs,
         rest,
-        record {
-          has = let P : List ℕ
-              → Type 0 = λ l. HasChunks n bytes cs (l ++ rest) in subst P (same.0 yes_same) t;
-          enough = enough;
-        },
+        record { has = subst (λ (l : List ℕ). HasChunks n bytes cs (l ++ rest)) (same.0 yes_same) t; enough = enough },
       )
       | inr differs ↦ inr (inr (cs, eight, rest, record { has = t; enough = enough; length_is = h; other = λ e. true≢false (sym (same.1 e) ∙ differs) }))
     ]
@@ -149,8 +135,7 @@ verdict_of_ends n bytes cs rest t (inl enough) =
     elim (cases_lt (length rest) 8) [
       | inl few ↦ inr (inl (cs, rest, record { has = t; ends = inr (above, few) }))
       | inr many ↦ marker_verdict n bytes cs (take 8 rest) (drop 8 rest)
-          (let P : List ℕ → Type 0 = λ l. HasChunks n bytes cs l in subst P (sym (take-append-drop 8 rest)) t)
-          above (omega (arith, length-take 8 rest))
+          (subst (λ (l : List ℕ). HasChunks n bytes cs l) (sym (take-append-drop 8 rest)) t) above (omega (arith, length-take 8 rest))
     ]
 
 -- bytes have a verdict for each number of pixels

@@ -2,7 +2,8 @@
 use Rattle.std.proofs.Common.{◌≡◌, ◌≢◌, ℕ, suc, ◌+◌, ◌-◌, ◌<◌, ◌≤◌, Bool, true, false, cond, eqb, eqb-true, List, ◌∷◌, [], length, get_or, slice_set, replicate, Option, None, Some, refl, sym, ap, ◌∙◌, arith, get_or-set_same, get_or-set_other}
 use Rattle.std.specs.List.{find, range_with_len}
 use Rattle.std.proofs.lemmas.List.{length-set, length-replicate, get_or-replicate}
-use Rattle.std.proofs.lemmas.Bool.{cond-true, cond-false, eqb-false}
+use Rattle.std.proofs.lemmas.Bool.{cond-true, cond-false}
+use Rattle.std.proofs.lemmas.Grind.{common_steps}
 use Rattle.std.proofs.lemmas.Option.{slice_get-get_or, same_Some}
 use Rattle.qoi.specs.Qoi.{RgbaPixel, Past, pixel_eq, hash, blank, seen}
 use Rattle.qoi.specs.inner.Table.{Holds, first_blank}
@@ -19,16 +20,7 @@ holds_none i l = slice_get-get_or (replicate 64 blank) i blank (omega (arith, le
 -- the entries after a write at a pixel's index position
 held_after : (entries : List RgbaPixel) (p : RgbaPixel) (i : ℕ) → length entries ≡ 64
     → get_or (slice_set entries (hash p) p) i blank ≡ cond (eqb (hash p) i) p (get_or entries i blank)
-held_after entries p i size = at (eqb (hash p) i) refl
-  where
-    at : (b : Bool) → eqb (hash p) i ≡ b → get_or (slice_set entries (hash p) p) i blank ≡ cond b p (get_or entries i blank)
-    at true e =
-        let same : hash p ≡ i = eqb-true (hash p) i e in
-        let inside : hash p < length entries = omega (arith, hash_below p) in
-        rw (← same) (rw get_or-set_same refl)
-    at false e =
-        let apart : i ≢ hash p = λ q. eqb-false (hash p) i e (sym q) in
-        rw get_or-set_other refl
+held_after entries p i size = grind (arith, common_steps, hash_below p, size)
 
 -- a pixel that is put there is held
 pub holds_put : (entries : List RgbaPixel) (p : RgbaPixel) (past : Past) (place : ℕ) → length entries ≡ 64 → place ≡ hash p → Holds entries past

@@ -24,10 +24,7 @@ length-pixel_bytes f c p (inr e) = rw e refl
 pub length-output : (f c : ℕ) (ps : List RgbaPixel) → IsChannels c → length (output f c ps) ≡ c * length ps
 length-output f c [] is = omega arith
 length-output f c (p ∷ ps) is =
-    let e = length-append (pixel_bytes f c p) (output f c ps) in
-    let one = length-pixel_bytes f c p is in
-    let more = length-output f c ps is in
-    grind (arith, mul-suc c (length ps))
+    grind (arith, mul-suc c (length ps), length-append (pixel_bytes f c p) (output f c ps), length-pixel_bytes f c p is, length-output f c ps is)
 
 -- the bytes of the first n pixels
 pub take-output : (f c n : ℕ) (ps : List RgbaPixel) → IsChannels c → n ≤ length ps → take (c * n) (output f c ps) ≡ output f c (take n ps)

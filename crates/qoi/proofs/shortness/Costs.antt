@@ -10,10 +10,7 @@ use Rattle.qoi.proofs.format.ChunkSteps.{previous_repeats}
 -- a number that passes shows that some does
 some_below-from : (n : ℕ) (test : ℕ → Bool) (d : ℕ) → d < n → test d ≡ true → some_below n test ≡ true
 some_below-from zero test d l h = absurd (omega arith)
-some_below-from (suc n) test d l h = elim (cases_eq d n) as (λ _. (test n || some_below n test) ≡ true) [
-  | inl e ↦ or_left _ _ (rw e at h)
-  | inr other ↦ or_right _ _ (some_below-from n test d (omega arith) h)
-]
+some_below-from (suc n) test d l h = grind (arith, some_below-from n test d, l, h)
 
 -- if some number passes there is one
 some_below-true : (n : ℕ) (test : ℕ → Bool) → some_below n test ≡ true → (d : ℕ) × (d < n) × (test d ≡ true)
@@ -65,72 +62,52 @@ pub some_rgb-true : (q p : RgbaPixel) → some_rgb q p ≡ true → p.a ≡ q.a
 unfolding some_rgb
 some_rgb-true q p h = eqb-true p.a q.a h
 
--- the least by four tests
-abbrev ladder : Bool → Bool → Bool → Bool → ℕ
-ladder s d l r = cond (s || d) 1 (cond l 2 (cond r 4 5))
-
--- it is the least
-is_ladder : (past : Past) (p : RgbaPixel) → least past p ≡ ladder (pixel_eq (seen past (hash p)) p) (some_diff (previous past) p)
-    (some_luma (previous past) p) (some_rgb (previous past) p)
-unfolding least
-is_ladder past p = refl
-
--- what holds of both holds of either
-either : (P : ℕ → Type 0) (b : Bool) (x y : ℕ) → P x → P y → P (cond b x y)
-either P true x y h k = h
-either P false x y h k = k
-
--- what holds of 1, 2, 4 and 5 holds of the least
-by_ladder : (P : ℕ → Type 0) (past : Past) (p : RgbaPixel) → P 1 → P 2 → P 4 → P 5 → P (least past p)
-by_ladder P past p one two four five = subst P (sym (is_ladder past p))
-    (either P (pixel_eq (seen past (hash p)) p || some_diff (previous past) p) 1 _ one
-    (either P (some_luma (previous past) p) 2 _ two (either P (some_rgb (previous past) p) 4 5 four five)))
-
 -- it is at least 1
 pub least_low : (past : Past) (p : RgbaPixel) → 1 ≤ least past p
-least_low past p = by_ladder (λ n. 1 ≤ n) past p (omega arith) (omega arith) (omega arith) (omega arith)
+unfolding least
+least_low past p = grind arith
 
 -- and at most 5
 pub least_high : (past : Past) (p : RgbaPixel) → least past p ≤ 5
-least_high past p = by_ladder (λ n. n ≤ 5) past p (omega arith) (omega arith) (omega arith) (omega arith)
+unfolding least
+least_high past p = grind arith
 
 -- if the pixel is seen at its index position the least is 1
 pub least_seen : (past : Past) (p : RgbaPixel) → seen past (hash p) ≡ p → least past p ≤ 1
-least_seen past p e = rw (is_ladder past p, pixel_eq-from _ p e) (omega arith)
+unfolding least
+least_seen past p e = rw (pixel_eq-from _ p e) (omega arith)
 
 -- if a Diff gives the pixel the least is 1
 pub least_diff : (past : Past) (p : RgbaPixel) → some_diff (previous past) p ≡ true → least past p ≤ 1
-least_diff past p e = rw (is_ladder past p) (le_of_eq (cond-true _ 1 _ (or_right _ _ e)))
+unfolding least
+least_diff past p e = le_of_eq (cond-true _ 1 _ (or_right _ _ e))
 
 -- if a Luma gives the pixel the least is at most 2
 pub least_luma : (past : Past) (p : RgbaPixel) → some_luma (previous past) p ≡ true → least past p ≤ 2
-least_luma past p e =
-    rw (is_ladder past p, e) (either (λ n. n ≤ 2) (pixel_eq (seen past (hash p)) p || some_diff (previous past) p) 1 2 (omega arith) (omega arith))
+unfolding least
+least_luma past p e = grind (arith, e)
 
 -- if alpha stays the least is at most 4
 pub least_rgb : (past : Past) (p : RgbaPixel) → some_rgb (previous past) p ≡ true → least past p ≤ 4
-least_rgb past p e =
-    let P = λ (n : ℕ). n ≤ 4 in
-    rw (is_ladder past p, e) (either P (pixel_eq (seen past (hash p)) p || some_diff (previous past) p) 1 _ (omega arith)
-    (either P (some_luma (previous past) p) 2 4 (omega arith) (omega arith)))
+unfolding least
+least_rgb past p e = grind (arith, e)
 
 -- if the pixel isn't seen at its index position and no Diff gives it, the least is at least 2
 pub least_over_1 : (past : Past) (p : RgbaPixel) → seen past (hash p) ≢ p → some_diff (previous past) p ≡ false → 2 ≤ least past p
-least_over_1 past p n d =
-    let P = λ (n : ℕ). 2 ≤ n in
-    rw (is_ladder past p, pixel_eq-ne _ p n, d) (either P (some_luma (previous past) p) 2 _ (omega arith)
-    (either P (some_rgb (previous past) p) 4 5 (omega arith) (omega arith)))
+unfolding least
+least_over_1 past p n d = rw (pixel_eq-ne _ p n, d) (grind arith)
 
 -- if no Luma gives it either, the least is at least 4
 pub least_over_2 : (past : Past) (p : RgbaPixel) → seen past (hash p) ≢ p → some_diff (previous past) p ≡ false → some_luma (previous past) p ≡ false
     → 4 ≤ least past p
-least_over_2 past p n d l =
-    rw (is_ladder past p, pixel_eq-ne _ p n, d, l) (either (λ n. 4 ≤ n) (some_rgb (previous past) p) 4 5 (omega arith) (omega arith))
+unfolding least
+least_over_2 past p n d l = rw (pixel_eq-ne _ p n, d, l) (grind arith)
 
 -- if alpha changes too, the least is 5
 pub least_over_4 : (past : Past) (p : RgbaPixel) → seen past (hash p) ≢ p → some_diff (previous past) p ≡ false → some_luma (previous past) p ≡ false
     → some_rgb (previous past) p ≡ false → 5 ≤ least past p
-least_over_4 past p n d l r = rw (is_ladder past p, pixel_eq-ne _ p n, d, l, r) (omega arith)
+unfolding least
+least_over_4 past p n d l r = rw (pixel_eq-ne _ p n, d, l, r) (omega arith)
 
 -- what a fresh pixel costs
 pub cost_fresh : (shortest : Past → RgbaPixel → ℕ) (past : Past) (p : RgbaPixel) → p ≢ previous past → cost shortest past p ≡ shortest past p
@@ -155,15 +132,11 @@ repeats_fresh past p n = cond-false (pixel_eq p (previous past)) _ _ (pixel_eq-n
 pub repeats_run : (past : Past) (n : ℕ) → trailing_repeats (replicate n (previous past) ++ past) ≡ n + trailing_repeats past
 repeats_run past zero = omega arith
 repeats_run past (suc n) =
-    let m = repeats_more (replicate n (previous past) ++ past) (previous past) (sym (previous_repeats n past)) in
-    let h = repeats_run past n in
-    omega arith
+    omega (arith, repeats_more (replicate n (previous past) ++ past) (previous past) (sym (previous_repeats n past)), repeats_run past n)
 
 -- one repeat more costs a byte if it begins a run
 group_more : (k : ℕ) → cond (eqb (k % 62) 0) 1 0 + (k + 61) / 62 ≡ (suc k + 61) / 62
-group_more k = cond_both (eqb (k % 62) 0) 1 0 (λ x. x + (k + 61) / 62 ≡ (suc k + 61) / 62)
-    (λ e. let h : k % 62 ≡ 0 = eqb-true (k % 62) 0 e in omega arith)
-    (λ e. let h : k % 62 ≢ 0 = eqb-false (k % 62) 0 e in omega arith)
+group_more k = grind arith
 
 -- what a run costs: a byte for each 62 of the group, rounded up
 pub cost_run : (shortest : Past → RgbaPixel → ℕ) (past : Past) (n : ℕ)

@@ -7,6 +7,7 @@ use Rattle.qoi.specs.declared.chunk.Chunk.TheVariants.{Place, Diff, Luma, Run, R
 use Rattle.qoi.specs.Qoi.{RgbaPixel, Past, previous, seen, IsChunk, AreChunks, pixel_after, bytes_of, chunk_bytes, then_chunk, then_chunks, meaning, Each}
 use Rattle.qoi.specs.Regular.{NamesPixelThere, Regular, Begins}
 use Rattle.qoi.specs.Shortest.{least, trailing_repeats, cost, total_cost, floor}
+use Rattle.qoi.proofs.format.Appended.{length-bytes_of}
 use Rattle.qoi.proofs.format.SamePixels.{cases_pixel}
 use Rattle.qoi.specs.Styles.{is_run}
 use Rattle.qoi.proofs.format.ChunkSteps.{cases_run, then_other}
@@ -21,11 +22,6 @@ least_bounds past (Run n) k r o = absurd (cc)
 least_bounds past (Rgb x y z) k r o = least_rgb past _ (some_rgb-from (previous past) _ refl)
 least_bounds past (Rgba x y z w) k r o = least_high past (pixel_after past (Rgba x y z w))
 
--- a chunk has some bytes
-bytes_some : (c : Chunk) → 0 < length (bytes_of c)
-bytes_some (Place i) = omega arith
-bytes_some c = omega arith
-
 -- the pixels of a beginning cost no more
 cost_front : (shortest : Past → RgbaPixel → ℕ) (more past : Past) → total_cost shortest past ≤ total_cost shortest (more ++ past)
 cost_front shortest [] past = omega arith
@@ -37,7 +33,7 @@ module _ (shortest : Past → RgbaPixel → ℕ) (Allowed : Past → Chunk → T
   cost_other : (past : Past) (c : Chunk) → IsChunk c → Allowed past c → is_run c ≡ false → cost shortest past (pixel_after past c) ≤ length (bytes_of c)
   cost_other past c k a o = elim (cases_pixel (pixel_after past c) (previous past)) as (λ _. cost shortest past (pixel_after past c) ≤ length (bytes_of c)) [
     | inl e ↦ rw (cost_repeat shortest past (pixel_after past c) e)
-        (cond_both (eqb (trailing_repeats past % 62) 0) 1 0 (λ x. x ≤ length (bytes_of c)) (λ _. bytes_some c) (λ _. omega arith))
+        (cond_both (eqb (trailing_repeats past % 62) 0) 1 0 (λ x. x ≤ length (bytes_of c)) (λ _. (length-bytes_of c).0) (λ _. omega arith))
     | inr n ↦ rw (cost_fresh shortest past (pixel_after past c) n) (bounds past c k a o)
   ]
 
@@ -58,10 +54,7 @@ module _ (shortest : Past → RgbaPixel → ℕ) (Allowed : Past → Chunk → T
       → total_cost shortest (then_chunks past cs) ≤ total_cost shortest past + length (chunk_bytes cs)
   cost_chunks past [] k a = omega arith
   cost_chunks past (c ∷ cs) k a =
-      let one = cost_chunk past c k.0 a.0 in
-      let more = cost_chunks (then_chunk past c) cs k.1 a.1 in
-      let t : length (chunk_bytes (c ∷ cs)) ≡ length (bytes_of c) + length (chunk_bytes cs) = length-append (bytes_of c) (chunk_bytes cs) in
-      omega arith
+      omega (arith, cost_chunk past c k.0 a.0, cost_chunks (then_chunk past c) cs k.1 a.1, length-append (bytes_of c) (chunk_bytes cs))
 
   -- so the pixels of an image cost no more than an allowed chunk list that begins with it
   pub lower_by : (image : List RgbaPixel) (cs : List Chunk) → AreChunks cs → Each Allowed [] cs → Begins (meaning cs) image

@@ -49,10 +49,7 @@ suffix_all P xs ys [] vs e l h = all_back P xs ys (rw (← e) at h)
 suffix_all P [] ys (u ∷ us) vs e l h =
     let k : length ys ≡ length (u ∷ us) + length vs = ap length e ∙ length-append (u ∷ us) vs in
     absurd (omega arith)
-suffix_all P (x ∷ xs) ys (u ∷ us) vs e l h = suffix_all P xs ys us vs (rest x u (xs ++ ys) (us ++ vs) e) l h
-  where
-    rest : {A : Type 0} (x u : A) (vs ws : List A) → x ∷ vs ≡ u ∷ ws → vs ≡ ws
-    rest x u vs ws e = cc
+suffix_all P (x ∷ xs) ys (u ∷ us) vs e l h = suffix_all P xs ys us vs (cc) l h
 
 -- an index position named within an image without transparent black holds a pixel of that position
 named_within : (past : Past) (c : Chunk) (cs : List Chunk) (us vs : List RgbaPixel) → then_chunks (then_chunk past c) cs ≡ us ++ vs → length past < length vs

@@ -92,6 +92,9 @@ noted_or_differs : (past : Past) (i : ℕ) → (seen past i ≡ noted past i) �
 noted_or_differs [] i = inl refl
 noted_or_differs (q ∷ past) i = go past (cases_pixel q (previous past)) (cases_eq (hash q) i) (noted_or_differs past i)
   where
+    still : (past : Past) → Differs past i → first_at (q ∷ past) ≡ None → seen (q ∷ past) i ≡ start → Differs (q ∷ past) i
+    still past d nothing last = record { place = d.place; opened = opens_more past q d.opened; nothing = nothing; last = last }
+
     repeat_here : (past : Past) → q ≡ previous past → hash q ≡ i → (seen past i ≡ noted past i) ⊎ Differs past i
         → (seen (q ∷ past) i ≡ noted (q ∷ past) i) ⊎ Differs (q ∷ past) i
     repeat_here [] e same h = inr (record {
@@ -102,12 +105,8 @@ noted_or_differs (q ∷ past) i = go past (cases_pixel q (previous past)) (cases
     })
     repeat_here (r ∷ past) e same (inl h) = inl (seen_same (r ∷ past) q i same ∙ e ∙ sym (seen_same past r i (ap hash (sym e) ∙ same)) ∙ h
         ∙ sym (noted_repeat (r ∷ past) q i e))
-    repeat_here (r ∷ past) e same (inr d) = inr (record {
-      place = d.place;
-      opened = opens_more (r ∷ past) q d.opened;
-      nothing = first_at-repeat (r ∷ past) q e ∙ d.nothing;
-      last = seen_same (r ∷ past) q i same ∙ e ∙ sym (seen_same past r i (ap hash (sym e) ∙ same)) ∙ d.last;
-    })
+    repeat_here (r ∷ past) e same (inr d) = inr (still (r ∷ past) d (first_at-repeat (r ∷ past) q e ∙ d.nothing)
+        (seen_same (r ∷ past) q i same ∙ e ∙ sym (seen_same past r i (ap hash (sym e) ∙ same)) ∙ d.last))
 
     noted_here : (past : Past) → q ≢ previous past → hash q ≡ i → noted (q ∷ past) i ≡ q
     noted_here past n same = noted_fresh past q i n ∙ cond-true (eqb (hash q) i) q (noted past i) (eq-eqb _ _ same)
@@ -119,20 +118,11 @@ noted_or_differs (q ∷ past) i = go past (cases_pixel q (previous past)) (cases
         → (seen (q ∷ past) i ≡ noted (q ∷ past) i) ⊎ Differs (q ∷ past) i
     go past (inl e) (inl same) h = repeat_here past e same h
     go past (inl e) (inr other) (inl h) = inl (seen_other past q i other ∙ h ∙ sym (noted_repeat past q i e))
-    go past (inl e) (inr other) (inr d) = inr (record {
-      place = d.place;
-      opened = opens_more past q d.opened;
-      nothing = first_at-repeat past q e ∙ d.nothing;
-      last = seen_other past q i other ∙ d.last;
-    })
+    go past (inl e) (inr other) (inr d) = inr (still past d (first_at-repeat past q e ∙ d.nothing) (seen_other past q i other ∙ d.last))
     go past (inr n) (inl same) h = inl (seen_same past q i same ∙ sym (noted_here past n same))
     go past (inr n) (inr other) (inl h) = inl (seen_other past q i other ∙ h ∙ sym (noted_there past n other))
-    go past (inr n) (inr other) (inr d) = inr (record {
-      place = d.place;
-      opened = opens_more past q d.opened;
-      nothing = first_at-other past q n (λ s. other (s ∙ sym d.place)) d.nothing;
-      last = seen_other past q i other ∙ d.last;
-    })
+    go past (inr n) (inr other) (inr d) =
+        inr (still past d (first_at-other past q n (λ s. other (s ∙ sym d.place)) d.nothing) (seen_other past q i other ∙ d.last))
 
 -- if they differ there is no slack so far
 slack_before : (n : ℕ) (past : Past) (i : ℕ) → Differs past i → slack_at n past ≡ 0
@@ -167,9 +157,7 @@ slack_grows n past p f other s = elim (noted_or_differs past (hash p)) as (λ _.
 -- the slack is at most the number of channels
 pub slack_most : (image : List RgbaPixel) (n : ℕ) → slack image n ≤ n
 unfolding slack
-slack_most image n =
-    cond_both (is_start (slice_get image 0) && is_start (find (λ p. eqb (hash p) (hash start)) (reverse (fresh (reverse image))))) n 0 (λ x. x ≤ n)
-    (λ _. omega arith) (λ _. omega arith)
+slack_most image n = grind arith
 
 -- there is none if the image doesn't open with opaque black
 pub slack_opens : (image : List RgbaPixel) (n : ℕ) → (OpensBlack image → ⊥) → slack image n ≡ 0

@@ -2,7 +2,7 @@
 use Rattle.std.proofs.Common.{◌≡◌, ◌≢◌, ◌⊎◌, inl, inr, ℕ, ◌+◌, ◌≤◌, true, false, ◌&&◌, List, [], ◌∷◌, length, reverse, None, is_some, refl, sym, ap, ◌∙◌, append-nil, arith}
 use Rattle.std.proofs.lemmas.Bool.{cond-true, cond-false, cond_both, and_from}
 use Rattle.qoi.specs.declared.chunk.Chunk.{Chunk}
-use Rattle.qoi.specs.declared.chunk.Chunk.TheVariants.{Place, Diff, Luma, Run, Rgb, Rgba}
+use Rattle.qoi.specs.declared.chunk.Chunk.TheVariants.{Place}
 use Rattle.qoi.specs.Qoi.{RgbaPixel, Past, pixel_eq, blank, previous, seen, hash, IsChunk, AreChunks, pixel_after, bytes_of, chunk_bytes, then_chunk, meaning, Each}
 use Rattle.qoi.specs.Raw.{HasChannels}
 use Rattle.qoi.specs.Regular.{Begins}
@@ -10,7 +10,7 @@ use Rattle.qoi.specs.Shortest.{least, cost, total_cost, floor}
 use Rattle.qoi.specs.Written.{GivesFresh, IsAllowedAfter, WrittenBy}
 use Rattle.qoi.specs.Styles.{is_run}
 use Rattle.qoi.specs.Tight.{is_unseen, least_unseen, IsTightChoice, least0, floor0}
-use Rattle.qoi.proofs.format.SamePixels.{cases_pixel, pixel_eq-from, pixel_eq-ne}
+use Rattle.qoi.proofs.format.SamePixels.{cases_pixel, pixel_eq-from, pixel_eq-true}
 use Rattle.qoi.proofs.encoding.styles.TightChoice.{unseen_blank, unseen_or, unseen_some, by_tight}
 use Rattle.qoi.proofs.shortness.Costs.{least_low, least_seen, cost_fresh, cost_repeat}
 use Rattle.qoi.proofs.shortness.Lower.{least_bounds, lower_by}
@@ -19,13 +19,12 @@ use Rattle.qoi.proofs.shortness.Upper.{first_least, upper_by}
 -- a fresh pixel costs at least a byte
 least0_low : (past : Past) (p : RgbaPixel) → 1 ≤ least0 past p
 unfolding least0
-least0_low past p = cond_both (pixel_eq p blank && is_some (least_unseen past)) 1 (least past p) (λ x. 1 ≤ x) (λ _. omega arith) (λ _. least_low past p)
+least0_low past p = grind (arith, least_low past p)
 
 -- and no more than in a regular list
 least0_high : (past : Past) (p : RgbaPixel) → least0 past p ≤ least past p
 unfolding least0
-least0_high past p = cond_both (pixel_eq p blank && is_some (least_unseen past)) 1 (least past p) (λ x. x ≤ least past p) (λ _. least_low past p)
-    (λ _. omega arith)
+least0_high past p = grind (arith, least_low past p)
 
 -- transparent black costs a byte if a position is unseen
 least0_unseen : (past : Past) (p : RgbaPixel) → p ≡ blank → is_some (least_unseen past) ≡ true → least0 past p ≡ 1
@@ -35,11 +34,7 @@ least0_unseen past p b u = cond-true (pixel_eq p blank && is_some (least_unseen 
 -- else a pixel costs its `least`
 least0_same : (past : Past) (p : RgbaPixel) → (p ≡ blank → least_unseen past ≡ None) → least0 past p ≡ least past p
 unfolding least0
-least0_same past p other = go (cases_pixel p blank)
-  where
-    go : (p ≡ blank) ⊎ (p ≢ blank) → least0 past p ≡ least past p
-    go (inl b) = cond-false _ 1 (least past p) (ap (λ o. pixel_eq p blank && is_some o) (other b) ∙ ap (λ t. t && false) (pixel_eq-from p blank b))
-    go (inr n) = cond-false _ 1 (least past p) (ap (λ t. t && is_some (least_unseen past)) (pixel_eq-ne p blank n))
+least0_same past p other = grind (arith, other, pixel_eq-true p blank)
 
 -- a chunk other than a run is no shorter than its pixel costs
 least0_bounds : (past : Past) (c : Chunk) → IsChunk c → Unit {0} → is_run c ≡ false → least0 past (pixel_after past c) ≤ length (bytes_of c)
@@ -48,12 +43,7 @@ least0_bounds past (Place i) k _ o = go (unseen_or past i)
     go : (is_unseen past i ≡ true) ⊎ (hash (seen past i) ≡ i) → least0 past (seen past i) ≤ 1
     go (inl e) = let h = least0_unseen past (seen past i) (unseen_blank past i e) (unseen_some past i k e) in omega arith
     go (inr h) = let a = least0_high past (seen past i) in let b = least_seen past (seen past i) (ap (seen past) h) in omega arith
-least0_bounds past (Diff d) k _ o = let a = least0_high past (pixel_after past (Diff d)) in let b = least_bounds past (Diff d) k tt o in omega arith
-least0_bounds past (Luma d e) k _ o = let a = least0_high past (pixel_after past (Luma d e)) in let b = least_bounds past (Luma d e) k tt o in omega arith
-least0_bounds past (Run n) k _ o = absurd (let x = o in cc)
-least0_bounds past (Rgb x y z) k _ o = let a = least0_high past (pixel_after past (Rgb x y z)) in let b = least_bounds past (Rgb x y z) k tt o in omega arith
-least0_bounds past (Rgba x y z w) k _ o = let a = least0_high past (pixel_after past (Rgba x y z w)) in let b = least_bounds past (Rgba x y z w) k tt o in
-    omega arith
+least0_bounds past c k _ o = let a = least0_high past (pixel_after past c) in let b = least_bounds past c k tt o in omega arith
 
 -- each list is allowed
 each_allowed : (past : Past) (cs : List Chunk) → Each (λ past c. Unit {0}) past cs

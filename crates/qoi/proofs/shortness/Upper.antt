@@ -91,18 +91,12 @@ module _ (shortest : Past → RgbaPixel → ℕ) (Choice : Past → RgbaPixel �
   -- what is extra never falls in a run
   extra_run : (past : Past) (p : RgbaPixel) (k : ℕ) → extra past ≤ extra (replicate k p ++ past)
   extra_run past p zero = omega arith
-  extra_run past p (suc k) =
-      let h = extra_run past p k in
-      let m = extra_more (replicate k p ++ past) p in
-      omega arith
+  extra_run past p (suc k) = omega (arith, extra_run past p k, extra_more (replicate k p ++ past) p)
 
   -- a run costs its byte
   run_fits : (past : Past) (n : ℕ) → 0 < n → trailing_repeats past % 62 ≡ 0
       → 1 + total_cost shortest past + extra past ≤ total_cost shortest (then_chunk past (Run n)) + extra (then_chunk past (Run n))
-  run_fits past n h a =
-      let c = cost_run shortest past n in
-      let e = extra_run past (previous past) n in
-      omega arith
+  run_fits past n h a = omega (arith, h, a, cost_run shortest past n, extra_run past (previous past) n)
 
   -- any other chunk costs no more than its pixel and what is extra
   other_fits : (past : Past) (c : Chunk) → IsChunk c → HasChannels (then_chunk past c) channels → is_run c ≡ false → IsAllowedAfter Choice past c

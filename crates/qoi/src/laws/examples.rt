@@ -4,22 +4,22 @@ ghost use Rattle.qoi.specs.declared.error.Error.{Error};
 ghost use Rattle.qoi.specs.declared.types.Channels.{Channels};
 ghost use Rattle.qoi.specs.declared.types.ColorSpace.{ColorSpace};
 ghost use Rattle.qoi.specs.declared.chunk.Chunk.TheVariants.{Place, Diff, Luma, Run, Rgb, Rgba};
-ghost use Rattle.qoi.specs.Qoi.{AreBytes, IsChunk, bytes_of, chunk_max, default_header, end_marker, header_bytes, IsValid, marker_size, pixel, pixel_count, rgba, tried_header};
+ghost use Rattle.qoi.specs.Qoi.{AreBytes, IsChunk, Reaches, bytes_of, chunk_bytes, chunk_max, default_header, end_marker, file, file_pixels, hash, header_bytes, header_of, IsValid, magic_bytes, marker_size, meaning, pixel, pixel_count, rgba, tried_header};
 ghost use Rattle.qoi.specs.Errors.{IsIoError, IsReaderFault, IsErrorOfCut, IsErrorOfWrong};
-ghost use Rattle.qoi.specs.Raw.{IsChannels, without_fourth, pixels_of, byte_count, image_byte_count, HasImageLength, capped_byte_count, AreOpaque, HasChannels};
+ghost use Rattle.qoi.specs.Raw.{IsChannels, without_fourth, output, pixels_of, byte_count, image_byte_count, HasImageLength, capped_byte_count, HasChannels};
 ghost use Rattle.qoi.specs.Verdicts.{IsWhole, IsCut, IsWrong};
 ghost use Rattle.qoi.specs.Decoding.{least_byte_count, RefusesBuffer, RefusesMarker, RefusesBytes, RefusesTaken, RefusesTakenMarker, RefusesTakenHeader};
 ghost use Rattle.qoi.specs.DecoderState.{output_byte_count, TakesAtMost};
 ghost use Rattle.qoi.specs.Runs.{IsCount};
 ghost use Rattle.qoi.specs.Written.{fresh, noted};
-ghost use Rattle.qoi.specs.writers.Writes.{StandsAfter};
-ghost use Rattle.qoi.specs.writers.Writes.{AppendsBeginning};
+ghost use Rattle.qoi.specs.writers.Writes.{AppendsBeginning, StandsAfter};
 ghost use Rattle.qoi.specs.Encoded.{max_len, IsFileLength, image_header, OpensBlack};
 ghost use Rattle.qoi.specs.Regular.{Begins, Regular};
-ghost use Rattle.qoi.specs.ErrorText.{size_text, bytes_text, printed};
+ghost use Rattle.qoi.specs.ErrorText.{printed};
 
 /// The least and the greatest numbers in bytes and chunks, the lengths of the longest chunk and of
 /// the end marker, regular lists, and pixels that begin with an image.
+#[tactic(auto, unfolding(crate::specs::Qoi::blank, crate::specs::Qoi::hash))]
 pub fn chunk_examples()
     ensures bytes { AreBytes (0 ∷ 255 ∷ []) }
     ensures no_byte { AreBytes (256 ∷ []) → ⊥ }
@@ -52,6 +52,66 @@ pub fn chunk_examples()
     ensures begins_not { Begins [] (pixel 1 2 3 4 ∷ []) → ⊥ }
 {}
 
+/// What small lists of chunks mean, their bytes, and which numbers of pixels they reach.
+#[tactic(auto, unfolding(crate::specs::Qoi::start, crate::specs::Qoi::blank, crate::specs::Qoi::hash, crate::specs::Qoi::after_diff, crate::specs::Qoi::after_luma))]
+pub fn worked_examples()
+    ensures runs_bytes { chunk_bytes (Run 62 ∷ Run 1 ∷ Rgb 11 22 33 ∷ [])
+        ≡ 0xfd ∷ 0xc0 ∷ 0xfe ∷ 0x0b ∷ 0x16 ∷ 0x21 ∷ [] }
+    ensures runs_mean { meaning (Run 62 ∷ Run 1 ∷ Rgb 11 22 33 ∷ [])
+        ≡ replicate 63 (pixel 0 0 0 255) ++ pixel 11 22 33 255 ∷ [] }
+    ensures diff_wraps { meaning (Diff 0x47 ∷ []) ≡ pixel 254 255 1 255 ∷ [] }
+    ensures diff_is_added { meaning (Rgba 10 20 30 40 ∷ Diff 0x47 ∷ [])
+        ≡ pixel 10 20 30 40 ∷ pixel 8 19 31 40 ∷ [] }
+    ensures luma_bytes { chunk_bytes (Diff 0x47 ∷ Luma 0xa0 0x7b ∷ []) ≡ 0x47 ∷ 0xa0 ∷ 0x7b ∷ [] }
+    ensures luma_is_added { meaning (Rgba 10 20 30 40 ∷ Luma 0xa0 0x7b ∷ [])
+        ≡ pixel 10 20 30 40 ∷ pixel 9 20 33 40 ∷ [] }
+    ensures luma_least { meaning (Luma 0x80 0x88 ∷ []) ≡ pixel 224 224 224 255 ∷ [] }
+    ensures luma_greatest { meaning (Luma 0xbf 0xff ∷ []) ≡ pixel 38 31 38 255 ∷ [] }
+    ensures rgb_keeps_alpha { meaning (Rgba 1 2 3 4 ∷ Rgb 5 6 7 ∷ [])
+        ≡ pixel 1 2 3 4 ∷ pixel 5 6 7 4 ∷ [] }
+    ensures run_is_seen { meaning (Run 1 ∷ Rgb 101 102 103 ∷ Place 0x35 ∷ [])
+        ≡ pixel 0 0 0 255 ∷ pixel 101 102 103 255 ∷ pixel 0 0 0 255 ∷ [] }
+    ensures empty_place_is_seen { meaning (Rgba 64 0 0 0 ∷ Place 0x11 ∷ Place 0 ∷ [])
+        ≡ pixel 64 0 0 0 ∷ pixel 0 0 0 0 ∷ pixel 0 0 0 0 ∷ [] }
+    ensures last_seen_is_held { meaning (Run 1 ∷ Rgb 1 99 2 ∷ Rgb 1 2 3 ∷ Place 53 ∷ [])
+        ≡ pixel 0 0 0 255 ∷ pixel 1 99 2 255 ∷ pixel 1 2 3 255 ∷ pixel 1 99 2 255 ∷ [] }
+    ensures place_means_rgba { meaning (Rgba 101 102 103 104 ∷ Rgba 1 2 3 4 ∷ Place 0x36 ∷ [])
+        ≡ pixel 101 102 103 104 ∷ pixel 1 2 3 4 ∷ pixel 101 102 103 104 ∷ [] }
+    ensures place_bytes { chunk_bytes (Rgba 101 102 103 104 ∷ Rgba 1 2 3 4 ∷ Place 0x36 ∷ [])
+        ≡ 0xff ∷ 0x65 ∷ 0x66 ∷ 0x67 ∷ 0x68 ∷ 0xff ∷ 0x01 ∷ 0x02 ∷ 0x03 ∷ 0x04 ∷ 0x36 ∷ [] }
+    ensures hash_black { hash (pixel 0 0 0 255) ≡ 53 }
+    ensures hash_rgba { hash (pixel 101 102 103 104) ≡ 54 }
+    ensures hash_high { hash (pixel 251 252 253 255) ≡ 61 }
+    ensures long_run_reaches { Reaches 4 (Run 62 ∷ []) }
+    ensures too_few_pixels { Reaches 2 (Run 1 ∷ []) → ⊥ }
+    ensures no_chunk_past_the_end { Reaches 1 (Run 1 ∷ Run 1 ∷ []) → ⊥ }
+{}
+
+/// Bytes that are read as a header, or refused, and a file.
+#[tactic(auto, unfolding(crate::specs::Qoi::start))]
+pub fn file_examples()
+    ensures largest_is_read { header_of (magic_bytes ++ 0 ∷ 0 ∷ 0x4e ∷ 0x20 ∷ 0 ∷ 0 ∷ 0x4e ∷ 0x20
+        ∷ 4 ∷ 1 ∷ [])
+        ≡ tried_header 20000 20000 Channels.Rgba ColorSpace.Linear }
+    ensures most { header_of (magic_bytes ++ 0x17 ∷ 0xd7 ∷ 0x84 ∷ 0 ∷ 0 ∷ 0 ∷ 0 ∷ 1 ∷ 3 ∷ 0 ∷ [])
+        ≡ Ok (record default_header { width = 400000000 }) }
+    ensures one_too_many { header_of (magic_bytes ++ 0x17 ∷ 0xd7 ∷ 0x84 ∷ 1 ∷ 0 ∷ 0 ∷ 0 ∷ 1 ∷ 3
+        ∷ 0 ∷ [])
+        ≡ Err (Error.InvalidImageDimensions 400000001 1) }
+    ensures length_first { header_of (replicate 13 0) ≡ Err Error.UnexpectedBufferEnd }
+    ensures channels_second { header_of (0x71 ∷ 0x6f ∷ 0x69 ∷ 0x67 ∷ replicate 8 0 ++ 5 ∷ 2 ∷ [])
+        ≡ Err (Error.InvalidChannels 5) }
+    ensures color_space_third { header_of (0x71 ∷ 0x6f ∷ 0x69 ∷ 0x67 ∷ replicate 8 0 ++ 3 ∷ 2 ∷ [])
+        ≡ Err (Error.InvalidColorSpace 2) }
+    ensures magic_fourth { header_of (0x71 ∷ 0x6f ∷ 0x69 ∷ 0x67 ∷ replicate 8 0 ++ 3 ∷ 0 ∷ [])
+        ≡ Err (Error.InvalidMagic 1903126887) }
+    ensures file_of_one_pixel { file default_header (Rgb 11 121 231 ∷ [])
+        ≡ header_bytes default_header
+        ++ 0xfe ∷ 11 ∷ 121 ∷ 231 ∷ 0 ∷ 0 ∷ 0 ∷ 0 ∷ 0 ∷ 0 ∷ 0 ∷ 1 ∷ [] }
+    ensures long_run_is_shortened { file_pixels (record default_header { width = 4 }) (Run 62 ∷ [])
+        ≡ replicate 4 (pixel 0 0 0 255) }
+{}
+
 /// Raw bytes and their pixels.
 pub fn raw_examples()
     ensures opaque_pixel { rgba (1 ∷ 2 ∷ 3 ∷ []) ≡ pixel 1 2 3 255 }
@@ -66,79 +126,43 @@ pub fn raw_examples()
     ensures four_channels { IsChannels 4 }
     ensures two_channels { IsChannels 2 → ⊥ }
     ensures five_channels { IsChannels 5 → ⊥ }
-    ensures opaque { AreOpaque (pixel 1 2 3 255 ∷ []) }
-    ensures not_opaque { AreOpaque (pixel 1 2 3 254 ∷ []) → ⊥ }
     ensures has_four { HasChannels (pixel 1 2 3 4 ∷ []) 4 }
     ensures has_three { HasChannels (pixel 1 2 3 255 ∷ []) 3 }
-    ensures has_not_three { HasChannels (pixel 1 2 3 4 ∷ []) 3 → ⊥ }
+    ensures has_not_three { HasChannels (pixel 1 2 3 254 ∷ []) 3 → ⊥ }
     ensures length_is { HasImageLength 3 (1 ∷ 2 ∷ 3 ∷ []) }
     ensures length_is_not { HasImageLength 4 (1 ∷ 2 ∷ 3 ∷ []) → ⊥ }
     ensures length_is_less { HasImageLength 2 (1 ∷ 2 ∷ []) → ⊥ }
+    ensures three_as_three { output 3 3 (pixel 1 2 3 4 ∷ []) ≡ 1 ∷ 2 ∷ 3 ∷ [] }
+    ensures three_as_four { output 3 4 (pixel 1 2 3 4 ∷ []) ≡ 1 ∷ 2 ∷ 3 ∷ 255 ∷ [] }
+    ensures four_as_four { output 4 4 (pixel 1 2 3 4 ∷ []) ≡ 1 ∷ 2 ∷ 3 ∷ 4 ∷ [] }
+    ensures four_as_three { output 4 3 (pixel 1 2 3 4 ∷ []) ≡ 1 ∷ 2 ∷ 3 ∷ [] }
 {}
 
 /// Numbers of bytes, and the headers of images.
 pub fn size_examples()
-    ensures default_width { default_header.width ≡ 1 }
-    ensures default_height { default_header.height ≡ 1 }
-    ensures default_channels { default_header.channels ≡ Channels.Rgb }
-    ensures default_colorspace { default_header.colorspace ≡ ColorSpace.Srgb }
-    ensures header_fields { header_bytes (record {
-      width = 258;
-      height = 3;
-      channels = Channels.Rgba;
-      colorspace = ColorSpace.Linear;
-    }) ≡ 0x71 ∷ 0x6f ∷ 0x69 ∷ 0x66 ∷ 0 ∷ 0 ∷ 1 ∷ 2 ∷ 0 ∷ 0 ∷ 0 ∷ 3 ∷ 4 ∷ 1 ∷ [] }
+    ensures default_is { default_header
+        ≡ record { width = 1; height = 1; channels = Channels.Rgb; colorspace = ColorSpace.Srgb } }
+    ensures header_fields { header_bytes (record default_header { width = 258; height = 3 })
+        ≡ 0x71 ∷ 0x6f ∷ 0x69 ∷ 0x66 ∷ 0 ∷ 0 ∷ 1 ∷ 2 ∷ 0 ∷ 0 ∷ 0 ∷ 3 ∷ 3 ∷ 0 ∷ [] }
     ensures one_pixel_is_valid { IsValid default_header }
     ensures no_pixel_is_not { IsValid (record default_header { height = 0 }) → ⊥ }
     ensures most_pixels_are_valid { IsValid (record default_header { width = 400000000 }) }
     ensures one_more_is_not { IsValid (record default_header { width = 400000001 }) → ⊥ }
-    ensures largest_is_made { tried_header 20000 20000 Channels.Rgba ColorSpace.Linear
-        ≡ Ok (record {
-          width = 20000;
-          height = 20000;
-          channels = Channels.Rgba;
-          colorspace = ColorSpace.Linear;
-        }) }
     ensures larger_is_not_made { tried_header 400000001 1 Channels.Rgba ColorSpace.Linear
         ≡ Err (Error.InvalidImageDimensions 400000001 1) }
     ensures empty_is_not_made { tried_header 0 5 Channels.Rgba ColorSpace.Linear
         ≡ Err (Error.InvalidImageDimensions 0 5) }
-    ensures bytes_in_four { byte_count (record {
-      width = 2;
-      height = 3;
-      channels = Channels.Rgb;
-      colorspace = ColorSpace.Srgb;
-    }) 4 ≡ 24 }
-    ensures image_bytes { image_byte_count (record {
-      width = 2;
-      height = 3;
-      channels = Channels.Rgb;
-      colorspace = ColorSpace.Srgb;
-    }) ≡ 18 }
-    ensures capped_bytes { capped_byte_count (record {
-      width = 4294967295;
-      height = 4294967295;
-      channels = Channels.Rgba;
-      colorspace = ColorSpace.Srgb;
-    }) ≡ 18446744073709551615 }
-    ensures capped_bytes_of_three { capped_byte_count (record default_header {
-      width = 4294967295;
-      height = 4294967295;
-    }) ≡ 18446744073709551615 }
-    ensures uncapped_bytes { capped_byte_count (record {
-      width = 2;
-      height = 3;
-      channels = Channels.Rgb;
-      colorspace = ColorSpace.Srgb;
-    }) ≡ 18 }
-    ensures uncapped_pixels { pixel_count (record default_header {
-      width = 4294967295;
-      height = 4294967295;
-    }) ≡ 18446744065119617025 }
+    ensures bytes_in_four { byte_count (record default_header { width = 2; height = 3 }) 4 ≡ 24 }
+    ensures image_bytes { image_byte_count (record default_header { width = 2; height = 3 }) ≡ 18 }
+    ensures capped_bytes { capped_byte_count
+        (record default_header { width = 4294967295; height = 4294967295 })
+        ≡ 18446744073709551615 }
+    ensures uncapped { capped_byte_count (record default_header { width = 2; height = 3 }) ≡ 18 }
+    ensures uncapped_pixels { pixel_count
+        (record default_header { width = 4294967295; height = 4294967295 })
+        ≡ 18446744065119617025 }
     ensures longest_file { max_len 2 3 4 ≡ 52 }
-    ensures longest_of_all { max_len 20000 20000 4 ≡ 2000000022 }
     ensures longest_without_channels { max_len 1 1 0 ≡ 23 }
-    ensures longest_without_pixels { max_len 0 5 3 ≡ 22 }
     ensures capped_file { max_len 4294967295 4294967295 4 ≡ 18446744073709551615 }
     ensures uncapped_file { max_len 4294967295 4294967295 0 ≡ 18446744065119617047 }
     ensures shortest_file { IsFileLength default_header 23 }
@@ -154,18 +178,10 @@ pub fn size_examples()
 /// The headers of raw bytes, and images that open with opaque black.
 #[tactic(auto, unfolding(crate::specs::Qoi::start, crate::specs::Qoi::pixel_eq))]
 pub fn image_examples()
-    ensures three_bytes_a_pixel { image_header (replicate 6 0) 2 1 ≡ Ok (record {
-      width = 2;
-      height = 1;
-      channels = Channels.Rgb;
-      colorspace = ColorSpace.Srgb;
-    }) }
-    ensures four_bytes_a_pixel { image_header (replicate 8 0) 1 2 ≡ Ok (record {
-      width = 1;
-      height = 2;
-      channels = Channels.Rgba;
-      colorspace = ColorSpace.Srgb;
-    }) }
+    ensures three_bytes_a_pixel { image_header (replicate 6 0) 2 1
+        ≡ tried_header 2 1 Channels.Rgb ColorSpace.Srgb }
+    ensures four_bytes_a_pixel { image_header (replicate 8 0) 1 2
+        ≡ tried_header 1 2 Channels.Rgba ColorSpace.Srgb }
     ensures no_whole_number { image_header (replicate 7 0) 2 1
         ≡ Err (Error.InvalidImageLength 7 2 1) }
     ensures no_bytes { image_header [] 1 1 ≡ Err (Error.InvalidChannels 0) }
@@ -183,8 +199,6 @@ pub fn image_examples()
 
 /// What errors print.
 pub fn text_examples()
-    ensures size { size_text 1 2 ≡ codes "1x2" }
-    ensures four_bytes { bytes_text 0x010203ff ≡ codes "[1, 2, 3, 255]" }
     ensures magic { printed (Error.InvalidMagic 1903126887)
         ≡ Some (codes "invalid magic: expected 1903126886, got [113, 111, 105, 103]") }
     ensures channels { printed (Error.InvalidChannels 5)
@@ -253,11 +267,9 @@ pub fn error_examples()
 
 /// How many bytes a decoder gives for one pixel, and at most takes.
 pub fn decoder_examples()
-    ensures four { (reader : ℕ) → output_byte_count (record {
-      reader = reader;
-      header = default_header;
-      channels = Channels.Rgba;
-    }) ≡ 4 }
+    ensures four { (reader : ℕ) → output_byte_count
+        (record { reader = reader; header = default_header; channels = Channels.Rgba })
+        ≡ 4 }
     ensures within { TakesAtMost 13 (Some (replicate 13 0)) (Some []) }
     ensures beyond { TakesAtMost 13 (Some (replicate 14 0)) (Some []) → ⊥ }
 {}

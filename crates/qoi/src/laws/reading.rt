@@ -1,16 +1,16 @@
 //! Laws on reading: bytes have one verdict, and files are read as they were put together.
-ghost use Rattle.std.specs.Prelude.{◌≡◌, ℕ, ◌+◌, ◌-◌, ◌*◌, ◌<◌, ◌≤◌, ◌⊎◌, List, [], ◌∷◌, ◌++◌, length, take, drop, slice_index, slice_index_or, replicate, Ok, Err, Option, Some};
+ghost use Rattle.std.specs.Prelude.{◌≡◌, ℕ, ◌+◌, ◌-◌, ◌*◌, ◌<◌, ◌≤◌, ◌⊎◌, List, [], ◌∷◌, ◌++◌, length, take, drop, slice_index, slice_index_or, Ok, Err, Option, Some};
 ghost use Rattle.qoi.specs.declared.error.Error.{Error};
 ghost use Rattle.qoi.specs.declared.header.Header.{Header};
 ghost use Rattle.qoi.specs.declared.types.Channels.{Channels};
 ghost use Rattle.qoi.specs.declared.types.ColorSpace.{ColorSpace};
 ghost use Rattle.qoi.specs.declared.chunk.Chunk.{Chunk};
-ghost use Rattle.qoi.specs.Qoi.{AreBytes, IsChunk, AreChunks, bytes_of, chunk_bytes, IsFile, file, file_pixels, header_bytes, pixel_count, IsValid, header_of, pixel, hash, Reaches, StayBelow, meaning, header_size, channels_number, chunk_max, pixels_max};
+ghost use Rattle.qoi.specs.Qoi.{AreBytes, IsFile, file, file_pixels, header_bytes, pixel_count, IsValid, header_of, header_size, channels_number, pixels_max};
 ghost use Rattle.qoi.specs.Raw.{output, without_fourth, image_byte_count};
 ghost use Rattle.qoi.specs.declared.types.Style.{Style};
 ghost use Rattle.qoi.specs.Encoded.{IsFileOf, IsReadBack, image_file, image_header};
 ghost use Rattle.qoi.specs.Tiles.{HasTile};
-ghost use Rattle.qoi.specs.Verdicts.{IsPartOfChunk, IsWhole, IsCut, IsWrong};
+ghost use Rattle.qoi.specs.Verdicts.{IsWhole, IsCut, IsWrong, AreCut};
 ghost use Rattle.qoi.specs.Decoding.{DecodesFile};
 ghost use Rattle.qoi.specs.Decoded.{HasHeader, HasDecoded, HasRefusedFile};
 ghost use Rattle.qoi.specs.EncoderState.{EncoderState};
@@ -42,9 +42,8 @@ pub fn verdict_is_one()
 pub fn verdict_is_some()
     ensures { (n : ℕ) (bytes : List ℕ) → AreBytes bytes
         → ((cs : List Chunk) × (rest : List ℕ) × IsWhole n bytes cs rest)
-        ⊎ (((cs : List Chunk) × (part : List ℕ) × IsCut n bytes cs part)
-        ⊎ ((cs : List Chunk) × (eight : List ℕ) × (rest : List ℕ)
-        × IsWrong n bytes cs eight rest)) }
+        ⊎ (AreCut n bytes
+        ⊎ ((cs : List Chunk) × (eight rest : List ℕ) × IsWrong n bytes cs eight rest)) }
 {}
 
 /// A valid header's fourteen bytes are read as that header, whatever follows them; and bytes that
@@ -222,131 +221,4 @@ pub fn frames_are_found()
         (images found : List (List ℕ)) → AreFrames front offsets images → bytes ≡ front ++ rest
         → (BeginsWithFile rest → ⊥) → AreFrames (take at bytes) ends found
         → (BeginsWithFile (drop at bytes) → ⊥) → new ≡ take at bytes → AreFrames new ends images }
-{}
-
-/// Small images and headers, computed on the definitions.
-#[tactic(auto, unfolding(crate::specs::Qoi::start, crate::specs::Qoi::blank, crate::specs::Qoi::hash, crate::specs::Qoi::after_diff, crate::specs::Qoi::after_luma))]
-pub fn worked_examples()
-    ensures rgb_bytes { chunk_bytes (Chunk.Rgb 11 121 231 ∷ []) ≡ 0xfe ∷ 0x0b ∷ 0x79 ∷ 0xe7 ∷ [] }
-    ensures rgb_means { meaning (Chunk.Rgb 11 121 231 ∷ []) ≡ pixel 11 121 231 255 ∷ [] }
-    ensures run_bytes { chunk_bytes (Chunk.Run 1 ∷ []) ≡ 0xc0 ∷ [] }
-    ensures run_means { meaning (Chunk.Run 1 ∷ []) ≡ pixel 0 0 0 255 ∷ [] }
-    ensures runs_bytes { chunk_bytes (Chunk.Run 62 ∷ Chunk.Run 1 ∷ Chunk.Rgb 11 22 33 ∷ [])
-        ≡ 0xfd ∷ 0xc0 ∷ 0xfe ∷ 0x0b ∷ 0x16 ∷ 0x21 ∷ [] }
-    ensures runs_mean { meaning (Chunk.Run 62 ∷ Chunk.Run 1 ∷ Chunk.Rgb 11 22 33 ∷ [])
-        ≡ replicate 63 (pixel 0 0 0 255) ++ pixel 11 22 33 255 ∷ [] }
-    ensures diff_one_less { meaning (Chunk.Diff 0x55 ∷ []) ≡ pixel 255 255 255 255 ∷ [] }
-    ensures diff_one_more { meaning (Chunk.Diff 0x7f ∷ []) ≡ pixel 1 1 1 255 ∷ [] }
-    ensures diff_two_less { meaning (Chunk.Diff 0x40 ∷ []) ≡ pixel 254 254 254 255 ∷ [] }
-    ensures diff_by_color { meaning (Chunk.Diff 0x47 ∷ []) ≡ pixel 254 255 1 255 ∷ [] }
-    ensures luma_bytes { chunk_bytes (Chunk.Diff 0x47 ∷ Chunk.Luma 0xa0 0x7b ∷ [])
-        ≡ 0x47 ∷ 0xa0 ∷ 0x7b ∷ [] }
-    ensures luma_by_color { meaning (Chunk.Luma 0xa0 0x7b ∷ []) ≡ pixel 255 0 3 255 ∷ [] }
-    ensures diff_is_added { meaning (Chunk.Rgba 10 20 30 40 ∷ Chunk.Diff 0x47 ∷ [])
-        ≡ pixel 10 20 30 40 ∷ pixel 8 19 31 40 ∷ [] }
-    ensures luma_is_added { meaning (Chunk.Rgba 10 20 30 40 ∷ Chunk.Luma 0xa0 0x7b ∷ [])
-        ≡ pixel 10 20 30 40 ∷ pixel 9 20 33 40 ∷ [] }
-    ensures rgb_keeps_alpha { meaning (Chunk.Rgba 1 2 3 4 ∷ Chunk.Rgb 5 6 7 ∷ [])
-        ≡ pixel 1 2 3 4 ∷ pixel 5 6 7 4 ∷ [] }
-    ensures luma_wraps { meaning (Chunk.Luma 0x9f 0 ∷ []) ≡ pixel 247 255 247 255 ∷ [] }
-    ensures luma_least { meaning (Chunk.Luma 0x80 0x88 ∷ []) ≡ pixel 224 224 224 255 ∷ [] }
-    ensures luma_greatest { meaning (Chunk.Luma 0xbf 0xff ∷ []) ≡ pixel 38 31 38 255 ∷ [] }
-    ensures place_means_seen { meaning (Chunk.Rgb 101 102 103 ∷ Chunk.Rgb 1 2 3 ∷ Chunk.Place 0x33
-        ∷ [])
-        ≡ pixel 101 102 103 255 ∷ pixel 1 2 3 255 ∷ pixel 101 102 103 255 ∷ [] }
-    ensures empty_place_is_transparent_black { meaning (Chunk.Place 0 ∷ []) ≡ pixel 0 0 0 0 ∷ [] }
-    ensures run_is_seen { meaning (Chunk.Run 1 ∷ Chunk.Rgb 101 102 103 ∷ Chunk.Place 0x35 ∷ [])
-        ≡ pixel 0 0 0 255 ∷ pixel 101 102 103 255 ∷ pixel 0 0 0 255 ∷ [] }
-    ensures empty_place_is_seen { meaning (Chunk.Rgba 64 0 0 0 ∷ Chunk.Place 0x11 ∷ Chunk.Place 0
-        ∷ [])
-        ≡ pixel 64 0 0 0 ∷ pixel 0 0 0 0 ∷ pixel 0 0 0 0 ∷ [] }
-    ensures last_seen_is_held { meaning (Chunk.Run 1 ∷ Chunk.Rgb 1 99 2 ∷ Chunk.Rgb 1 2 3
-        ∷ Chunk.Place 53 ∷ [])
-        ≡ pixel 0 0 0 255 ∷ pixel 1 99 2 255 ∷ pixel 1 2 3 255 ∷ pixel 1 99 2 255 ∷ [] }
-    ensures place_means_rgba { meaning (Chunk.Rgba 101 102 103 104 ∷ Chunk.Rgba 1 2 3 4
-        ∷ Chunk.Place 0x36 ∷ [])
-        ≡ pixel 101 102 103 104 ∷ pixel 1 2 3 4 ∷ pixel 101 102 103 104 ∷ [] }
-    ensures place_bytes { chunk_bytes (Chunk.Rgba 101 102 103 104 ∷ Chunk.Rgba 1 2 3 4
-        ∷ Chunk.Place 0x36 ∷ [])
-        ≡ 0xff ∷ 0x65 ∷ 0x66 ∷ 0x67 ∷ 0x68 ∷ 0xff ∷ 0x01 ∷ 0x02 ∷ 0x03 ∷ 0x04 ∷ 0x36 ∷ [] }
-    ensures hash_black { hash (pixel 0 0 0 255) ≡ 53 }
-    ensures hash_transparent_black { hash (pixel 0 0 0 0) ≡ 0 }
-    ensures hash_at_zero { hash (pixel 64 0 0 0) ≡ 0 }
-    ensures hash_rgb_100 { hash (pixel 101 102 103 255) ≡ 51 }
-    ensures hash_rgba_100 { hash (pixel 101 102 103 104) ≡ 54 }
-    ensures hash_rgb_1 { hash (pixel 1 2 3 255) ≡ 23 }
-    ensures hash_rgba_1 { hash (pixel 1 2 3 4) ≡ 14 }
-    ensures hash_rgb_of_black { hash (pixel 1 99 2 255) ≡ 53 }
-    ensures hash_rgba_99 { hash (pixel 1 99 2 3) ≡ 33 }
-    ensures hash_multiples { hash (pixel 11 33 55 77) ≡ 22 }
-    ensures hash_high { hash (pixel 251 252 253 255) ≡ 61 }
-    ensures hash_high_less { hash (pixel 249 250 251 255) ≡ 31 }
-    ensures header_is_read { header_of (0x71 ∷ 0x6f ∷ 0x69 ∷ 0x66 ∷ 0x00 ∷ 0x00 ∷ 0x00 ∷ 0x01 ∷ 0x00
-        ∷ 0x00 ∷ 0x00 ∷ 0x01 ∷ 0x03 ∷ 0x00 ∷ [])
-        ≡ Ok (record {
-          width = 1;
-          height = 1;
-          channels = Channels.Rgb;
-          colorspace = ColorSpace.Srgb;
-        }) }
-    ensures largest_header_is_read { header_of (0x71 ∷ 0x6f ∷ 0x69 ∷ 0x66 ∷ 0x00 ∷ 0x00 ∷ 0x4e
-        ∷ 0x20 ∷ 0x00 ∷ 0x00 ∷ 0x4e ∷ 0x20 ∷ 0x04 ∷ 0x01 ∷ [])
-        ≡ Ok (record {
-          width = 20000;
-          height = 20000;
-          channels = Channels.Rgba;
-          colorspace = ColorSpace.Linear;
-        }) }
-    ensures channels_before_magic { header_of (0x71 ∷ 0x6f ∷ 0x69 ∷ 0x67 ∷ 0x00 ∷ 0x00 ∷ 0x00 ∷ 0x01
-        ∷ 0x00 ∷ 0x00 ∷ 0x00 ∷ 0x01 ∷ 0x05 ∷ 0x00 ∷ [])
-        ≡ Err (Error.InvalidChannels 5) }
-    ensures channels_before_color_space { header_of (0x71 ∷ 0x6f ∷ 0x69 ∷ 0x66 ∷ 0x00 ∷ 0x00 ∷ 0x00
-        ∷ 0x01 ∷ 0x00 ∷ 0x00 ∷ 0x00 ∷ 0x01 ∷ 0x05 ∷ 0x02 ∷ [])
-        ≡ Err (Error.InvalidChannels 5) }
-    ensures most_pixels { header_of (0x71 ∷ 0x6f ∷ 0x69 ∷ 0x66 ∷ 0x17 ∷ 0xd7 ∷ 0x84 ∷ 0x00 ∷ 0x00
-        ∷ 0x00 ∷ 0x00 ∷ 0x01 ∷ 0x03 ∷ 0x00 ∷ [])
-        ≡ Ok (record {
-          width = 400000000;
-          height = 1;
-          channels = Channels.Rgb;
-          colorspace = ColorSpace.Srgb;
-        }) }
-    ensures one_pixel_too_many { header_of (0x71 ∷ 0x6f ∷ 0x69 ∷ 0x66 ∷ 0x17 ∷ 0xd7 ∷ 0x84 ∷ 0x01
-        ∷ 0x00 ∷ 0x00 ∷ 0x00 ∷ 0x01 ∷ 0x03 ∷ 0x00 ∷ [])
-        ≡ Err (Error.InvalidImageDimensions 400000001 1) }
-    ensures magic_before_dimensions { header_of (0x71 ∷ 0x6f ∷ 0x69 ∷ 0x67 ∷ 0x00 ∷ 0x00 ∷ 0x00
-        ∷ 0x00 ∷ 0x00 ∷ 0x00 ∷ 0x00 ∷ 0x01 ∷ 0x03 ∷ 0x00 ∷ [])
-        ≡ Err (Error.InvalidMagic 1903126887) }
-    ensures wrong_magic { header_of (0x71 ∷ 0x6f ∷ 0x69 ∷ 0x67 ∷ 0x00 ∷ 0x00 ∷ 0x00 ∷ 0x01 ∷ 0x00
-        ∷ 0x00 ∷ 0x00 ∷ 0x01 ∷ 0x03 ∷ 0x00 ∷ [])
-        ≡ Err (Error.InvalidMagic 1903126887) }
-    ensures color_space_before_magic { header_of (0x71 ∷ 0x6f ∷ 0x69 ∷ 0x67 ∷ 0x00 ∷ 0x00 ∷ 0x00
-        ∷ 0x01 ∷ 0x00 ∷ 0x00 ∷ 0x00 ∷ 0x01 ∷ 0x03 ∷ 0x02 ∷ [])
-        ≡ Err (Error.InvalidColorSpace 2) }
-    ensures no_pixels { header_of (0x71 ∷ 0x6f ∷ 0x69 ∷ 0x66 ∷ 0x00 ∷ 0x00 ∷ 0x00 ∷ 0x00 ∷ 0x00
-        ∷ 0x00 ∷ 0x00 ∷ 0x01 ∷ 0x03 ∷ 0x00 ∷ [])
-        ≡ Err (Error.InvalidImageDimensions 0 1) }
-    ensures too_many_pixels { header_of (0x71 ∷ 0x6f ∷ 0x69 ∷ 0x66 ∷ 0x00 ∷ 0x00 ∷ 0x4e ∷ 0x20
-        ∷ 0x00 ∷ 0x00 ∷ 0x4e ∷ 0x21 ∷ 0x04 ∷ 0x01 ∷ [])
-        ≡ Err (Error.InvalidImageDimensions 20000 20001) }
-    ensures thirteen_bytes { header_of (0x71 ∷ 0x6f ∷ 0x69 ∷ 0x66 ∷ 0x00 ∷ 0x00 ∷ 0x00 ∷ 0x01 ∷ 0x00
-        ∷ 0x00 ∷ 0x00 ∷ 0x01 ∷ 0x03 ∷ [])
-        ≡ Err Error.UnexpectedBufferEnd }
-    ensures file_of_one_pixel { file
-        (record { width = 1; height = 1; channels = Channels.Rgb; colorspace = ColorSpace.Srgb })
-        (Chunk.Rgb 11 121 231 ∷ [])
-        ≡ 0x71 ∷ 0x6f ∷ 0x69 ∷ 0x66 ∷ 0x00 ∷ 0x00 ∷ 0x00 ∷ 0x01 ∷ 0x00 ∷ 0x00 ∷ 0x00 ∷ 0x01 ∷ 0x03
-        ∷ 0x00 ∷ 0xfe ∷ 0x0b ∷ 0x79 ∷ 0xe7 ∷ 0x00 ∷ 0x00 ∷ 0x00 ∷ 0x00 ∷ 0x00 ∷ 0x00 ∷ 0x00 ∷ 0x01
-        ∷ [] }
-    ensures three_as_three { output 3 3 (pixel 1 2 3 4 ∷ []) ≡ 1 ∷ 2 ∷ 3 ∷ [] }
-    ensures three_as_four { output 3 4 (pixel 1 2 3 4 ∷ []) ≡ 1 ∷ 2 ∷ 3 ∷ 255 ∷ [] }
-    ensures four_as_four { output 4 4 (pixel 1 2 3 4 ∷ []) ≡ 1 ∷ 2 ∷ 3 ∷ 4 ∷ [] }
-    ensures four_as_three { output 4 3 (pixel 1 2 3 4 ∷ []) ≡ 1 ∷ 2 ∷ 3 ∷ [] }
-    ensures long_run_reaches { Reaches 4 (Chunk.Run 62 ∷ []) }
-    ensures long_run_is_shortened { file_pixels
-        (record { width = 2; height = 2; channels = Channels.Rgb; colorspace = ColorSpace.Srgb })
-        (Chunk.Run 62 ∷ [])
-        ≡ pixel 0 0 0 255 ∷ pixel 0 0 0 255 ∷ pixel 0 0 0 255 ∷ pixel 0 0 0 255 ∷ [] }
-    ensures too_few_pixels { Reaches 2 (Chunk.Run 1 ∷ []) → ⊥ }
-    ensures no_chunk_past_the_end { Reaches 1 (Chunk.Run 1 ∷ Chunk.Run 1 ∷ []) → ⊥ }
 {}

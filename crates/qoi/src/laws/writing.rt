@@ -5,11 +5,10 @@ ghost use Rattle.std.specs.List.{AllByRecursion, range_with_len};
 ghost use Rattle.qoi.specs.declared.chunk.Chunk.{Chunk};
 ghost use Rattle.qoi.specs.declared.header.Header.{Header};
 ghost use Rattle.qoi.specs.declared.types.Channels.{Channels};
-ghost use Rattle.qoi.specs.declared.types.ColorSpace.{ColorSpace};
 ghost use Rattle.qoi.specs.declared.types.Style.{Style};
 ghost use Rattle.qoi.specs.declared.types.Style.TheVariants.{Reference, Places, Tight};
 ghost use Rattle.qoi.specs.declared.chunk.Chunk.TheVariants.{Place, Run, Rgb, Rgba};
-ghost use Rattle.qoi.specs.Qoi.{RgbaPixel, IsPixel, Past, run_max, blank, pixel, previous, seen, AreBytes, IsValid, AreChunks, chunk_bytes, file, Reaches, meaning};
+ghost use Rattle.qoi.specs.Qoi.{RgbaPixel, IsPixel, Past, run_max, blank, default_header, pixel, previous, seen, start, AreBytes, IsValid, chunk_bytes, file, Reaches, meaning};
 ghost use Rattle.qoi.specs.WrittenList.{written_list};
 ghost use Rattle.qoi.specs.Encoded.{max_len, image_file, IsFileLength, IsFileOf};
 ghost use Rattle.qoi.specs.Raw.{IsChannels, image_byte_count, output, pixels_of, HasChannels};
@@ -84,32 +83,11 @@ pub fn bytes_are_pixels()
         → output channels channels (pixels_of channels bytes) ≡ bytes }
 {}
 
-/// The written list takes at most a byte a pixel more than the raw bytes.
-pub fn written_fits()
-    ensures { (style : Style) (image : List RgbaPixel) (channels n : ℕ) (cs : List Chunk)
-        → HasChannels image channels → length image ≡ n → WrittenIn style image cs
-        → length (chunk_bytes cs) ≤ n * channels + n }
-{}
-
 /// Raw bytes of a valid header's image have a file in each style: `image_file`.
 pub fn images_have_files()
     ensures { (style : Style) (h : Header) (raw : List ℕ) → IsValid h
         → length raw ≡ image_byte_count h → AreBytes raw
         → IsFileOf style h raw (image_file style h raw) }
-{}
-
-/// The written list is a list of chunks, and its pixels are those of its image.
-pub fn written_means()
-    ensures chunks { (style : Style) (image : List RgbaPixel) (cs : List Chunk)
-        → WrittenIn style image cs → AreChunks cs }
-    ensures pixels { (style : Style) (image : List RgbaPixel) (cs : List Chunk)
-        → WrittenIn style image cs → meaning cs ≡ image }
-{}
-
-/// The written list reaches the pixels of its image.
-pub fn written_reaches()
-    ensures { (style : Style) (image : List RgbaPixel) (n : ℕ) (cs : List Chunk)
-        → WrittenIn style image cs → length image ≡ n → Reaches n cs }
 {}
 
 /// A list is regular if each index position that it names holds a pixel of that position; of empty
@@ -144,15 +122,6 @@ pub fn written_is_short()
         → length (chunk_bytes cs) ≤ floor image + slack image channels }
 {}
 
-/// So the written list exceeds each regular list whose pixels begin with those of the image by at
-/// most the image's slack.
-pub fn written_is_near_shortest()
-    ensures { (style : Style) (image : List RgbaPixel) (channels : ℕ) (cs others : List Chunk)
-        → HasChannels image channels
-        → WrittenIn style image cs → Covers image others → Regular others
-        → length (chunk_bytes cs) ≤ length (chunk_bytes others) + slack image channels }
-{}
-
 /// An index position holds the same whether every pixel is put at its position, or only the first
 /// one and each that differs from the pixel before it.
 #[tactic(auto, using(crate::proofs::encoding::styles::TightChoice::seen_first_and_fresh))]
@@ -171,69 +140,53 @@ pub fn tight_is_shortest()
     ensures floors { (image : List RgbaPixel) → floor0 image ≤ floor image }
 {}
 
-/// What the tight lists of a few images cost.
-pub fn tight_examples()
-    ensures black_returns_rgb { floor0 (pixel 0 0 0 255 ∷ pixel 101 102 103 255 ∷ pixel 0 0 0 255
-        ∷ []) ≡ 6 }
-    ensures black_returns_rgba { floor0 (pixel 0 0 0 255 ∷ pixel 101 102 103 104 ∷ pixel 0 0 0 255
-        ∷ []) ≡ 7 }
-    ensures black_overwritten { floor0 (pixel 0 0 0 255 ∷ pixel 1 99 2 255 ∷ pixel 0 0 0 255 ∷ [])
-        ≡ 9 }
-    ensures blank_without_place { floor0 (pixel 64 0 0 0 ∷ pixel 0 0 0 0 ∷ pixel 64 0 0 0
-        ∷ pixel 0 0 0 0 ∷ []) ≡ 11 }
-    ensures first_unseen { least_unseen [] ≡ Some 0 }
-    ensures next_unseen { least_unseen (pixel 64 0 0 0 ∷ []) ≡ Some 1 }
-    ensures last_unseen { least_unseen (map (λ r. pixel r 0 0 0) (range_with_len 0 63)) ≡ Some 61 }
-    ensures none_unseen { least_unseen (map (λ r. pixel r 0 0 0) (range_with_len 0 64)) ≡ None }
-{}
-
 /// In a floor a group of repeats costs a byte for each 62 of them, rounded up.
+#[tactic(auto, using(crate::proofs::shortness::Costs::cost_run))]
 pub fn group_cost()
     ensures { (shortest : Past → RgbaPixel → ℕ) (past : Past) (n : ℕ) → trailing_repeats past ≡ 0
         → total_cost shortest (replicate n (previous past) ++ past)
         ≡ total_cost shortest past + (n + (run_max - 1)) / run_max }
 {}
 
-/// The floor and the slack of a few images.
+/// The floors and the slack of a few images, and the least index position where no pixel was put.
 pub fn shortest_examples()
-    ensures black_returns_rgb { floor (pixel 0 0 0 255 ∷ pixel 101 102 103 255 ∷ pixel 0 0 0 255
-        ∷ []) ≡ 6 }
-    ensures black_returns_rgba { floor (pixel 0 0 0 255 ∷ pixel 101 102 103 104 ∷ pixel 0 0 0 255
-        ∷ []) ≡ 7 }
-    ensures black_overwritten { floor (pixel 0 0 0 255 ∷ pixel 1 99 2 255 ∷ pixel 0 0 0 255 ∷ [])
-        ≡ 9 }
-    ensures black_back_and_forth { floor (pixel 0 0 0 255 ∷ pixel 101 102 103 255 ∷ pixel 0 0 0 255
-        ∷ pixel 101 102 103 255 ∷ pixel 0 0 0 255 ∷ []) ≡ 8 }
-    ensures black_twice { floor (pixel 0 0 0 255 ∷ pixel 0 0 0 255 ∷ []) ≡ 1 }
-    ensures black_many { floor (replicate 63 (pixel 0 0 0 255) ++ pixel 101 102 103 104
-        ∷ pixel 0 0 0 255 ∷ []) ≡ 8 }
-    ensures blank_without_place { floor (pixel 64 0 0 0 ∷ pixel 0 0 0 0 ∷ pixel 64 0 0 0
-        ∷ pixel 0 0 0 0 ∷ []) ≡ 17 }
-    ensures slack_black_returns_rgb { slack (pixel 0 0 0 255 ∷ pixel 101 102 103 255
-        ∷ pixel 0 0 0 255 ∷ []) 3 ≡ 3 }
-    ensures slack_black_returns_rgba { slack (pixel 0 0 0 255 ∷ pixel 101 102 103 104
-        ∷ pixel 0 0 0 255 ∷ []) 4 ≡ 4 }
-    ensures slack_opens_with_color { slack (pixel 101 102 103 255 ∷ pixel 0 0 0 255 ∷ []) 3 ≡ 0 }
-    ensures slack_black_overwritten { slack (pixel 0 0 0 255 ∷ pixel 1 99 2 255 ∷ pixel 0 0 0 255
-        ∷ []) 3 ≡ 0 }
+    ensures black_again_rgb { (P : List RgbaPixel) → P ≡ start ∷ pixel 101 102 103 255 ∷ start ∷ []
+        → (floor0 P ≡ 6) × (floor P ≡ 6) × (slack P 3 ≡ 3) }
+    ensures black_again_rgba { (P : List RgbaPixel) → P ≡ start ∷ pixel 101 102 103 104 ∷ start ∷ []
+        → (floor0 P ≡ 7) × (floor P ≡ 7) × (slack P 4 ≡ 4) }
+    ensures black_overwritten { (P : List RgbaPixel) → P ≡ start ∷ pixel 1 99 2 255 ∷ start ∷ []
+        → (floor0 P ≡ 9) × (floor P ≡ 9) × (slack P 3 ≡ 0) }
+    ensures black_back_and_forth { floor (start ∷ pixel 101 102 103 255 ∷ start
+        ∷ pixel 101 102 103 255 ∷ start ∷ []) ≡ 8 }
+    ensures black_twice { floor (start ∷ start ∷ []) ≡ 1 }
+    ensures black_many { floor (replicate 63 start ++ pixel 101 102 103 104 ∷ start ∷ []) ≡ 8 }
+    ensures blank_without_place { (P : List RgbaPixel)
+        → P ≡ pixel 64 0 0 0 ∷ blank ∷ pixel 64 0 0 0 ∷ blank ∷ []
+        → (floor0 P ≡ 11) × (floor P ≡ 17) }
+    ensures opens_with_color { slack (pixel 101 102 103 255 ∷ start ∷ []) 3 ≡ 0 }
+    ensures first_unseen { least_unseen [] ≡ Some 0 }
+    ensures next_unseen { least_unseen (pixel 64 0 0 0 ∷ []) ≡ Some 1 }
+    ensures last_unseen { least_unseen (map (λ r. pixel r 0 0 0) (range_with_len 0 63)) ≡ Some 61 }
+    ensures none_unseen { least_unseen (map (λ r. pixel r 0 0 0) (range_with_len 0 64)) ≡ None }
 {}
 
 /// The slack is reached. Opaque black, a color and opaque black again are written in 9 bytes in
 /// three channels and in 11 in four, and a regular list that names the index position of opaque
 /// black has 6 and 7.
+#[tactic(auto, using(crate::proofs::shortness::Reached::written_rgb, crate::proofs::shortness::Reached::written_rgba), unfolding(crate::specs::Qoi::start, crate::specs::Qoi::blank, crate::specs::Qoi::hash))]
 pub fn slack_is_reached()
-    ensures written_rgb { Written (pixel 0 0 0 255 ∷ pixel 101 102 103 255 ∷ pixel 0 0 0 255 ∷ [])
+    ensures written_rgb { Written (start ∷ pixel 101 102 103 255 ∷ start ∷ [])
         (Run 1 ∷ Rgb 101 102 103 ∷ Rgb 0 0 0 ∷ []) }
     ensures regular_rgb { Regular (Run 1 ∷ Rgb 101 102 103 ∷ Place 53 ∷ []) }
     ensures meaning_rgb { meaning (Run 1 ∷ Rgb 101 102 103 ∷ Place 53 ∷ [])
-        ≡ pixel 0 0 0 255 ∷ pixel 101 102 103 255 ∷ pixel 0 0 0 255 ∷ [] }
+        ≡ start ∷ pixel 101 102 103 255 ∷ start ∷ [] }
     ensures longer_rgb { length (chunk_bytes (Run 1 ∷ Rgb 101 102 103 ∷ Rgb 0 0 0 ∷ []))
         ≡ length (chunk_bytes (Run 1 ∷ Rgb 101 102 103 ∷ Place 53 ∷ [])) + 3 }
-    ensures written_rgba { Written (pixel 0 0 0 255 ∷ pixel 101 102 103 104 ∷ pixel 0 0 0 255 ∷ [])
+    ensures written_rgba { Written (start ∷ pixel 101 102 103 104 ∷ start ∷ [])
         (Run 1 ∷ Rgba 101 102 103 104 ∷ Rgba 0 0 0 255 ∷ []) }
     ensures regular_rgba { Regular (Run 1 ∷ Rgba 101 102 103 104 ∷ Place 53 ∷ []) }
     ensures meaning_rgba { meaning (Run 1 ∷ Rgba 101 102 103 104 ∷ Place 53 ∷ [])
-        ≡ pixel 0 0 0 255 ∷ pixel 101 102 103 104 ∷ pixel 0 0 0 255 ∷ [] }
+        ≡ start ∷ pixel 101 102 103 104 ∷ start ∷ [] }
     ensures longer_rgba { length (chunk_bytes (Run 1 ∷ Rgba 101 102 103 104 ∷ Rgba 0 0 0 255 ∷ []))
         ≡ length (chunk_bytes (Run 1 ∷ Rgba 101 102 103 104 ∷ Place 53 ∷ [])) + 4 }
 {}
@@ -241,8 +194,8 @@ pub fn slack_is_reached()
 /// Of 63 repeats 62 are the first run, and the one that is left the second; not the other way
 /// round.
 pub fn full_runs_come_first()
-    ensures full_first { Written (replicate 63 (pixel 0 0 0 255)) (Run 62 ∷ Run 1 ∷ []) }
-    ensures rest_first { Written (replicate 63 (pixel 0 0 0 255)) (Run 1 ∷ Run 62 ∷ []) → ⊥ }
+    ensures full_first { Written (replicate 63 (start)) (Run 62 ∷ Run 1 ∷ []) }
+    ensures rest_first { Written (replicate 63 (start)) (Run 1 ∷ Run 62 ∷ []) → ⊥ }
 {}
 
 /// The file of an image has as many bytes as `IsFileLength` says, in each style.
@@ -253,13 +206,12 @@ pub fn files_have_their_length()
 
 /// The greatest length of a file is reached: one pixel that is written in full, in three channels
 /// and in four.
+#[tactic(auto, using(crate::proofs::shortness::Reached::one_rgb, crate::proofs::shortness::Reached::one_rgba))]
 pub fn greatest_length_is_reached()
     ensures written_rgb { Written (pixel 11 121 231 255 ∷ []) (Rgb 11 121 231 ∷ []) }
-    ensures length_rgb { length (file
-        (record { width = 1; height = 1; channels = Channels.Rgb; colorspace = ColorSpace.Srgb })
-        (Rgb 11 121 231 ∷ [])) ≡ max_len 1 1 3 }
+    ensures length_rgb { length (file default_header (Rgb 11 121 231 ∷ [])) ≡ max_len 1 1 3 }
     ensures written_rgba { Written (pixel 11 121 231 55 ∷ []) (Rgba 11 121 231 55 ∷ []) }
-    ensures length_rgba { length (file
-        (record { width = 1; height = 1; channels = Channels.Rgba; colorspace = ColorSpace.Srgb })
-        (Rgba 11 121 231 55 ∷ [])) ≡ max_len 1 1 4 }
+    ensures length_rgba { length
+        (file (record default_header { channels = Channels.Rgba }) (Rgba 11 121 231 55 ∷ []))
+        ≡ max_len 1 1 4 }
 {}

@@ -1,18 +1,10 @@
 -- Examples that a search doesn't compute.
 use Rattle.std.proofs.Common.{[], ◌∷◌, arith, refl}
-use Rattle.qoi.specs.Qoi.{pixel, blank, hash}
+use Rattle.qoi.specs.Qoi.{pixel}
 use Rattle.qoi.proofs.laws.examples.chunk_examples.Goals as goal
 
 pub returns-clause-no_byte : goal.returns-clause-no_byte
 returns-clause-no_byte c are = absurd (omega (arith, are 0))
-
-pub returns-clause-named_there : goal.returns-clause-named_there
-unfolding blank hash
-returns-clause-named_there c = (refl, tt)
-
-pub returns-clause-named_elsewhere : goal.returns-clause-named_elsewhere
-unfolding blank hash
-returns-clause-named_elsewhere c named = absurd (omega (arith, named.0))
 
 pub returns-clause-begins : goal.returns-clause-begins
 returns-clause-begins c = (pixel 5 6 7 8 ∷ [], refl)

@@ -6,8 +6,6 @@ use Rattle.qoi.proofs.laws.examples.text_examples.Goals as goal
 pub returns : goal.returns
 unfolding digits
 returns c = record {
-  size = refl;
-  four_bytes = refl;
   magic = refl;
   channels = refl;
   color_space = refl;

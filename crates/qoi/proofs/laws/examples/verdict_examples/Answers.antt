@@ -1,5 +1,5 @@
 -- Each is put together from its chunks.
-use Rattle.std.proofs.Common.{◌≡◌, ◌≢◌, [], ◌∷◌, replicate, slice_index, refl, ap, arith, inl}
+use Rattle.std.proofs.Common.{◌≡◌, ◌≢◌, [], ◌∷◌, replicate, slice_index, refl, ap, arith, rules, inl}
 use Rattle.qoi.specs.declared.error.Error.TheVariants.{IoError}
 use Rattle.qoi.specs.declared.chunk.Chunk.TheVariants.{Run, Rgb}
 use Rattle.qoi.specs.Qoi.{end_marker}
@@ -20,28 +20,15 @@ nothing = record {
 
 -- eight zeros after the first pixel are wrong
 eight : IsWrong 1 (0xc0 ∷ replicate 8 0) (Run 1 ∷ []) (replicate 8 0) []
-eight = record {
-  has = record { chunks = ((omega arith, omega arith), tt); stays_below = (omega arith, tt); split = refl };
-  enough = omega arith;
-  length_is = refl;
-  other = zeros;
-}
+eight = search rules
 
 -- of nine zeros after the first pixel, one is left
 nine : IsWrong 1 (0xc0 ∷ replicate 9 0) (Run 1 ∷ []) (replicate 8 0) (0 ∷ [])
-nine = record {
-  has = record { chunks = ((omega arith, omega arith), tt); stays_below = (omega arith, tt); split = refl };
-  enough = omega arith;
-  length_is = refl;
-  other = zeros;
-}
+nine = search rules
 
 -- the end marker after the first pixel
 marked : IsWhole 1 (0xc0 ∷ end_marker) (Run 1 ∷ []) []
-marked = record {
-  has = record { chunks = ((omega arith, omega arith), tt); stays_below = (omega arith, tt); split = refl };
-  enough = omega arith;
-}
+marked = search rules
 
 pub returns-clause-cut_in_chunk : goal.returns-clause-cut_in_chunk
 returns-clause-cut_in_chunk c = record {

@@ -2,20 +2,22 @@
 use Rattle.std.proofs.Common.{refl}
 use Rattle.qoi.specs.Qoi.{pixel_eq, start, blank, hash, after_diff, after_luma}
 use Rattle.qoi.specs.Shortest.{some_diff, some_luma, some_rgb, least, cost, slack}
+use Rattle.qoi.specs.Tight.{least_unseen, least0}
 use Rattle.qoi.proofs.laws.writing.shortest_examples.Goals as goal
 
 pub returns : goal.returns
-unfolding pixel_eq start blank hash after_diff after_luma some_diff some_luma some_rgb least cost slack
+unfolding pixel_eq start blank hash after_diff after_luma some_diff some_luma some_rgb least cost slack least_unseen least0
 returns c = record {
-  black_returns_rgb = refl;
-  black_returns_rgba = refl;
-  black_overwritten = refl;
+  black_again_rgb = λ P is. rw is (refl, refl, refl);
+  black_again_rgba = λ P is. rw is (refl, refl, refl);
+  black_overwritten = λ P is. rw is (refl, refl, refl);
   black_back_and_forth = refl;
   black_twice = refl;
   black_many = refl;
-  blank_without_place = refl;
-  slack_black_returns_rgb = refl;
-  slack_black_returns_rgba = refl;
-  slack_opens_with_color = refl;
-  slack_black_overwritten = refl;
+  blank_without_place = λ P is. rw is (refl, refl);
+  opens_with_color = refl;
+  first_unseen = refl;
+  next_unseen = refl;
+  last_unseen = refl;
+  none_unseen = refl;
 }

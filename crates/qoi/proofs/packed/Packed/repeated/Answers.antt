@@ -5,4 +5,4 @@ use Rattle.qoi.proofs.packed.Packed.repeated.Goals as goal
 
 pub returns-then-this-eq4-clause-bytes : goal.returns-then-this-eq4-clause-bytes
 returns-then-this-eq4-clause-bytes g c =
-    four_of_word c.args.self c.wide-word.result c.wide-word.ensures.number c.wide-word.ensures.bytes ∙ each_part g.row.N g.row.PART c.args.self c.if-this-eq4.true c.requires.part
+    four_of_word c.args.self c.from-word.result (c.from-word.ensures ∙ c.number.ensures.number) c.number.ensures.bytes ∙ each_part g.row.N g.row.PART c.args.self c.if-this-eq4.true c.requires.part
