@@ -23,7 +23,6 @@ mod one_chunk;
 mod output;
 mod pixel_reader;
 mod plain_rows;
-mod plain_tables;
 mod reached;
 mod reader;
 mod slice;

@@ -1,22 +1,22 @@
 -- A chunk more, while there is room ahead.
-use Rattle.std.proofs.Common.{◌≡◌, ◌⊎◌, ℕ, ◌+◌, ◌-◌, ◌*◌, ◌/◌, ◌%◌, ◌<◌, ◌≤◌, inl, inr, List, ◌++◌, length, take, drop, get_or, replicate, Bool, true, false, cond, nat_eq, eqb, not, IsTrue, arith, refl, sym, ap, ◌∙◌, subst, ◌∷◌, append_assoc}
+use Rattle.std.proofs.Common.{◌≡◌, ◌⊎◌, ℕ, ◌+◌, ◌-◌, ◌*◌, ◌/◌, ◌%◌, ◌<◌, ◌≤◌, inl, inr, List, ◌++◌, length, take, drop, get_or, Bool, true, false, cond, nat_eq, arith, refl, sym, ap, ◌∙◌, subst, ◌∷◌, append_assoc}
 use Rattle.std.proofs.lemmas.Bool.{cases_lt}
 use Rattle.std.proofs.lemmas.Bool.Decides.{nat_tests}
-use Rattle.std.proofs.lemmas.List.{get_or-drop, get_or-take, take-take, length-take-le}
+use Rattle.std.proofs.lemmas.List.{get_or-drop, get_or-take, take-take, length-take-le, length-drop}
 use Rattle.std.proofs.Math.Seq.{take-add}
 use mir.Val.{bool_byte}
 use Rattle.qoi.specs.declared.decode.fast.Progress.{Progress}
-use Rattle.qoi.specs.Qoi.{Past}
+use Rattle.qoi.specs.Qoi.{Past, AreBytes}
 use Rattle.qoi.specs.Raw.{IsChannels}
-use Rattle.qoi.specs.inner.Filling.{upto, reached, filling, taken_further, HasWritten, HasFilled, HasAhead, DecodesChunk, DecoderBetween, IsFrontAfter, Fast, fast, FastStep, FastBetween, FastChunks, IsPlainTag}
-use Rattle.qoi.specs.inner.Hashed.{pixel_of_lanes, HoldsSeen}
-use Rattle.qoi.proofs.format.WholePixels.{by_channels}
-use Rattle.qoi.proofs.decoding.FilledBuffer.{filled_copies}
-use Rattle.qoi.proofs.decoding.FirstChunk.{PutsCopies, HasSize}
+use Rattle.qoi.specs.inner.Filling.{upto, reached, filling, taken_further, HasCopies, HasFilled, HasAhead, DecodesChunk, DecoderBetween, IsFrontAfter, FastStep, FastBetween, FastChunks, IsAdvance, IsPlainTag}
+use Rattle.qoi.specs.inner.Hashed.{pixel_of_lanes, HoldsSeen, IsAfterShort, IsAfterFull}
+use Rattle.qoi.proofs.format.WholePixels.{by_channels, take_whole}
+use Rattle.qoi.proofs.decoding.FilledBuffer.{filled_copies, block_fits}
+use Rattle.qoi.proofs.decoding.FirstChunk.{PutsCopies, HasSize, decodes_short, decodes_full}
 use Rattle.qoi.proofs.decoding.Progress.{goes_on, taken_as}
 
 -- how many pixels a short chunk has, by its first byte and its number of output bytes
-pub record ShortCount (c b size : ℕ) : Type 0 where
+record ShortCount (c b size : ℕ) : Type 0 where
   pub count : ℕ
   pub size_is : size ≡ c * count
   pub once : b < 192 → count ≡ 1
@@ -29,14 +29,13 @@ pub in_vector : (c : ℕ) → IsChannels c → (1 ≤ 16 / c) × (16 / c ≤ 5)
 in_vector c is = by_channels (λ d. (1 ≤ 16 / d) × (16 / d ≤ 5)) is (omega arith, omega arith) (omega arith, omega arith)
 
 -- each short chunk has some
-pub short_count : (c b size : ℕ) → IsChannels c → b ≤ 191 + 16 / c → (b < 192 → size ≡ c) → (192 ≤ b → b < 254 → size ≡ c * (b - 191))
-    → ShortCount c b size
-short_count c b size is short one run =
+short_count : (c b size : ℕ) → IsChannels c → b ≤ 191 + 16 / c → IsAdvance c b size → ShortCount c b size
+short_count c b size is short size_is =
     let block = in_vector c is in
     elim (cases_lt b 192) [
-      | inl less ↦ record { count = 1; size_is = omega (arith, one less); once = λ l. refl; often = λ l. absurd (omega arith); fits = block.0; low = omega arith }
+      | inl less ↦ record { count = 1; size_is = omega (arith, size_is.once less); once = λ l. refl; often = λ l. absurd (omega arith); fits = block.0; low = omega arith }
       | inr more ↦ let low : b < 254 = omega arith in
-          record { count = b - 191; size_is = run more low; once = λ l. absurd (omega arith); often = λ l. omega arith; fits = omega arith; low = low }
+          record { count = b - 191; size_is = size_is.run more low; once = λ l. absurd (omega arith); often = λ l. omega arith; fits = omega arith; low = low }
     ]
 
 -- the pixels of any run have fewer bytes than the vectors of any run
@@ -48,10 +47,10 @@ pub whole_after : (c at count : ℕ) → IsChannels c → at % c ≡ 0 → (at +
 whole_after c at count is = by_channels (λ d. at % d ≡ 0 → (at + d * count) % d ≡ 0) is (λ p. omega arith) (λ p. omega arith)
 
 -- the byte after a chunk, of the two that may come there: after a luma, or an RGBA chunk, one more is taken
-pub next_byte : (more : Bool) (bytes : List ℕ) (one two size next : ℕ) → two ≡ one + 1 → size ≡ bool_byte more
-    → next ≡ cond more (get_or bytes two 0) (get_or bytes one 0) → next ≡ get_or bytes (one + size) 0
-next_byte true bytes one two size next after s e = let at : one + size ≡ two = omega (arith, s, after) in rw at e
-next_byte false bytes one two size next after s e = let at : one + size ≡ one = omega (arith, s) in rw at e
+pub next_byte : (more : Bool) (bytes : List ℕ) (one two to size next : ℕ) → two ≡ one + 1 → to ≡ one + size → size ≡ bool_byte more
+    → next ≡ cond more (get_or bytes two 0) (get_or bytes one 0) → next ≡ get_or bytes to 0
+next_byte true bytes one two to size next after sum s e = let at : to ≡ two = omega (arith, sum, s, after) in rw at e
+next_byte false bytes one two to size next after sum s e = let at : to ≡ one = omega (arith, sum, s) in rw at e
 
 -- a luma has one byte more
 pub one_more : (luma : Bool) (size : ℕ) → size ≡ bool_byte luma → size ≤ 1
@@ -62,148 +61,149 @@ one_more false size s = omega (arith, s)
 pub full_size : (b size : ℕ) → b < 256 → size ≡ bool_byte (nat_eq b 255) → (b < 255 → size ≡ 0) × (255 ≤ b → size ≡ 1)
 full_size b size low is = (λ less. grind (arith, nat_tests), λ more. grind (arith, nat_tests))
 
--- a chunk was taken, its pixel put at its index position and written `count` times
-pub fast_step : {f c input room : ℕ} {bytes table table' out out' : List ℕ} (now new : Progress) (count : ℕ) → IsChannels c → now.at % c ≡ 0
-    → now.at < length out → now.at + c * count ≤ length out → length out' ≡ length out → new.at ≡ now.at + c * count → c * count ≤ room
+-- A chunk's pixel was put into the table and is stored, as often as is asked for and a vector holds;
+-- its first byte is at hand, and so is the byte after the chunk.
+pub record Stores {N F : ℕ} (bytes : List ℕ) (now : Progress N F) (table out : List ℕ) (new : Progress N F) (table' out' : List ℕ) : Type 0 where
+  pub put : (past : Past) → HoldsSeen table past → HoldsSeen table' (pixel_of_lanes new.last ∷ past)
+  pub stored : (count : ℕ) → count ≤ 16 / N → HasCopies F N now.at count new.last out out'
+  pub size : length out' ≡ length out
+  pub next : new.next ≡ get_or bytes new.taken 0
+  pub fits : AreBytes bytes
+
+-- a chunk of k bytes was taken, its pixel put at its index position and written `count` times
+pub fast_step : {N F room : ℕ} {bytes table table' out out' : List ℕ} (now new : Progress N F) (count k : ℕ) → IsChannels N → now.at % N ≡ 0
+    → now.at < length out → now.at + N * count ≤ length out → length out' ≡ length out → new.at ≡ now.at + N * count → N * count ≤ room
     → ((past : Past) → HoldsSeen table past → HoldsSeen table' (pixel_of_lanes new.last ∷ past))
-    → HasWritten f c (upto out now.at) (upto out' (now.at + c * count)) (replicate count (pixel_of_lanes new.last))
-    → new.next ≡ get_or bytes new.taken 0 → new.next < 256 → (k : ℕ) → new.taken ≡ now.taken + k → 0 < k → k ≤ input
+    → HasCopies F N now.at count new.last out out'
+    → new.next ≡ get_or bytes new.taken 0 → new.next < 256 → new.taken ≡ now.taken + k
     → (now.next ≡ get_or (drop now.taken bytes) 0 0
-    → PutsCopies f c (pixel_of_lanes new.last) count (filling table (reached now.last now.at) out) (filling table' (reached new.last (now.at + c * count)) out')
-    → DecodesChunk f c (take k (drop now.taken bytes)) (filling table (reached now.last now.at) out) (filling table' (reached new.last (now.at + c * count)) out'))
-    → FastStep f c input room bytes (fast now table out) (fast new table' out')
-fast_step {f} {c} {bytes = bytes} {table} {table'} {out} {out'} now new count is whole inside fits size end few put written next byte k taken some most decodes =
-    let copies = λ (m : ℕ) (past : Past) (s : HasFilled f c m (upto out now.at) past). filled_copies f c m out out' now.at count (pixel_of_lanes new.last) past is inside fits size written s in
-    let ends_whole = whole_after c now.at count is whole in
+    → PutsCopies F N (pixel_of_lanes new.last) count (filling table (reached now.last now.at) out) (filling table' (reached new.last (now.at + N * count)) out')
+    → DecodesChunk F N (take k (drop now.taken bytes)) (filling table (reached now.last now.at) out) (filling table' (reached new.last (now.at + N * count)) out'))
+    → FastStep k k room bytes now table out new table' out'
+fast_step {N} {F} {bytes = bytes} {table} {table'} {out} {out'} now new count k is whole inside fits size end few put written next byte taken decodes =
+    let copies = λ (m : ℕ) (past : Past) (s : HasFilled F N m (upto out now.at) past). filled_copies F N m out out' now.at count (pixel_of_lanes new.last) past is inside fits size written s in
+    let ends_whole = whole_after N now.at count is whole in
     record {
       between = λ gone n front h.
           let first : now.next ≡ get_or (drop now.taken bytes) 0 0 = h.next_is ∙ ap (λ i. get_or bytes i 0) (omega arith) ∙ sym (get_or-drop now.taken bytes 0 0) in
           let decoded = decodes first (record { last_is = refl; table = put; filled = copies }) in
           record {
-            between = subst (λ at. DecoderBetween f c gone n (IsFrontAfter front bytes new.taken) (filling table' (reached new.last at) out')) (sym end)
-                (goes_on {old = filling table (reached now.last now.at) out} {new = filling table' (reached new.last (now.at + c * count)) out'} is h.between inside decoded
+            between = subst (λ at. DecoderBetween F N gone n (IsFrontAfter front bytes new.taken) (filling table' (reached new.last at) out')) (sym end)
+                (goes_on {old = filling table (reached now.last now.at) out} {new = filling table' (reached new.last (now.at + N * count)) out'} is h.between inside decoded
                 (λ before is_front. ap (λ z. z ++ take k (drop now.taken bytes)) is_front ∙ append_assoc front (take now.taken bytes) (take k (drop now.taken bytes))
                 ∙ ap (λ z. front ++ z) (sym (take-add now.taken k bytes) ∙ ap (λ m. take m bytes) (sym taken)))
                 (rw size fits) ends_whole);
             next_is = next;
           };
-      taken = (omega (arith, taken), omega (arith, taken, most));
-      some = λ short. omega (arith, taken, some);
+      taken = (omega (arith, taken), omega (arith, taken));
       written = (omega (arith, end), omega (arith, end, few));
       whole = rw end ends_whole;
       byte = byte;
     }
 
--- no chunk was taken yet
-pub no_chunks : {f c room : ℕ} {bytes table out : List ℕ} (now : Progress) → HasAhead c 1 room bytes out now → FastChunks f c bytes (fast now table out) (fast now table out)
-no_chunks now ahead = record {
-  between = λ gone n front h. h;
-  taken = (omega arith, omega (arith, ahead.input_is));
-  written = (omega arith, omega (arith, ahead.room_is));
-  below = λ less. less;
-  whole = ahead.whole;
-  byte = ahead.byte;
+-- a step that goes on less far
+pub step_within : {N F i k l n r t : ℕ} {bytes table table' out out' : List ℕ} {old new : Progress N F} → FastStep i l r bytes old table out new table' out' → k ≤ i → l ≤ n → r ≤ t
+    → FastStep k n t bytes old table out new table' out'
+step_within a least most room = record {
+  between = a.between;
+  taken = (omega (arith, a.taken, least), omega (arith, a.taken, most));
+  written = (a.written.0, omega (arith, a.written, room));
+  whole = a.whole;
+  byte = a.byte;
 }
 
--- a step more of the fast loop
-pub step_more : {f c input room : ℕ} {bytes : List ℕ} {old middle new : Fast} → FastChunks f c bytes old middle
-    → FastStep f c input room bytes middle new → new.now.taken < length bytes → new.now.at < length new.out → FastChunks f c bytes old new
-step_more before step within below = record {
-  between = λ gone n front h. step.between gone n front (before.between gone n front h);
-  taken = (omega (arith, before.taken, step.taken), within);
-  written = (omega (arith, before.written, step.written), omega (arith, below));
-  below = λ _. below;
-  whole = step.whole;
-  byte = step.byte;
-}
+-- an RGB or RGBA chunk of `size` bytes, with the pixel that it has after the last one
+pub full_step : {N F : ℕ} {bytes table table' out out' : List ℕ} (now new : Progress N F) (size : ℕ) → HasAhead 6 16 bytes out now
+    → Stores bytes now table out new table' out' → 254 ≤ now.next → new.at ≡ now.at + N → new.taken ≡ now.taken + size
+    → (now.next ≡ 254 → size ≡ 4) → (now.next ≡ 255 → size ≡ 5)
+    → IsAfterFull now.next (take (length bytes - now.taken) (drop now.taken bytes)) (pixel_of_lanes now.last) (pixel_of_lanes new.last)
+    → FastStep 4 5 4 bytes now table out new table' out'
+full_step {N} {bytes = bytes} {out = out} now new size ahead s full at taken four five px =
+    let is = ahead.three_or_four in
+    let one = (in_vector N is).0 in
+    let rest = drop now.taken bytes in
+    let fits : AreBytes rest = λ i. rw (get_or-drop now.taken bytes i 0) (s.fits (now.taken + i)) in
+    let read = rw (take_whole (length bytes - now.taken) rest (length-drop now.taken bytes)) at px in
+    let bounds : (4 ≤ size) × (size ≤ 5) = elim (cases_lt now.next 255) [
+      | inl less ↦ let e = four (omega (arith, less, full)) in (omega (arith, e), omega (arith, e))
+      | inr more ↦ let e = five (omega (arith, more, ahead.byte)) in (omega (arith, e), omega (arith, e))
+    ] in
+    step_within (fast_step {room = 4} now new 1 size is ahead.whole (omega (arith, ahead.room_is)) (block_fits N now.at 1 (length out) is one ahead.room_is) s.size
+    (omega (arith, at)) (by_channels (λ d. d * 1 ≤ 4) is (omega arith) (omega arith)) s.put (s.stored 1 one) s.next (omega (arith, s.next, s.fits new.taken)) taken
+    (λ first. decodes_full rest now.next size (omega (arith, ahead.input_is, length-drop now.taken bytes)) fits first full four five read)) bounds.0 bounds.1 (omega arith)
 
--- more chunks were taken after others
-pub chunks_then : {f c : ℕ} {bytes : List ℕ} {old middle new : Fast} → FastChunks f c bytes old middle → FastChunks f c bytes middle new → FastChunks f c bytes old new
-chunks_then a b = record {
+-- a short chunk of `size` bytes, with the pixel that it has after the last one
+pub short_step : {N F k : ℕ} {bytes table table' out out' : List ℕ} (now new : Progress N F) (size adds : ℕ) → HasAhead k 16 bytes out now → 2 ≤ k
+    → Stores bytes now table out new table' out' → now.next ≤ 191 + 16 / N → new.at ≡ now.at + adds → IsAdvance N now.next adds → new.taken ≡ now.taken + size
+    → HasSize now.next size
+    → IsAfterShort now.next (get_or bytes (now.taken + 1) 0) table (pixel_of_lanes now.last) (pixel_of_lanes new.last)
+    → FastStep size size 16 bytes now table out new table' out'
+short_step {N} {bytes = bytes} {out = out} now new size adds ahead some s short at adds_are taken sized px =
+    let is = ahead.three_or_four in
+    let n = short_count N now.next adds is short adds_are in
+    let rest = drop now.taken bytes in
+    let long : 2 ≤ length rest = omega (arith, ahead.input_is, some, length-drop now.taken bytes) in
+    fast_step {room = 16} now new n.count size is ahead.whole (omega (arith, ahead.room_is)) (block_fits N now.at n.count (length out) is n.fits ahead.room_is) s.size
+    (at ∙ ap (λ k. now.at + k) n.size_is) (omega (arith, block_fits N 0 n.count 16 is n.fits (omega arith))) s.put (s.stored n.count n.fits) s.next
+    (omega (arith, s.next, s.fits new.taken)) taken
+    (λ first. decodes_short rest now.next (get_or bytes (now.taken + 1) 0) size n.count long first (sym (get_or-drop now.taken bytes 1 0)) n.low (s.fits (now.taken + 1))
+    sized n.once n.often px)
+
+-- two steps are one
+pub step_on : {N F i j k l m n r s t : ℕ} {bytes table table' table'' out out' out'' : List ℕ} {old middle new : Progress N F} → FastStep i l r bytes old table out middle table' out'
+    → FastStep j m s bytes middle table' out' new table'' out'' → old.taken + k ≤ new.taken → new.taken ≤ old.taken + n → new.at ≤ old.at + t
+    → FastStep k n t bytes old table out new table'' out''
+step_on a b least most room = record {
   between = λ gone n front h. b.between gone n front (a.between gone n front h);
-  taken = (omega (arith, a.taken, b.taken), b.taken.1);
-  written = (omega (arith, a.written, b.written), b.written.1);
-  below = λ less. b.below (a.below less);
+  taken = (least, most);
+  written = (omega (arith, a.written, b.written), room);
   whole = b.whole;
   byte = b.byte;
 }
 
+-- the same of numbers
+pub step_then : {N F i j k l m n r s t : ℕ} {bytes table table' table'' out out' out'' : List ℕ} {old middle new : Progress N F} → FastStep i l r bytes old table out middle table' out'
+    → FastStep j m s bytes middle table' out' new table'' out'' → k ≤ i + j → l + m ≤ n → r + s ≤ t → FastStep k n t bytes old table out new table'' out''
+step_then a b least most room = step_on a b (omega (arith, a.taken, b.taken, least)) (omega (arith, a.taken, b.taken, most)) (omega (arith, a.written, b.written, room))
+
+-- a step more, before the end of the bytes and of the output
+pub step_more : {N F i l r : ℕ} {bytes table table' table'' out out' out'' : List ℕ} {old middle new : Progress N F} → FastChunks bytes old table out middle table' out'
+    → FastStep i l r bytes middle table' out' new table'' out'' → new.taken < length bytes → new.at < length out → FastChunks bytes old table out new table'' out''
+step_more a b within below = step_on a b (omega (arith, a.taken, b.taken)) (omega (arith, within)) (omega (arith, below))
+
+-- more chunks were taken after others
+pub chunks_then : {N F : ℕ} {bytes table table' table'' out out' out'' : List ℕ} {old middle new : Progress N F} → length out' ≡ length out → FastChunks bytes old table out middle table' out'
+    → FastChunks bytes middle table' out' new table'' out'' → FastChunks bytes old table out new table'' out''
+chunks_then size a b = step_on a b (omega (arith, a.taken, b.taken)) (omega (arith, a.taken, b.taken)) (omega (arith, a.written, b.written, size))
+
 -- the same between chunks of other bytes that begin so
-same_front : {f c : ℕ} {gone : Past} {n : ℕ} {front bytes other table out : List ℕ} {now : Progress} → take now.taken bytes ≡ take now.taken other
-    → get_or bytes now.taken 0 ≡ get_or other now.taken 0 → FastBetween f c gone n front bytes now table out → FastBetween f c gone n front other now table out
+same_front : {N F : ℕ} {gone : Past} {n : ℕ} {front bytes other table out : List ℕ} {now : Progress N F} → take now.taken bytes ≡ take now.taken other
+    → get_or bytes now.taken 0 ≡ get_or other now.taken 0 → FastBetween gone n front bytes now table out → FastBetween gone n front other now table out
 same_front {front = front} taken next h = record { between = taken_as h.between (h.between.taken ∙ ap (λ z. front ++ z) taken); next_is = h.next_is ∙ next }
 
 -- chunks of the front of the bytes are chunks of all of them
-pub front_chunks : {f c : ℕ} {bytes : List ℕ} {old new : Fast} (k : ℕ) → k ≤ length bytes → FastChunks f c (take k bytes) old new → FastChunks f c bytes old new
-front_chunks {bytes = bytes} {old} {new} k within s =
-    let last : new.now.taken < k = omega (arith, s.taken, length-take-le k bytes within) in
-    let first : old.now.taken < k = omega (arith, s.taken, last) in
+pub front_chunks : {N F : ℕ} {bytes table table' out out' : List ℕ} {old new : Progress N F} (k : ℕ) → k ≤ length bytes → old.taken < k
+    → FastChunks (take k bytes) old table out new table' out' → FastChunks bytes old table out new table' out'
+front_chunks {bytes = bytes} {old = old} {new = new} k within first s =
+    let size = length-take-le k bytes within in
+    let last : new.taken < k = omega (arith, s.taken, size, first) in
     record {
       between = λ gone n front h.
-          same_front (take-take new.now.taken k bytes (omega (arith, last))) (get_or-take k bytes new.now.taken 0 last)
-          (s.between gone n front (same_front (sym (take-take old.now.taken k bytes (omega (arith, first)))) (sym (get_or-take k bytes old.now.taken 0 first)) h));
+          same_front (take-take new.taken k bytes (omega (arith, last))) (get_or-take k bytes new.taken 0 last)
+          (s.between gone n front (same_front (sym (take-take old.taken k bytes (omega (arith, first)))) (sym (get_or-take k bytes old.taken 0 first)) h));
       taken = (s.taken.0, omega (arith, last, within));
       written = s.written;
-      below = s.below;
       whole = s.whole;
       byte = s.byte;
     }
 
--- two steps are one
-pub step_then : {f c i j k r s t : ℕ} {bytes : List ℕ} {old middle new : Fast} → FastStep f c i r bytes old middle → FastStep f c j s bytes middle new → i + j ≤ k → r + s ≤ t
-    → FastStep f c k t bytes old new
-step_then a b taken written = record {
-  between = λ gone n front h. b.between gone n front (a.between gone n front h);
-  taken = (omega (arith, a.taken, b.taken), omega (arith, a.taken, b.taken, taken));
-  some = λ short. omega (arith, a.taken, b.some short);
-  written = (omega (arith, a.written, b.written), omega (arith, a.written, b.written, written));
-  whole = b.whole;
-  byte = b.byte;
-}
-
--- a step that goes on less far
-pub step_within : {f c i r k t : ℕ} {bytes : List ℕ} {old new : Fast} → FastStep f c i r bytes old new → i ≤ k → r ≤ t → FastStep f c k t bytes old new
-step_within step taken written = record {
-  between = step.between;
-  taken = (step.taken.0, omega (arith, step.taken, taken));
-  some = step.some;
-  written = (step.written.0, omega (arith, step.written, written));
-  whole = step.whole;
-  byte = step.byte;
-}
-
 -- none of the bytes that are taken is left out at first
-pub step_at_first : {f c i r k t : ℕ} {bytes table out : List ℕ} {new : Fast} (p : Progress) → FastStep f c i r bytes (fast (taken_further 0 p) table out) new → i ≤ k → r ≤ t
-    → FastStep f c k t bytes (fast p table out) new
-step_at_first {f} {c} {i} {r} {k} {t} {bytes} {table} {out} {new} p step taken written =
-    let to : (n : ℕ) → Progress = λ n. record { last = p.last; taken = n; at = p.at; next = p.next } in
+pub step_at_first : {N F i k l n r t : ℕ} {bytes table table' out out' : List ℕ} {new : Progress N F} (p : Progress N F)
+    → FastStep i l r bytes (taken_further 0 p) table out new table' out' → k ≤ i → l ≤ n → r ≤ t → FastStep k n t bytes p table out new table' out'
+step_at_first {N} {F} {i} {k} {l} {n} {r} {t} {bytes} {table} {table'} {out} {out'} {new} p step least most room =
+    let to : (m : ℕ) → Progress N F = λ m. record { last = p.last; taken = m; at = p.at; next = p.next } in
     let same : p.taken + 0 ≡ p.taken = omega arith in
-    step_within (subst (λ n. FastStep f c i r bytes (fast (to n) table out) new) same step) taken written
-
--- an entry of a table, by the first byte b: zero for chunks that aren't plain
-pub record IsPlainEntry (c b x : ℕ) : Type 0 where
-  pub early : b < 128 → 0 < x
-  pub luma : 128 ≤ b → b < 192 → x ≡ 0
-  pub run : 192 ≤ b → b ≤ 191 + 16 / c → 0 < x
-  pub long : 191 + 16 / c < b → b < 254 → x ≡ 0
-  pub full : 254 ≤ b → 0 < x
-
-pub plain_tag : {c b x : ℕ} → IsPlainEntry c b x → (IsTrue (not (eqb x 0)) → IsPlainTag c b) × (IsPlainTag c b → IsTrue (not (eqb x 0)))
-plain_tag {c} {b} {x} is = (
-  λ tested. let some : 0 < x = grind (arith, nat_tests) in elim (cases_lt b 128) [
-    | inl early ↦ inl early
-    | inr other ↦ elim (cases_lt b 192) [
-      | inl luma ↦ absurd (omega (arith, some, is.luma other luma))
-      | inr run ↦ elim (cases_lt b 254) [
-        | inl low ↦ elim (cases_lt (191 + 16 / c) b) [ inl long ↦ absurd (omega (arith, some, is.long long low)) | inr fits ↦ inr (inl (run, fits)) ]
-        | inr full ↦ inr (inr full)
-      ]
-    ]
-  ],
-  λ plain.
-      let some : 0 < x = elim plain [ inl early ↦ is.early early | inr other ↦ elim other [ inl run ↦ is.run run.0 run.1 | inr full ↦ is.full full ] ] in
-      grind (arith, nat_tests),
-)
+    step_within (subst (λ m. FastStep i l r bytes (to m) table out new table' out') same step) least most room
 
 -- a plain chunk that isn't a full one is no luma, and a vector holds its pixels
 pub plain_short : (c b : ℕ) → IsPlainTag c b → b < 254 → (b ≤ 191 + 16 / c) × ((b < 128) ⊎ (192 ≤ b))
@@ -213,14 +213,6 @@ plain_short c b is low = elim is [
 ]
 
 -- it has no second byte
-pub plain_sizes : (b count : ℕ) → (b < 128) ⊎ (192 ≤ b) → (b < 192 → count ≡ 1) → (192 ≤ b → count + 191 ≡ b) → HasSize b 1 count
-plain_sizes b count other once often = record {
-  one = λ l. refl;
-  luma = λ l h. elim other [
-    | inl early ↦ absurd (omega (arith, l, early))
-    | inr run ↦ absurd (omega (arith, h, run))
-  ];
-  run = λ l. refl;
-  once = once;
-  often = often;
-}
+pub plain_size : (b : ℕ) → (b < 128) ⊎ (192 ≤ b) → HasSize b 1
+plain_size b other =
+    record { one = λ l. refl; luma = λ l h. absurd (elim other [ inl early ↦ omega (arith, l, early) | inr run ↦ omega (arith, h, run) ]); run = λ l. refl }

@@ -5,9 +5,9 @@ use Rattle.std.proofs.lemmas.Bool.Decides.{nat_tests}
 use mir.Val.{bool_byte}
 use Rattle.qoi.specs.declared.chunk.Chunk.{Chunk}
 use Rattle.qoi.specs.declared.chunk.Chunk.TheVariants.{Place, Diff, Luma, Run, Rgb, Rgba}
-use Rattle.qoi.specs.Qoi.{RgbaPixel, Past, AreBytes, IsChunk, pixel, seen, after_diff, after_luma, times, pixel_after}
+use Rattle.qoi.specs.Qoi.{RgbaPixel, Past, AreBytes, IsChunk, pixel, after_diff, after_luma, times, pixel_after}
 use Rattle.qoi.specs.inner.Filling.{Filling, HasSeen, HasFilled, Decodes, DecodesChunk}
-use Rattle.qoi.specs.inner.Hashed.{pixel_of_lanes, HoldsSeen}
+use Rattle.qoi.specs.inner.Hashed.{pixel_of_lanes, HoldsSeen, IsAfterShort, IsAfterFull}
 use Rattle.qoi.proofs.format.ChunkSteps.{times_some}
 use Rattle.qoi.proofs.format.SeenTable.{holds_seen_copies, previous_copies}
 
@@ -49,31 +49,15 @@ decodes_copies {f} {c} {count} {p} {old} {new} chunk is many same g = record {
   filled = λ n past h. rw (many, g.last_is) (g.filled n past h);
 }
 
--- the pixel of a short chunk, by its first byte and the one after it
-pub record IsShortPixel (b e : ℕ) (s : Filling) (p : RgbaPixel) : Type 0 where
-  pub place : b < 64 → (past : Past) → HoldsSeen s.table past → p ≡ seen past b
-  pub diff : 64 ≤ b → b < 128 → p ≡ after_diff (pixel_of_lanes s.last) b
-  pub luma : 128 ≤ b → b < 192 → p ≡ after_luma (pixel_of_lanes s.last) b e
-  pub run : 192 ≤ b → p ≡ pixel_of_lanes s.last
-
--- how many bytes a short chunk has, and how many pixels, by its first byte
-pub record HasSize (b taken count : ℕ) : Type 0 where
+-- how many bytes a short chunk has, by its first byte
+pub record HasSize (b taken : ℕ) : Type 0 where
   pub one : b < 128 → taken ≡ 1
   pub luma : 128 ≤ b → b < 192 → taken ≡ 2
   pub run : 192 ≤ b → taken ≡ 1
-  pub once : b < 192 → count ≡ 1
-  pub often : 192 ≤ b → count + 191 ≡ b
 
 -- one byte, and one more if it is a luma
-pub size_of : (b taken more count : ℕ) (luma : Bool) → luma ≡ (nat_le 128 b && nat_lt b 192) → more ≡ bool_byte luma → taken ≡ more + 1
-    → (b < 192 → count ≡ 1) → (192 ≤ b → count + 191 ≡ b) → HasSize b taken count
-size_of b taken more count luma is by sum once often = record {
-  one = λ l. grind (arith, nat_tests);
-  luma = λ l h. grind (arith, nat_tests);
-  run = λ l. grind (arith, nat_tests);
-  once = once;
-  often = often;
-}
+pub size_of : (b taken more : ℕ) (luma : Bool) → luma ≡ (nat_le 128 b && nat_lt b 192) → more ≡ bool_byte luma → taken ≡ more + 1 → HasSize b taken
+size_of b taken more luma is by sum = record { one = λ l. grind (arith, nat_tests); luma = λ l h. grind (arith, nat_tests); run = λ l. grind (arith, nat_tests) }
 
 -- a run
 pub decodes_run : {f c : ℕ} {old new : Filling} (bytes : List ℕ) (count : ℕ) → 1 ≤ length bytes → get_or bytes 0 0 ≡ count + 191 → 0 < count → count ≤ 62
@@ -87,62 +71,61 @@ decodes_run bytes count long first some most g = record {
 
 -- an index position, a difference, a luma or a run, of which a luma alone has a second byte
 pub decodes_short : {f c : ℕ} {p : RgbaPixel} {old new : Filling} (bytes : List ℕ) (b e taken count : ℕ) → 2 ≤ length bytes → b ≡ get_or bytes 0 0
-    → e ≡ get_or bytes 1 0 → b < 254 → e < 256 → HasSize b taken count
-    → IsShortPixel b e old p → PutsCopies f c p count old new → DecodesChunk f c (take taken bytes) old new
-decodes_short bytes b e taken count long first second low byte size px g =
+    → e ≡ get_or bytes 1 0 → b < 254 → e < 256 → HasSize b taken → (b < 192 → count ≡ 1) → (192 ≤ b → count + 191 ≡ b)
+    → IsAfterShort b e old.table (pixel_of_lanes old.last) p → PutsCopies f c p count old new → DecodesChunk f c (take taken bytes) old new
+decodes_short bytes b e taken count long first second low byte size once often px g =
     elim (cases_lt b 64) [
       | inl place ↦ record {
         chunk = Place b;
         is_chunk = place;
         bytes_are = rw (size.one (omega arith), first) (front_1 bytes (omega arith));
-        decodes = decodes_copies (Place b) place (sym (size.once (omega arith))) (λ past h. px.place place past h.table_is) g;
+        decodes = decodes_copies (Place b) place (sym (once (omega arith))) (λ past h. px.place place past h.table_is) g;
       }
       | inr other ↦ elim (cases_lt b 128) [
         | inl diff ↦ record {
           chunk = Diff b;
           is_chunk = (other, diff);
           bytes_are = rw (size.one (omega arith), first) (front_1 bytes (omega arith));
-          decodes = decodes_copies (Diff b) (other, diff) (sym (size.once (omega arith))) (λ past h. px.diff other diff ∙ ap (λ q. after_diff q b) h.last_is) g;
+          decodes = decodes_copies (Diff b) (other, diff) (sym (once (omega arith))) (λ past h. px.diff other diff ∙ ap (λ q. after_diff q b) h.last_is) g;
         }
         | inr high ↦ elim (cases_lt b 192) [
           | inl luma ↦ record {
             chunk = Luma b e;
             is_chunk = (high, luma, byte);
             bytes_are = rw (size.luma high luma, first, second) (front_2 bytes long);
-            decodes = decodes_copies (Luma b e) (high, luma, byte) (sym (size.once luma)) (λ past h. px.luma high luma ∙ ap (λ q. after_luma q b e) h.last_is) g;
+            decodes = decodes_copies (Luma b e) (high, luma, byte) (sym (once luma)) (λ past h. px.luma high luma ∙ ap (λ q. after_luma q b e) h.last_is) g;
           }
           | inr run ↦
-              let n = size.often run in
+              let n = often run in
               rw (size.run run) (decodes_run bytes count (omega arith) (sym first ∙ sym n) (omega (arith, n)) (omega (arith, n))
               (record { last_is = g.last_is ∙ px.run run; table = λ past h. rw (← px.run run) (g.table past h); filled = λ m past h. rw (← px.run run) (g.filled m past h) }))
         ]
       ]
     ]
 
--- an RGB chunk, whose pixel keeps alpha
-pub decodes_rgb : {f c : ℕ} {p : RgbaPixel} {old new : Filling} (bytes : List ℕ) → 4 ≤ length bytes → AreBytes bytes → get_or bytes 0 0 ≡ 254
-    → p ≡ pixel (get_or bytes 1 0) (get_or bytes 2 0) (get_or bytes 3 0) (pixel_of_lanes old.last).a
-    → PutsCopies f c p 1 old new → DecodesChunk f c (take 4 bytes) old new
-decodes_rgb {p = p} {old = old} bytes long fits first px g =
-    let chunk = Rgb (get_or bytes 1 0) (get_or bytes 2 0) (get_or bytes 3 0) in
-    let is : IsChunk chunk = (fits 1, fits 2, fits 3) in
-    record {
-      chunk = chunk;
-      is_chunk = is;
-      bytes_are = rw (← first) (front_4 bytes long);
-      decodes = decodes_copies chunk is refl (λ past h. px ∙ ap (λ (q : RgbaPixel). pixel (get_or bytes 1 0) (get_or bytes 2 0) (get_or bytes 3 0) q.a) h.last_is) g;
-    }
-
--- an RGBA chunk
-pub decodes_rgba : {f c : ℕ} {p : RgbaPixel} {old new : Filling} (bytes : List ℕ) → 5 ≤ length bytes → AreBytes bytes → get_or bytes 0 0 ≡ 255
-    → p ≡ pixel (get_or bytes 1 0) (get_or bytes 2 0) (get_or bytes 3 0) (get_or bytes 4 0)
-    → PutsCopies f c p 1 old new → DecodesChunk f c (take 5 bytes) old new
-decodes_rgba bytes long fits first px g =
-    let chunk = Rgba (get_or bytes 1 0) (get_or bytes 2 0) (get_or bytes 3 0) (get_or bytes 4 0) in
-    let is : IsChunk chunk = (fits 1, fits 2, fits 3, fits 4) in
-    record {
-      chunk = chunk;
-      is_chunk = is;
-      bytes_are = rw (← first) (front_5 bytes long);
-      decodes = decodes_copies chunk is refl (λ past h. px) g;
-    }
+-- an RGB or RGBA chunk, of four or five bytes
+pub decodes_full : {f c : ℕ} {p : RgbaPixel} {old new : Filling} (bytes : List ℕ) (b size : ℕ) → 5 ≤ length bytes → AreBytes bytes → b ≡ get_or bytes 0 0 → 254 ≤ b
+    → (b ≡ 254 → size ≡ 4) → (b ≡ 255 → size ≡ 5) → IsAfterFull b bytes (pixel_of_lanes old.last) p → PutsCopies f c p 1 old new → DecodesChunk f c (take size bytes) old new
+decodes_full {old = old} bytes b size long fits first full four five px g =
+    let rgb = Rgb (get_or bytes 1 0) (get_or bytes 2 0) (get_or bytes 3 0) in
+    let rgba = Rgba (get_or bytes 1 0) (get_or bytes 2 0) (get_or bytes 3 0) (get_or bytes 4 0) in
+    elim (cases_lt b 255) [
+      | inl less ↦
+          let is : b ≡ 254 = omega (arith, less, full) in
+          let is_chunk : IsChunk rgb = (fits 1, fits 2, fits 3) in
+          record {
+            chunk = rgb;
+            is_chunk = is_chunk;
+            bytes_are = rw (four is) (front_4 bytes (omega (arith, long)) ∙ ap (λ x. x ∷ get_or bytes 1 0 ∷ get_or bytes 2 0 ∷ get_or bytes 3 0 ∷ []) (sym first ∙ is));
+            decodes = decodes_copies rgb is_chunk refl (λ past h. px.rgb is ∙ ap (λ (q : RgbaPixel). pixel (get_or bytes 1 0) (get_or bytes 2 0) (get_or bytes 3 0) q.a) h.last_is) g;
+          }
+      | inr more ↦
+          let is : b ≡ 255 = omega (arith, more, first, fits 0) in
+          let is_chunk : IsChunk rgba = (fits 1, fits 2, fits 3, fits 4) in
+          record {
+            chunk = rgba;
+            is_chunk = is_chunk;
+            bytes_are = rw (five is) (front_5 bytes long ∙ ap (λ x. x ∷ get_or bytes 1 0 ∷ get_or bytes 2 0 ∷ get_or bytes 3 0 ∷ get_or bytes 4 0 ∷ []) (sym first ∙ is));
+            decodes = decodes_copies rgba is_chunk refl (λ past h. px.rgba is) g;
+          }
+    ]

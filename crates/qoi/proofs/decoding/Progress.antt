@@ -1,14 +1,14 @@
 -- A decoder between two chunks: what it has taken, filled and seen.
 use Rattle.std.proofs.Common.{◌≡◌, ℕ, suc, ◌+◌, ◌*◌, ◌/◌, ◌%◌, ◌<◌, ◌≤◌, inl, inr, List, [], ◌∷◌, ◌++◌, length, take, replicate, reverse, min, false, Option, None, Some, IfSome, arith, refl, sym, ap, ◌∙◌, subst, append_assoc, append-nil, length-append}
-use Rattle.qoi.specs.Qoi.{RgbaPixel, Past, AreBytes, start, bytes_of, chunk_bytes, pixel_after, times, then_chunks, meaning, Reaches}
+use Rattle.qoi.specs.Qoi.{RgbaPixel, Past, AreBytes, start, bytes_of, chunk_bytes, pixel_after, times, then_chunks, meaning, Reaches, end_marker}
 use Rattle.std.specs.Io.KnownBytes.{Consumes}
 use Rattle.std.proofs.KnownBytes.{Consumes-trans}
 use Rattle.qoi.specs.Raw.{IsChannels, pixel_bytes, output}
-use Rattle.qoi.specs.inner.Filling.{Buffer, Filling, upto, reached, filling, HasFilled, IsFillable, DecodesChunk, DecoderBetween, IsFrontAfter, TakesFront}
+use Rattle.qoi.specs.inner.Filling.{Buffer, Filling, upto, reached, filling, HasFilled, IsFillable, DecodesChunk, DecoderBetween, IsFrontAfter, TakesOn}
 use Rattle.qoi.specs.inner.Chunks.{TakesMore, TakesChunks, FillsOutput}
 use Rattle.qoi.specs.inner.Hashed.{pixel_of_lanes, HoldsSeen}
 use Rattle.qoi.specs.Verdicts.{IsPartOfChunk, EndsBefore, AreCut}
-use Rattle.qoi.specs.Decoding.{TakesImagePixels}
+use Rattle.qoi.specs.Decoding.{TakesImagePixels, ReadsImage}
 use Rattle.qoi.proofs.format.ChunkSteps.{times_some, then_chunks-append, each_append}
 use Rattle.std.proofs.lemmas.Grind.{flat_map-append}
 use Rattle.std.proofs.lemmas.List.{length-reverse, reverse-append}
@@ -115,7 +115,7 @@ pub front_of_none : {f c : ℕ} {gone : Past} {n : ℕ} {Taken : List ℕ → Ty
 front_of_none bytes s = taken_as s (sym (append-nil (chunk_bytes s.cs)))
 
 -- the front of what a reader showed was taken
-pub front_taken : {f c : ℕ} {ahead rest : Option (List ℕ)} {old new : Filling} (bytes : List ℕ) (size : ℕ) → TakesFront f c bytes size old new → Consumes ahead rest (take size bytes)
+pub front_taken : {f c : ℕ} {ahead rest : Option (List ℕ)} {old new : Filling} (bytes : List ℕ) (size : ℕ) → TakesOn f c bytes 0 size old new → Consumes ahead rest (take size bytes)
     → TakesMore f c ahead rest old new
 front_taken {ahead = ahead} {rest = rest} bytes size fast took = record {
   between = λ gone n first h.
@@ -165,6 +165,16 @@ fills_output t gone n first h = streams_pixels t.fillable.three_or_four (t.goes_
 pub first_streams : {f c n : ℕ} {old new : Option (List ℕ)} {out : List ℕ} → TakesImagePixels f c (length {A = RgbaPixel} [] + n) old new (output f c (reverse []) ++ out)
     → TakesImagePixels f c n old new out
 first_streams {f} {c} {n} {old} {new} {out} s = subst (λ k. TakesImagePixels f c k old new out) (none_more n) s
+
+-- the pixels of a stream, and then its end marker
+pub marker_taken : {f c n : ℕ} {old now new : Option (List ℕ)} {out : List ℕ} → TakesImagePixels f c n old now out → Consumes now new end_marker → ReadsImage f c n old new out
+marker_taken {old = old} {now = now} {new = new} s took = record {
+  cs = s.cs;
+  chunks = s.chunks;
+  reaches = s.reaches;
+  taken = subst (λ z. Consumes old new (z ++ end_marker)) (append-nil (chunk_bytes s.cs)) (Consumes-trans old now new (chunk_bytes s.cs ++ []) end_marker s.taken took);
+  out_is = s.out_is;
+}
 
 -- if a stream gives no whole chunk, what was taken ends before n pixels
 pub stream_ends : {f c : ℕ} {gone : Past} {n : ℕ} (old middle new : Option (List ℕ)) (part : List ℕ) {now : Filling} → IsChannels c → DecoderBetween f c gone n (Consumes old middle) now

@@ -9,7 +9,8 @@ use borrow.Rule.Slice.PartMut.{put_mid}
 use lib.Lanes.{put_chunk}
 use Rattle.qoi.specs.Qoi.{RgbaPixel}
 use Rattle.qoi.specs.Raw.{IsChannels, pixel_bytes, output}
-use Rattle.qoi.specs.inner.Filling.{upto, HasWritten}
+use Rattle.qoi.specs.inner.Filling.{upto, HasWritten, HasCopies}
+use Rattle.qoi.specs.inner.Hashed.{pixel_of_lanes}
 use Rattle.qoi.proofs.format.WholePixels.{by_channels, take-output}
 
 -- the whole pixels of a vector
@@ -49,11 +50,11 @@ whole_written f c p out bytes at is room e =
     ∙ ap (λ z. take at out ++ take (c * (16 / c)) z) put ∙ ap (λ z. take at out ++ z) whole.0
 
 -- copies of a pixel were written, and then more of them
-pub written_copies : {f c : ℕ} {old mid new : List ℕ} (p : RgbaPixel) (at j k n : ℕ) → IsChannels c → n ≡ j + k
-    → HasWritten f c (upto old at) (upto mid (at + c * j)) (replicate j p)
-    → HasWritten f c (upto mid (at + c * j)) (upto new (at + c * j + c * k)) (replicate k p) → HasWritten f c (upto old at) (upto new (at + c * n)) (replicate n p)
-written_copies {f} {c} {old} {mid} {new} p at j k n is sum first more =
-    let end : at + c * j + c * k ≡ at + c * n = after_both c at j k n is sum in
+pub written_copies : {f c : ℕ} {old mid new : List ℕ} (px at j k n : ℕ) → IsChannels c → n ≡ j + k → HasCopies f c at j px old mid → HasCopies f c (at + c * j) k px mid new
+    → HasCopies f c at n px old new
+written_copies {f} {c} {old} {mid} {new} px at j k n is sum first more =
+    let p = pixel_of_lanes px in
+    let end = by_channels (λ d. at + d * j + d * k ≡ at + d * n) is (omega (arith, sum)) (omega (arith, sum)) in
     let bytes : output f c (replicate j p) ++ output f c (replicate k p) ≡ output f c (replicate n p) =
     sym (flat_map-append (pixel_bytes f c) (replicate j p) (replicate k p)) ∙ ap (output f c) (replicate-append-replicate j k p ∙ ap (λ m. replicate m p) (sym sum)) in
     record {
@@ -61,37 +62,31 @@ written_copies {f} {c} {old} {mid} {new} p at j k n is sum first more =
       same = ap (λ m. take m new) (sym end) ∙ more.same ∙ ap (λ z. z ++ output f c (replicate k p)) first.same
           ∙ append_assoc (take at old) (output f c (replicate j p)) (output f c (replicate k p)) ∙ ap (λ z. take at old ++ z) bytes;
     }
-  where
-    after_both : (c at j k n : ℕ) → IsChannels c → n ≡ j + k → at + c * j + c * k ≡ at + c * n
-    after_both c at j k n is = by_channels (λ d. n ≡ j + k → at + d * j + d * k ≡ at + d * n) is (λ sum. omega arith)
-        (λ sum. omega arith)
 
 -- fewer of the copies were written too
-pub written_fewer : {f c : ℕ} {old new : List ℕ} (p : RgbaPixel) (at most count : ℕ) → IsChannels c → count ≤ most → at ≤ length old
-    → HasWritten f c (upto old at) (upto new (at + c * most)) (replicate most p) → HasWritten f c (upto old at) (upto new (at + c * count)) (replicate count p)
-written_fewer {f} {c} {old} {new} p at most count is le within all =
+pub written_fewer : {f c : ℕ} {old new : List ℕ} (px at most count : ℕ) → IsChannels c → count ≤ most → at ≤ length old → HasCopies f c at most px old new
+    → HasCopies f c at count px old new
+written_fewer {f} {c} {old} {new} px at most count is le within all =
+    let p = pixel_of_lanes px in
     let bytes = output f c (replicate most p) in
     let front : length (take at old) ≡ at = length-take-le at old within in
+    let ends = by_channels (λ d. at + d * count ≤ at + d * most) is (omega (arith, le)) (omega (arith, le)) in
     record {
       at_is = ap (λ m. at + c * m) (sym (length-replicate count p));
-      same = sym (take-take (at + c * count) (at + c * most) new (ends c at count most is le)) ∙ ap (take (at + c * count)) all.same
+      same = sym (take-take (at + c * count) (at + c * most) new ends) ∙ ap (take (at + c * count)) all.same
           ∙ ap (λ n. take (n + c * count) (take at old ++ bytes)) (sym front) ∙ take-append-add (take at old) bytes (c * count)
           ∙ ap (λ z. take at old ++ z) (take-output f c count (replicate most p) is (omega (arith, le, length-replicate most p))
           ∙ ap (output f c) (take-replicate count most p le));
     }
-  where
-    ends : (c at count most : ℕ) → IsChannels c → count ≤ most → at + c * count ≤ at + c * most
-    ends c at count most is = by_channels (λ d. count ≤ most → at + d * count ≤ at + d * most) is (λ le. omega arith)
-        (λ le. omega arith)
 
 -- copies of a pixel, as many as a vector has room for
-pub vector_written : (f c : ℕ) (p : RgbaPixel) (out bytes : List ℕ) (at count : ℕ) → IsChannels c → at + 16 ≤ length out
-    → bytes ≡ take 16 (output f c (replicate 6 p)) → count ≤ 16 / c
-    → HasWritten f c (upto out at) (upto (put_mid at (at + 16 - at) out (put_chunk 0 (take (at + 16 - at) (drop at out)) bytes)) (at + c * count)) (replicate count p)
-vector_written f c p out bytes at count is room e le =
-    written_fewer p at (16 / c) count is le (omega arith) (record {
-      at_is = ap (λ m. at + c * m) (sym (length-replicate (16 / c) p));
-      same = whole_written f c p out bytes at is room e;
+pub vector_written : (f c px : ℕ) (out bytes : List ℕ) (at count : ℕ) → IsChannels c → at + 16 ≤ length out
+    → bytes ≡ take 16 (output f c (replicate 6 (pixel_of_lanes px))) → count ≤ 16 / c
+    → HasCopies f c at count px out (put_mid at (at + 16 - at) out (put_chunk 0 (take (at + 16 - at) (drop at out)) bytes))
+vector_written f c px out bytes at count is room e le =
+    written_fewer px at (16 / c) count is le (omega arith) (record {
+      at_is = ap (λ m. at + c * m) (sym (length-replicate (16 / c) (pixel_of_lanes px)));
+      same = whole_written f c (pixel_of_lanes px) out bytes at is room e;
     })
 
 -- three bytes stored one by one
@@ -115,28 +110,23 @@ pub four_bytes_written : (f c : ℕ) (p : RgbaPixel) (out bytes : List ℕ) (at 
 four_bytes_written f c p out bytes at e room is = rw (is, e) (record { at_is = omega arith; same = four_put at out _ _ _ _ (omega (arith, room, e)) })
 
 -- no copies
-pub written_none : (f c : ℕ) (old : List ℕ) (at : ℕ) (p : RgbaPixel) → HasWritten f c (upto old at) (upto old (at + c * 0)) (replicate 0 p)
-written_none f c old at p = record { at_is = refl; same = let none : at + c * 0 ≡ at = omega arith in rw none (sym (append-nil (take at old))) }
+pub written_none : (f c : ℕ) (old : List ℕ) (at px : ℕ) → HasCopies f c at 0 px old old
+written_none f c old at px = record { at_is = refl; same = let none : at + c * 0 ≡ at = omega arith in rw none (sym (append-nil (take at old))) }
 
 -- one of them
-pub written_one : {f c : ℕ} {old new : List ℕ} (p : RgbaPixel) (at : ℕ) → HasWritten f c (upto old at) (upto new (at + c)) (p ∷ [])
-    → HasWritten f c (upto old at) (upto new (at + c * 1)) (replicate 1 p)
-written_one {c = c} p at w = let one : at + c * 1 ≡ at + c = omega arith in rw one w
+pub written_one : {f c : ℕ} {old new : List ℕ} (px at : ℕ) → HasWritten f c (upto old at) (upto new (at + c)) (pixel_of_lanes px ∷ []) → HasCopies f c at 1 px old new
+written_one {c = c} px at w = let one : at + c * 1 ≡ at + c = omega arith in rw one w
 
 -- k copies were written twice; so any number up to both
-pub two_written : {f c : ℕ} {o0 o1 o2 : List ℕ} (p : RgbaPixel) (at k count : ℕ) → IsChannels c → at ≤ length o0 → count ≤ 2 * k
-    → HasWritten f c (upto o0 at) (upto o1 (at + c * k)) (replicate k p)
-    → HasWritten f c (upto o1 (at + c * k)) (upto o2 (at + c * k + c * k)) (replicate k p)
-    → HasWritten f c (upto o0 at) (upto o2 (at + c * count)) (replicate count p)
-two_written p at k count is within le w1 w2 = written_fewer p at (2 * k) count is le within (written_copies p at k k (2 * k) is (omega arith) w1 w2)
+pub two_written : {f c : ℕ} {o0 o1 o2 : List ℕ} (px at k count : ℕ) → IsChannels c → at ≤ length o0 → count ≤ 2 * k → HasCopies f c at k px o0 o1
+    → HasCopies f c (at + c * k) k px o1 o2 → HasCopies f c at count px o0 o2
+two_written px at k count is within le w1 w2 = written_fewer px at (2 * k) count is le within (written_copies px at k k (2 * k) is (omega arith) w1 w2)
 
 -- k copies were written from the front, and k up to the end
-pub ends_written : {f c : ℕ} {o0 o1 o2 : List ℕ} (p : RgbaPixel) (at k count : ℕ) → IsChannels c → at ≤ length o0 → k ≤ count → count ≤ 2 * k
-    → HasWritten f c (upto o0 at) (upto o1 (at + c * k)) (replicate k p)
-    → HasWritten f c (upto o1 (at + c * (count - k))) (upto o2 (at + c * (count - k) + c * k)) (replicate k p)
-    → HasWritten f c (upto o0 at) (upto o2 (at + c * count)) (replicate count p)
-ends_written p at k count is within most le w1 w2 =
-    written_copies p at (count - k) k count is (omega (arith, most)) (written_fewer p at k (count - k) is (omega (arith, le)) within w1) w2
+pub ends_written : {f c : ℕ} {o0 o1 o2 : List ℕ} (px at k count : ℕ) → IsChannels c → at ≤ length o0 → k ≤ count → count ≤ 2 * k → HasCopies f c at k px o0 o1
+    → HasCopies f c (at + c * (count - k)) k px o1 o2 → HasCopies f c at count px o0 o2
+ends_written px at k count is within most le w1 w2 =
+    written_copies px at (count - k) k count is (omega (arith, most)) (written_fewer px at k (count - k) is (omega (arith, le)) within w1) w2
 
 -- eight vectors and eight more have room for the longest run
 pub most_by_eight : (c count : ℕ) → IsChannels c → count ≤ 62 → count ≤ 2 * (8 * (16 / c))

@@ -1,17 +1,42 @@
--- What first bytes add, entry by entry.
-use Rattle.std.proofs.Common.{◌≡◌, ℕ, ◌+◌, ◌/◌, ◌%◌, ◌<◌, get_or, eqb, eqb-true, arith, refl}
+-- What the decoders' tables say of bytes, entry by entry.
+use Rattle.std.proofs.Common.{◌≡◌, ℕ, ◌+◌, ◌-◌, ◌*◌, ◌/◌, ◌%◌, ◌<◌, ◌≤◌, ◌&&◌, ◌||◌, Bool, true, IsTrue, cond, not, take, drop, get_or, eqb, nat_le, nat_lt, arith, refl}
+use Rattle.std.proofs.lemmas.Bool.Decides.{nat_tests}
+use mir.Val.{bool_byte}
+use Rattle.qoi.specs.inner.Filling.{IsAdvance, IsPlainTag}
 use Rattle.qoi.specs.inner.Hashed.{step, IsAdded}
-use Rattle.qoi.specs.declared.decode.deltas.TheConstants.{ADDED}
-use Rattle.qoi.proofs.format.Entries.{entry}
+use Rattle.qoi.specs.declared.decode.deltas.TheConstants.{ADDED, BYTE_TABLES}
+use Rattle.qoi.proofs.format.Entries.{pass, value_at}
 
--- those of index positions add nothing
+-- first bytes of index positions add nothing
 pub places_add_none : (b : ℕ) → b < 64 → get_or ADDED b 0 ≡ 0
-places_add_none b high = eqb-true _ _ (entry ADDED (λ b x. eqb x 0) 0 0 64 b b (omega arith) refl (omega arith) high (omega arith))
+places_add_none b high = value_at ADDED (λ b. 0) 0 0 64 b b (omega arith) refl (omega arith) high (omega arith)
 
 -- the others
 pub others_add : (b : ℕ) → b < 256 → IsAdded b (get_or ADDED b 0)
 others_add b byte = record {
-  diff = λ low high. eqb-true _ _ (entry ADDED (λ b x. eqb x (step (b / 16 % 4 + 254) (b / 4 % 4 + 254) (b % 4 + 254))) 0 64 64 b b (omega arith) refl low high (omega arith));
-  luma = λ low high. eqb-true _ _ (entry ADDED (λ b x. eqb x (step (b % 64 + 216) (b % 64 + 224) (b % 64 + 216))) 0 128 64 b b (omega arith) refl low high (omega arith));
-  run = λ low. eqb-true _ _ (entry ADDED (λ b x. eqb x 0) 0 192 64 b b (omega arith) refl low byte (omega arith));
+  diff = λ low high. value_at ADDED (λ b. step (b / 16 % 4 + 254) (b / 4 % 4 + 254) (b % 4 + 254)) 0 64 64 b b (omega arith) refl low high (omega arith);
+  luma = λ low high. value_at ADDED (λ b. step (b % 64 + 216) (b % 64 + 224) (b % 64 + 216)) 0 128 64 b b (omega arith) refl low high (omega arith);
+  run = λ low. value_at ADDED (λ b. 0) 0 192 64 b b (omega arith) refl low byte (omega arith);
 }
+
+-- an entry of the table that begins there
+pub byte_value : (value : ℕ → ℕ) (begin from n b : ℕ) → pass (λ b x. eqb x (value b)) from (take n (drop (begin + from) BYTE_TABLES)) ≡ true
+    → from ≤ b → b < from + n → begin + from + n ≤ 2048 → get_or BYTE_TABLES (begin + b) 0 ≡ value b
+byte_value value begin from n b all low high within = value_at BYTE_TABLES value begin from n b (begin + b) refl all low high within
+
+-- how many pixels a chunk has, by its first byte
+abbrev pub count_by : ℕ → ℕ
+count_by b = cond (nat_le 192 b && nat_lt b 254) (b - 191) 1
+
+-- so many bytes they have
+pub advance_is : (c b x : ℕ) → x ≡ c * count_by b → IsAdvance c b x
+advance_is c b x e =
+    record { once = λ less. grind (arith, nat_tests); run = λ low high. grind (arith, nat_tests); full = λ more. grind (arith, nat_tests) }
+
+-- whether a chunk is plain, by its first byte
+abbrev pub plain_by : ℕ → ℕ → Bool
+plain_by c b = nat_lt b 128 || (nat_le 192 b && nat_le b (191 + 16 / c)) || nat_le 254 b
+
+-- so an entry says that isn't zero
+pub plain_is : (c b x : ℕ) → x ≡ bool_byte (plain_by c b) → (IsTrue (not (eqb x 0)) → IsPlainTag c b) × (IsPlainTag c b → IsTrue (not (eqb x 0)))
+plain_is c b x e = (λ tested. grind (arith, nat_tests), λ plain. grind (arith, nat_tests))

@@ -1,10 +1,16 @@
 -- Pixels as numbers that hold their index positions too.
-use Rattle.std.proofs.Common.{◌≡◌, ℕ, ◌+◌, ◌-◌, ◌*◌, ◌/◌, ◌%◌, ◌^◌, ◌<◌, ◌≤◌, arith, refl, sym, ap, ◌∙◌}
+use Rattle.std.proofs.Common.{◌≡◌, ℕ, ◌+◌, ◌-◌, ◌*◌, ◌/◌, ◌%◌, ◌^◌, ◌<◌, ◌≤◌, ◌⊎◌, inl, inr, List, arith, refl, sym, subst, ap, ◌∙◌}
 use Rattle.std.specs.Int.Bits.{bit_and, and_zero_r}
+use Rattle.std.proofs.lemmas.Bool.{cases_lt}
 use Rattle.std.proofs.lemmas.Nat.{and_block, and_mask}
-use Rattle.qoi.specs.Qoi.{RgbaPixel, pixel, hash, moved}
-use Rattle.qoi.specs.inner.Hashed.{pixel_of_lanes, IsHashed, IsPlain, lane_mask, alpha_mask, top_mask}
+use Rattle.qoi.specs.Qoi.{RgbaPixel, Past, pixel, blank, hash, moved, seen, after_diff, after_luma}
+use Rattle.qoi.specs.inner.Hashed.{pixel_of_lanes, IsHashed, IsPlain, IsAdded, IsAfterShort, HoldsSeen, step, lane_mask, alpha_mask, top_mask}
 use Rattle.qoi.proofs.format.SamePixels.{same_pixel}
+
+-- transparent black is zero, and so is its index position
+pub blank_is : (pixel_of_lanes 0 ≡ blank) × IsHashed 0
+unfolding blank hash
+blank_is = (refl, refl)
 
 -- the bits of the mask, sixteen by sixteen
 mask_blocks : (a b g r : ℕ) → b < 2 ^ 16 → g < 2 ^ 16 → r < 2 ^ 16 → bit_and (((a * 2 ^ 16 + b) * 2 ^ 16 + g) * 2 ^ 16 + r) lane_mask
@@ -183,3 +189,57 @@ sum_is s t r g b k l h lr lg lb position e =
     by_parts : (s r g b k : ℕ) → s < 2 ^ 64 → bit_and s lane_mask + r + g * 2 ^ 16 + b * 2 ^ 32 + 4 * k * 2 ^ 56
         ≡ s % 2 ^ 8 + r + (s / 2 ^ 16 % 2 ^ 8 + g) * 2 ^ 16 + (s / 2 ^ 32 % 2 ^ 8 + b) * 2 ^ 32 + s / 2 ^ 48 % 2 ^ 8 * 2 ^ 48 + (s / 2 ^ 56 + 4 * k) * 2 ^ 56
     by_parts s r g b k l = omega (arith, l, masked s l)
+
+-- the terms of the sum for a short chunk, by its first two bytes, the table and the last pixel's number:
+-- what is kept of that, what the second byte adds, and what the table says
+pub record IsShortSum (b e : ℕ) (table : List ℕ) (s own more entry : ℕ) : Type 0 where
+  pub none : b < 64 → own ≡ 0
+  pub kept : 64 ≤ b → own ≡ bit_and s lane_mask
+  pub no_more : (b < 128) ⊎ (192 ≤ b) → more ≡ 0
+  pub luma : 128 ≤ b → b < 192 → (e < 256) × (more ≡ step (e / 16) 0 (e % 16))
+  pub hashed : b < 64 → IsHashed entry
+  pub place : b < 64 → (past : Past) → HoldsSeen table past → pixel_of_lanes entry ≡ seen past b
+  pub added : 64 ≤ b → IsAdded b entry
+
+-- the sum has the chunk's pixel, and its index position
+pub short_sum : {b e : ℕ} {table : List ℕ} {s own more entry t : ℕ} → IsShortSum b e table s own more entry → s < 2 ^ 64 → IsHashed s → entry < 2 ^ 64
+    → t ≡ (own + more + entry) % 2 ^ 64 → IsAfterShort b e table (pixel_of_lanes s) (pixel_of_lanes t) × IsHashed t
+unfolding after_diff after_luma
+short_sum {b} {e} {table} {s} {own} {more} {entry} {t} p l hashed fits sum = (
+  record {
+    place = λ low past h. ap pixel_of_lanes (place low) ∙ p.place low past h;
+    diff = λ low high. (diff low high).pixel_is;
+    luma = λ low high. (luma low high).pixel_is;
+    run = λ low. (run low).pixel_is ∙ same_pixel _ _ (omega arith) (omega arith) (omega arith) (omega arith);
+  },
+  elim (cases_lt b 64) [
+    | inl low ↦ subst IsHashed (sym (place low)) (p.hashed low)
+    | inr some ↦ elim (cases_lt b 128) [
+      | inl low ↦ (diff some low).is_hashed
+      | inr high ↦ elim (cases_lt b 192) [ inl low ↦ (luma high low).is_hashed | inr more ↦ (run more).is_hashed ]
+    ]
+  ],
+)
+  where
+    place : b < 64 → t ≡ entry
+    place low = omega (arith, p.none low, p.no_more (inl (omega (arith, low))), fits, sum)
+
+    moves : (x y z k : ℕ) → 64 ≤ b → x ≤ 1000 → y ≤ 1000 → z ≤ 1000 → k % 64 ≡ (3 * x + 5 * y + 7 * z) % 64
+        → entry + more ≡ x + y * 2 ^ 16 + z * 2 ^ 32 + 4 * k * 2 ^ 56 → Sum s t x y z
+    moves x y z k low lx ly lz position is = sum_is s t x y z k l hashed lx ly lz position (omega (arith, p.kept low, is, sum))
+
+    diff : 64 ≤ b → b < 128 → Sum s t (b / 16 % 4 + 254) (b / 4 % 4 + 254) (b % 4 + 254)
+    diff low high =
+        moves _ _ _ ((3 * (b / 16 % 4 + 254) + 5 * (b / 4 % 4 + 254) + 7 * (b % 4 + 254)) % 64) low
+        (omega arith) (omega arith) (omega arith) (omega arith) (omega (arith, (p.added low).diff low high, p.no_more (inl high)))
+
+    luma : 128 ≤ b → b < 192 → Sum s t (b % 64 + e / 16 + 216) (b % 64 + 224) (b % 64 + e % 16 + 216)
+    luma low high =
+        let some : 64 ≤ b = omega (arith, low) in
+        moves _ _ _ ((3 * (b % 64 + 216) + 5 * (b % 64 + 224) + 7 * (b % 64 + 216)) % 64 + (3 * (e / 16) + 5 * 0 + 7 * (e % 16)) % 64) some
+        (omega (arith, p.luma low high)) (omega arith) (omega arith) (omega arith) (omega (arith, (p.added some).luma low high, p.luma low high))
+
+    run : 192 ≤ b → Sum s t 0 0 0
+    run low =
+        let some : 64 ≤ b = omega (arith, low) in
+        moves 0 0 0 0 some (omega arith) (omega arith) (omega arith) (omega arith) (omega (arith, (p.added some).run low, p.no_more (inr low)))

@@ -22,6 +22,10 @@ pub record HasWritten (file_channels channels : ℕ) (old new : Buffer) (pixels 
   pub at_is : new.at ≡ old.at + channels * length pixels
   pub same : take new.at new.out ≡ take old.at old.out ++ output file_channels channels pixels
 
+-- the pixel of this number was written so often, after what was written before
+abbrev pub HasCopies : ℕ → ℕ → ℕ → ℕ → ℕ → List ℕ → List ℕ → Type 0
+HasCopies f c at count px old new = HasWritten f c (upto old at) (upto new (at + c * count)) (replicate count (pixel_of_lanes px))
+
 -- The buffer has room for n pixels, and what is written of it are the pixels so far, as far as they
 -- fit.
 pub record HasFilled (file_channels channels n : ℕ) (b : Buffer) (past : Past) : Type 0 where
@@ -29,15 +33,11 @@ pub record HasFilled (file_channels channels n : ℕ) (b : Buffer) (past : Past)
   pub at_is : b.at ≡ channels * min n (length past)
   pub same : take b.at b.out ≡ take b.at (output file_channels channels (reverse past))
 
--- both are numbers of bytes of whole pixels
-abbrev pub IsWholePixels : ℕ → ℕ → ℕ → Type 0
-IsWholePixels channels size at = (size % channels ≡ 0) × (at % channels ≡ 0)
-
 -- the buffer can be filled with pixels from where it stops
 pub record IsFillable (channels : ℕ) (b : Buffer) : Type 0 where
   pub three_or_four : IsChannels channels
   pub within : b.at ≤ length b.out
-  pub whole : IsWholePixels channels (length b.out) b.at
+  pub whole : (length b.out % channels ≡ 0) × (b.at % channels ≡ 0)
 
 -- it isn't full and, if `runs_fit`, has room for the vectors of any run
 pub record HasRoom (channels : ℕ) (runs_fit : Bool) (b : Buffer) : Type 0 where
@@ -113,36 +113,22 @@ abbrev pub TakesOn : ℕ → ℕ → List ℕ → ℕ → ℕ → Filling → Fi
 TakesOn f c bytes from to old new = (gone : Past) (n : ℕ) (before : List ℕ)
     → DecoderBetween f c gone n (IsFrontAfter before bytes from) old → DecoderBetween f c gone n (IsFrontAfter before bytes to) new
 
--- the first `size` bytes were taken, as chunks after those before them
-abbrev pub TakesFront : ℕ → ℕ → List ℕ → ℕ → Filling → Filling → Type 0
-TakesFront f c bytes size old new = TakesOn f c bytes 0 size old new
-
 -- the same, with `count` bytes more taken
-abbrev pub taken_further : ℕ → Progress → Progress
+abbrev pub taken_further : {N F : ℕ} → ℕ → Progress N F → Progress N F
 taken_further count p = record { last = p.last; taken = p.taken + count; at = p.at; next = p.next }
 
 -- `DecoderBetween` for the fast loop over these bytes, which also has the byte that comes next
-pub record FastBetween (file_channels channels : ℕ) (gone : Past) (n : ℕ) (before bytes : List ℕ) (now : Progress) (table out : List ℕ) : Type 0 where
-  pub between : DecoderBetween file_channels channels gone n (IsFrontAfter before bytes now.taken) (filling table (reached now.last now.at) out)
+pub record FastBetween {N F : ℕ} (gone : Past) (n : ℕ) (before bytes : List ℕ) (now : Progress N F) (table out : List ℕ) : Type 0 where
+  pub between : DecoderBetween F N gone n (IsFrontAfter before bytes now.taken) (filling table (reached now.last now.at) out)
   pub next_is : now.next ≡ slice_index bytes now.taken
 
 -- the fast loop may read so many bytes ahead, and write so many
-pub record HasAhead (channels input room : ℕ) (bytes out : List ℕ) (now : Progress) : Type 0 where
-  pub three_or_four : IsChannels channels
-  pub whole : now.at % channels ≡ 0
+pub record HasAhead {N F : ℕ} (input room : ℕ) (bytes out : List ℕ) (now : Progress N F) : Type 0 where
+  pub three_or_four : IsChannels N
+  pub whole : now.at % N ≡ 0
   pub byte : now.next < 256
   pub input_is : now.taken + input ≤ length bytes
   pub room_is : now.at + room ≤ length out
-
--- what the fast loop has between two chunks, with the table and the output
-pub record Fast : Type 0 where
-  pub now : Progress
-  pub table : List ℕ
-  pub out : List ℕ
-
--- all three
-abbrev pub fast : Progress → List ℕ → List ℕ → Fast
-fast now table out = record { now = now; table = table; out = out }
 
 -- the first byte of an RGB or of an RGBA chunk
 abbrev pub IsFullTag : ℕ → Type 0
@@ -152,30 +138,25 @@ IsFullTag b = (b ≡ rgb_tag) ⊎ (b ≡ rgba_tag)
 abbrev pub IsPlainTag : ℕ → ℕ → Type 0
 IsPlainTag channels b = (b < luma_tag) ⊎ ((run_tag ≤ b) × (b ≤ run_tag - 1 + 16 / channels)) ⊎ (rgb_tag ≤ b)
 
+-- how many bytes the pixels of a chunk have, by its first byte
+pub record IsAdvance (channels b size : ℕ) : Type 0 where
+  pub once : b < run_tag → size ≡ channels
+  pub run : run_tag ≤ b → b < rgb_tag → size ≡ channels * (b - (run_tag - 1))
+  pub full : rgb_tag ≤ b → size ≡ channels
+
 -- in a row of RGB chunks the pixel has the alpha of the one before the row
 abbrev pub KeepsAlpha : ℕ → ℕ → ℕ → Type 0
 KeepsAlpha tag before now = tag ≡ rgb_tag → (pixel_of_lanes now).a ≡ (pixel_of_lanes before).a
 
--- so many short chunks are decoded in a row at most
-abbrev pub IsRow : ℕ → Type 0
-IsRow n = (n ≡ 1) ⊎ (n ≡ 8)
+-- A step of the fast loop, from its state, table and output to others: how many bytes it takes, at
+-- least and at most, and how many it writes at most.
+pub record FastStep {N F : ℕ} (least most room : ℕ) (bytes : List ℕ) (old : Progress N F) (table out : List ℕ) (new : Progress N F) (table' out' : List ℕ) : Type 0 where
+  pub between : (gone : Past) (n : ℕ) (before : List ℕ) → FastBetween gone n before bytes old table out → FastBetween gone n before bytes new table' out'
+  pub taken : (old.taken + least ≤ new.taken) × (new.taken ≤ old.taken + most)
+  pub written : (old.at ≤ new.at) × (new.at ≤ old.at + room)
+  pub whole : new.at % N ≡ 0
+  pub byte : new.next < 256
 
--- a step of the fast loop: how far it goes on at most, and that it does if a short chunk comes next
-pub record FastStep (file_channels channels input room : ℕ) (bytes : List ℕ) (old new : Fast) : Type 0 where
-  pub between : (gone : Past) (n : ℕ) (before : List ℕ) → FastBetween file_channels channels gone n before bytes old.now old.table old.out
-      → FastBetween file_channels channels gone n before bytes new.now new.table new.out
-  pub taken : (old.now.taken ≤ new.now.taken) × (new.now.taken ≤ old.now.taken + input)
-  pub some : new.now.next ≤ run_tag - 1 + 16 / channels → old.now.taken < new.now.taken
-  pub written : (old.now.at ≤ new.now.at) × (new.now.at ≤ old.now.at + room)
-  pub whole : new.now.at % channels ≡ 0
-  pub byte : new.now.next < 256
-
--- the fast loop took chunks, and stopped before the end of its bytes
-pub record FastChunks (file_channels channels : ℕ) (bytes : List ℕ) (old new : Fast) : Type 0 where
-  pub between : (gone : Past) (n : ℕ) (before : List ℕ) → FastBetween file_channels channels gone n before bytes old.now old.table old.out
-      → FastBetween file_channels channels gone n before bytes new.now new.table new.out
-  pub taken : (old.now.taken ≤ new.now.taken) × (new.now.taken < length bytes)
-  pub written : (old.now.at ≤ new.now.at) × (new.now.at ≤ length new.out)
-  pub below : old.now.at < length old.out → new.now.at < length new.out
-  pub whole : new.now.at % channels ≡ 0
-  pub byte : new.now.next < 256
+-- the same of any chunks, before the end of the bytes and, unless it was reached before, of the output
+abbrev pub FastChunks : {N F : ℕ} → List ℕ → Progress N F → List ℕ → List ℕ → Progress N F → List ℕ → List ℕ → Type 0
+FastChunks bytes old table out new table' out' = FastStep 0 (length bytes - 1 - old.taken) (length out - 1 - old.at) bytes old table out new table' out'

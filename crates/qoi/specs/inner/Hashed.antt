@@ -1,6 +1,6 @@
 -- Pixels as single numbers that hold their index positions too.
 use Rattle.std.specs.Prelude.{◌≡◌, ℕ, ◌+◌, ◌*◌, ◌/◌, ◌%◌, ◌^◌, ◌<◌, ◌≤◌, List, length, slice_index}
-use Rattle.qoi.specs.Qoi.{RgbaPixel, Past, pixel, positions, diff_tag, luma_tag, run_tag, hash, seen}
+use Rattle.qoi.specs.Qoi.{RgbaPixel, Past, pixel, positions, diff_tag, luma_tag, run_tag, rgb_tag, rgba_tag, hash, seen, after_diff, after_luma}
 
 -- the pixel of four lanes of 16 bits, red in the lowest: each channel has the eight lower ones,
 -- whatever stands in the others
@@ -48,3 +48,16 @@ pub record AreTerms (numbers : List ℕ) : Type 0 where
 -- were put there one after the other.
 abbrev pub HoldsSeen : List ℕ → Past → Type 0
 HoldsSeen numbers past = (i : ℕ) → i < positions → pixel_of_lanes (slice_index numbers i) ≡ seen past i
+
+-- p is the pixel after an index position, a difference, a luma or a run, of whose bytes b is the first
+-- and e comes next, by the table and the last pixel
+pub record IsAfterShort (b e : ℕ) (table : List ℕ) (last p : RgbaPixel) : Type 0 where
+  pub place : b < diff_tag → (past : Past) → HoldsSeen table past → p ≡ seen past b
+  pub diff : diff_tag ≤ b → b < luma_tag → p ≡ after_diff last b
+  pub luma : luma_tag ≤ b → b < run_tag → p ≡ after_luma last b e
+  pub run : run_tag ≤ b → p ≡ last
+
+-- p is the pixel of the RGB or RGBA chunk that the bytes begin with, whose first byte is b
+pub record IsAfterFull (b : ℕ) (bytes : List ℕ) (last p : RgbaPixel) : Type 0 where
+  pub rgb : b ≡ rgb_tag → p ≡ pixel (slice_index bytes 1) (slice_index bytes 2) (slice_index bytes 3) last.a
+  pub rgba : b ≡ rgba_tag → p ≡ pixel (slice_index bytes 1) (slice_index bytes 2) (slice_index bytes 3) (slice_index bytes 4)

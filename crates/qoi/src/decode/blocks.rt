@@ -1,7 +1,7 @@
 //! Chunks in memory while input and output have room ahead, from any pixel on: in blocks, after
 //! each of which a row of RGB or of RGBA chunks is looked for, and then one of plain chunks. So
 //! such rows cost the fast loop no test a chunk.
-ghost use Rattle.std.specs.Prelude.{◌+◌, ◌*◌, ◌<◌, ◌≤◌, length};
+ghost use Rattle.std.specs.Prelude.{◌≡◌, ◌⊎◌, ◌+◌, ◌*◌, ◌<◌, ◌≤◌, length};
 ghost use Rattle.qoi.specs.declared.decode.fast.TheConstants.{INPUT_ROOM, OUTPUT_ROOM};
 
 use crate::decode::fast::{INPUT_ROOM, OUTPUT_ROOM, Progress};
@@ -22,39 +22,33 @@ const LONG_PLAIN_ROW: usize = 144;
 
 const SHORT_BLOCK: usize = 8;
 
-impl Progress {
-    ghost use Rattle.qoi.specs.inner.Filling.{upto, IsFillable, StaysFillable, filling, TakesOn, TakesFront, IsRow, HasAhead, fast, FastChunks};
+impl<const N: usize, const F: usize> Progress<N, F> {
+    ghost use Rattle.qoi.specs.inner.Filling.{upto, IsFillable, StaysFillable, filling, TakesOn, HasAhead, FastChunks};
 
     // Decodes blocks of chunks and rows of full or of plain ones while there is room ahead.
     #[inline(always)]
-    fn blocks_of_chunks<const N: usize, const F: usize>(
-        self,
-        table: &mut TermTable,
-        bytes: &[u8],
-        out: &mut [u8],
-    ) -> Progress
+    fn blocks_of_chunks(self, table: &mut TermTable, bytes: &[u8], out: &mut [u8]) -> Self
         requires input { INPUT_ROOM ≤ length bytes.now }
         requires room { OUTPUT_ROOM ≤ length out.old }
-        requires ahead { HasAhead N 1 0 bytes.now out.old self }
-        ensures { FastChunks F N bytes.now
-            (fast self table.old out.old) (fast result table.new out.new) }
+        requires ahead { HasAhead 1 0 bytes.now out.old self }
+        ensures { FastChunks bytes.now self.entry table.old out.old result table.new out.new }
     {
         let mut now = self;
         let far = bytes.len() - INPUT_ROOM;
         let mut near = far.min(now.taken + FIRST_BLOCK);
         while now.taken <= far {
-            let block = now.chunks_until::<N, F, 8>(table, &bytes[..near + INPUT_ROOM], out);
+            let block = now.chunks_until::<8>(table, &bytes[..near + INPUT_ROOM], out);
             now = block;
             if block.taken <= near || far < block.taken {
                 break;
             }
-            let full = block.full_row::<N, F>(table, bytes, out);
+            let full = block.full_row(table, bytes, out);
             let least = if full.taken > block.taken {
                 LONG_ROW
             } else {
                 LONG_PLAIN_ROW
             };
-            now = full.plain_row::<N, F>(table, bytes, out);
+            now = full.plain_row(table, bytes, out);
             let is_long = least < now.taken - block.taken;
             near = far.min(now.taken + if is_long { SHORT_BLOCK } else { BLOCK });
         }
@@ -63,35 +57,34 @@ impl Progress {
 
     // `chunks_ahead` from a state of the loop: in blocks if `ROW` is 8, else by `chunks_until`.
     #[inline(always)]
-    fn chunks_in_room<const N: usize, const F: usize, const ROW: usize>(
+    fn chunks_in_room<const ROW: usize>(
         self,
         table: &mut TermTable,
         bytes: &[u8],
         out: &mut [u8],
-    ) -> Progress
-        requires row { IsRow ROW }
+    ) -> Self
+        requires row { (ROW ≡ 1) ⊎ (ROW ≡ 8) }
         requires input { INPUT_ROOM ≤ length bytes.now }
         requires room { 16 * ROW + 16 ≤ length out.old }
-        requires ahead { HasAhead N 1 0 bytes.now out.old self }
-        ensures { FastChunks F N bytes.now
-            (fast self table.old out.old) (fast result table.new out.new) }
+        requires ahead { HasAhead 1 0 bytes.now out.old self }
+        ensures { FastChunks bytes.now self.entry table.old out.old result table.new out.new }
     {
         if ROW == 8 {
-            return self.blocks_of_chunks::<N, F>(table, bytes, out);
+            return self.blocks_of_chunks(table, bytes, out);
         }
-        self.chunks_until::<N, F, ROW>(table, bytes, out)
+        self.chunks_until::<ROW>(table, bytes, out)
     }
 
     /// Decodes chunks while input and output have room ahead for `ROW` short ones and a full one,
     /// from where other chunks stopped.
     #[inline(always)]
-    pub(super) fn chunks_ahead<const N: usize, const F: usize, const ROW: usize>(
+    pub(super) fn chunks_ahead<const ROW: usize>(
         table: &mut TermTable,
         from: Decoded,
         bytes: &[u8],
         out: &mut [u8],
     ) -> Decoded
-        requires row { IsRow ROW }
+        requires row { (ROW ≡ 1) ⊎ (ROW ≡ 8) }
         requires input { INPUT_ROOM ≤ length bytes.now }
         requires room { 16 * ROW + 16 ≤ length out.old }
         requires within { from.taken < length bytes.now }
@@ -103,13 +96,13 @@ impl Progress {
             (upto out.old from.reached.at) (upto out.new result.reached.at) }
     {
         let old = from.reached;
-        let now = Progress {
+        let now = Progress::<N, F> {
             last: old.last,
             taken: from.taken,
             at: old.at,
             next: bytes[from.taken],
         };
-        let now = now.chunks_in_room::<N, F, ROW>(table, bytes, out);
+        let now = now.chunks_in_room::<ROW>(table, bytes, out);
         let (last, at) = (now.last, now.at);
         Decoded {
             taken: now.taken,
@@ -120,14 +113,14 @@ impl Progress {
     /// Decodes chunks from the front of the bytes, after what others reached, while there is room
     /// ahead, and returns where it stopped. The caller goes on chunk by chunk.
     #[inline(always)]
-    pub(super) fn fast_chunks<const N: usize, const F: usize>(
+    pub(super) fn fast_chunks(
         table: &mut TermTable,
         from: Reached,
         bytes: &[u8],
         out: &mut [u8],
     ) -> Decoded
         requires { IsFillable N (upto out.old from.at) }
-        ensures between { TakesFront F N bytes.now result.taken
+        ensures between { TakesOn F N bytes.now 0 result.taken
             (filling table.old from out.old) (filling table.new result.reached out.new) }
         ensures within { result.taken ≤ length bytes.now }
         ensures on { StaysFillable N (upto out.old from.at) (upto out.new result.reached.at) }
@@ -139,6 +132,6 @@ impl Progress {
         if bytes.len() < INPUT_ROOM || out.len() < OUTPUT_ROOM {
             return none;
         }
-        Progress::chunks_ahead::<N, F, 8>(table, none, bytes, out)
+        Progress::<N, F>::chunks_ahead::<8>(table, none, bytes, out)
     }
 }

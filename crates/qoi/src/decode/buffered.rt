@@ -41,7 +41,7 @@ fn chunks_in_buffer<R: BufRead, const N: usize, const F: usize>(
         return Ok(from);
     }
     let bytes = reader.fill_buf()?;
-    let now = Progress::fast_chunks::<N, F>(table, from, bytes, out);
+    let now = Progress::<N, F>::fast_chunks(table, from, bytes, out);
     reader.consume(now.taken);
     Ok(now.reached)
 }

@@ -5,7 +5,7 @@ ghost use Rattle.std.specs.Vec.{vec_len, vec_capacity};
 ghost use Rattle.std.specs.Io.KnownBytes.{Consumes};
 ghost use Rattle.qoi.specs.Qoi.{end_marker, run_max};
 ghost use Rattle.qoi.specs.Raw.{IsChannels};
-ghost use Rattle.qoi.specs.Decoding.{TakesImagePixels, ReadsImage};
+ghost use Rattle.qoi.specs.Decoding.{ReadsImage};
 ghost use Rattle.qoi.specs.inner.Chunks.{RefusesChunks, RefusesAfter, TakesChunks, FillsOutput, RefusesFilling};
 ghost use Rattle.qoi.specs.inner.Filling.{upto, IsFillable, HasRoom, filling};
 ghost use Rattle.qoi.specs.pieces.InPlace.{TakesInPlace, IsInPlace};
@@ -96,27 +96,28 @@ fn grow<const N: usize>(out: &mut Vec<u8>, size: usize)
     let _within = out.resize(size, 0);
 }
 
-// Decodes chunks until `out` is full, and takes no byte past the last of them.
-fn chunks_to_buf<R: Chunks<N, F>, const N: usize, const F: usize>(
+/// Decodes chunks and the end marker into a buffer, and takes no byte past them.
+pub(super) fn image_to_buf<R: Chunks<N, F>, const N: usize, const F: usize>(
     reader: &mut R,
     out: &mut [u8],
 ) -> Result<()>
     requires channels { IsChannels N }
     requires whole { length out.old % N ≡ 0 }
-    ensures read { OnOk result (TakesImagePixels F N (length out.old / N)
+    ensures read { OnOk result (ReadsImage F N (length out.old / N)
         (R.ahead reader.old) (R.ahead reader.new) out.new) }
     ensures refused { IfErr result (RefusesChunks R.in_memory (length out.old / N)
         (R.ahead reader.old) (R.ahead reader.new)) }
 {
     let mut table = TermTable::new();
     let last = Hashed::start();
-    reader.all_chunks(&mut table, Reached { last, at: 0 }, out)
+    reader.all_chunks(&mut table, Reached { last, at: 0 }, out)?;
+    reader.marker()
 }
 
-// Decodes chunks into an empty vector until it has `size` bytes, and takes no byte past the last of
-// them. The vector grows by steps, each of which is filled, but for less than `RUN_ROOM`, before
-// the next.
-fn chunks_to_vec<R: Chunks<N, F>, const N: usize, const F: usize>(
+/// Decodes an image and its end marker into an empty vector with capacity for `size` bytes, which
+/// then has as many. It grows by steps, each of which is filled, but for less than `RUN_ROOM`,
+/// before the next.
+pub(super) fn image_to_vec<R: Chunks<N, F>, const N: usize, const F: usize>(
     reader: &mut R,
     out: &mut Vec<u8>,
     size: usize,
@@ -125,7 +126,7 @@ fn chunks_to_vec<R: Chunks<N, F>, const N: usize, const F: usize>(
     requires whole { size % N ≡ 0 }
     requires empty { vec_len out.old ≡ 0 }
     requires room { size ≤ vec_capacity out.old }
-    ensures read { OnOk result (TakesImagePixels F N (size / N)
+    ensures read { OnOk result (ReadsImage F N (size / N)
         (R.ahead reader.old) (R.ahead reader.new) out.new.items) }
     ensures refused { IfErr result (RefusesChunks R.in_memory (size / N)
         (R.ahead reader.old) (R.ahead reader.new)) }
@@ -143,41 +144,6 @@ fn chunks_to_vec<R: Chunks<N, F>, const N: usize, const F: usize>(
         now = reader.some_chunks(&mut table, now, out)?;
     }
     grow::<N>(out, size);
-    reader.all_chunks(&mut table, now, out)
-}
-
-/// Decodes chunks and the end marker into a buffer, and takes no byte past them.
-pub(super) fn image_to_buf<R: Chunks<N, F>, const N: usize, const F: usize>(
-    reader: &mut R,
-    out: &mut [u8],
-) -> Result<()>
-    requires channels { IsChannels N }
-    requires whole { length out.old % N ≡ 0 }
-    ensures read { OnOk result (ReadsImage F N (length out.old / N)
-        (R.ahead reader.old) (R.ahead reader.new) out.new) }
-    ensures refused { IfErr result (RefusesChunks R.in_memory (length out.old / N)
-        (R.ahead reader.old) (R.ahead reader.new)) }
-{
-    chunks_to_buf::<R, N, F>(reader, out)?;
-    reader.marker()
-}
-
-/// Decodes an image and its end marker into an empty vector with capacity for `size` bytes, which
-/// then has as many.
-pub(super) fn image_to_vec<R: Chunks<N, F>, const N: usize, const F: usize>(
-    reader: &mut R,
-    out: &mut Vec<u8>,
-    size: usize,
-) -> Result<()>
-    requires channels { IsChannels N }
-    requires whole { size % N ≡ 0 }
-    requires empty { vec_len out.old ≡ 0 }
-    requires room { size ≤ vec_capacity out.old }
-    ensures read { OnOk result (ReadsImage F N (size / N)
-        (R.ahead reader.old) (R.ahead reader.new) out.new.items) }
-    ensures refused { IfErr result (RefusesChunks R.in_memory (size / N)
-        (R.ahead reader.old) (R.ahead reader.new)) }
-{
-    chunks_to_vec::<R, N, F>(reader, out, size)?;
+    reader.all_chunks(&mut table, now, out)?;
     reader.marker()
 }

@@ -1,8 +1,10 @@
-//! What the bytes of a chunk do to the last pixel, and how many bytes its pixels have.
-ghost use Rattle.std.specs.Prelude.{◌≡◌, IsTrue, ℕ, ◌+◌, ◌*◌, ◌-◌, ◌/◌, ◌%◌, ◌^◌, ◌<◌, ◌≤◌, nat_le, nat_lt, ◌&&◌, length, slice_index};
+//! What the bytes of a chunk do to the last pixel, and how many bytes its pixels have, by tables:
+//! so a loop has no jump between kinds of chunks.
+ghost use Rattle.std.specs.Prelude.{◌≡◌, ◌↔◌, IsTrue, ℕ, ◌-◌, ◌/◌, ◌%◌, ◌^◌, ◌<◌, ◌≤◌, nat_le, nat_lt, ◌&&◌, length, slice_index};
 ghost use Rattle.qoi.specs.Qoi.{diff_tag, luma_tag, run_tag, rgb_tag, rgba_tag};
 ghost use Rattle.qoi.specs.Raw.{IsChannels};
-ghost use Rattle.qoi.specs.inner.Hashed.{step, lane_mask, alpha_mask, IsAdded};
+ghost use Rattle.qoi.specs.inner.Filling.{IsAdvance, IsPlainTag};
+ghost use Rattle.qoi.specs.inner.Hashed.{step, lane_mask, alpha_mask, top_mask, IsAdded};
 
 use crate::consts::QOI_OP_LUMA;
 
@@ -53,11 +55,15 @@ static ADDED: [u64; 256] = [
     0, 0, 0, 0, 0, 0, 0, 0, 0, 0, 0, 0, 0, 0, 0, 0, 0, 0, 0, 0, 0, 0, 0, 0, 0, 0, 0, 0, 0, 0, 0, 0,
     0, 0, 0, 0, 0, 0, 0, 0, 0, 0, 0, 0, 0, 0, 0, 0, 0, 0, 0, 0, 0, 0, 0, 0, 0, 0, 0, 0, 0, 0, 0, 0,
 ];
+// What most first bytes keep of the last pixel: the channels and the index position, without what
+// stands above red, green and blue.
+const KEEP: u64 = 0xffff_00ff_00ff_00ff;
 
-// Five tables indexed by byte, one after the other, and two for the first bytes of RGB and RGBA
-// chunks. One array needs one address in the decoder's loop.
+const FULL: u64 = u64::MAX;
+
+// Eight tables indexed by byte, one after the other. One array needs one address in a loop.
 #[rattlefmt::skip]
-static BYTE_TABLES: [u64; 1284] = [
+static BYTE_TABLES: [u64; 2048] = [
     // What the second byte of a luma adds: for its high and its low four bits, as numbers r and b,
     // r to red, b to blue, and 4 (3 r + 7 b) modulo 256 to four times the index position.
     0, 0x1c00_0001_0000_0000, 0x3800_0002_0000_0000, 0x5400_0003_0000_0000,
@@ -124,113 +130,88 @@ static BYTE_TABLES: [u64; 1284] = [
     0x2400_0004_0000_000f, 0x4000_0005_0000_000f, 0x5c00_0006_0000_000f, 0x7800_0007_0000_000f,
     0x9400_0008_0000_000f, 0xb000_0009_0000_000f, 0xcc00_000a_0000_000f, 0xe800_000b_0000_000f,
     0x0400_000c_0000_000f, 0x2000_000d_0000_000f, 0x3c00_000e_0000_000f, 0x5800_000f_0000_000f,
-    // What a first byte keeps of the last pixel: the chunk of an index position nothing.
+    // What a first byte keeps of the last pixel's number: that of an index position nothing, that
+    // of an RGB chunk alpha alone, and that of an RGBA chunk nothing.
     0, 0, 0, 0, 0, 0, 0, 0, 0, 0, 0, 0, 0, 0, 0, 0, 0, 0, 0, 0, 0, 0, 0, 0, 0, 0, 0, 0, 0, 0, 0, 0,
     0, 0, 0, 0, 0, 0, 0, 0, 0, 0, 0, 0, 0, 0, 0, 0, 0, 0, 0, 0, 0, 0, 0, 0, 0, 0, 0, 0, 0, 0, 0, 0,
-    // Any other byte keeps the channels and the index position, without what stands above red,
-    // green and blue.
-    0xffff_00ff_00ff_00ff, 0xffff_00ff_00ff_00ff, 0xffff_00ff_00ff_00ff, 0xffff_00ff_00ff_00ff,
-    0xffff_00ff_00ff_00ff, 0xffff_00ff_00ff_00ff, 0xffff_00ff_00ff_00ff, 0xffff_00ff_00ff_00ff,
-    0xffff_00ff_00ff_00ff, 0xffff_00ff_00ff_00ff, 0xffff_00ff_00ff_00ff, 0xffff_00ff_00ff_00ff,
-    0xffff_00ff_00ff_00ff, 0xffff_00ff_00ff_00ff, 0xffff_00ff_00ff_00ff, 0xffff_00ff_00ff_00ff,
-    0xffff_00ff_00ff_00ff, 0xffff_00ff_00ff_00ff, 0xffff_00ff_00ff_00ff, 0xffff_00ff_00ff_00ff,
-    0xffff_00ff_00ff_00ff, 0xffff_00ff_00ff_00ff, 0xffff_00ff_00ff_00ff, 0xffff_00ff_00ff_00ff,
-    0xffff_00ff_00ff_00ff, 0xffff_00ff_00ff_00ff, 0xffff_00ff_00ff_00ff, 0xffff_00ff_00ff_00ff,
-    0xffff_00ff_00ff_00ff, 0xffff_00ff_00ff_00ff, 0xffff_00ff_00ff_00ff, 0xffff_00ff_00ff_00ff,
-    0xffff_00ff_00ff_00ff, 0xffff_00ff_00ff_00ff, 0xffff_00ff_00ff_00ff, 0xffff_00ff_00ff_00ff,
-    0xffff_00ff_00ff_00ff, 0xffff_00ff_00ff_00ff, 0xffff_00ff_00ff_00ff, 0xffff_00ff_00ff_00ff,
-    0xffff_00ff_00ff_00ff, 0xffff_00ff_00ff_00ff, 0xffff_00ff_00ff_00ff, 0xffff_00ff_00ff_00ff,
-    0xffff_00ff_00ff_00ff, 0xffff_00ff_00ff_00ff, 0xffff_00ff_00ff_00ff, 0xffff_00ff_00ff_00ff,
-    0xffff_00ff_00ff_00ff, 0xffff_00ff_00ff_00ff, 0xffff_00ff_00ff_00ff, 0xffff_00ff_00ff_00ff,
-    0xffff_00ff_00ff_00ff, 0xffff_00ff_00ff_00ff, 0xffff_00ff_00ff_00ff, 0xffff_00ff_00ff_00ff,
-    0xffff_00ff_00ff_00ff, 0xffff_00ff_00ff_00ff, 0xffff_00ff_00ff_00ff, 0xffff_00ff_00ff_00ff,
-    0xffff_00ff_00ff_00ff, 0xffff_00ff_00ff_00ff, 0xffff_00ff_00ff_00ff, 0xffff_00ff_00ff_00ff,
-    0xffff_00ff_00ff_00ff, 0xffff_00ff_00ff_00ff, 0xffff_00ff_00ff_00ff, 0xffff_00ff_00ff_00ff,
-    0xffff_00ff_00ff_00ff, 0xffff_00ff_00ff_00ff, 0xffff_00ff_00ff_00ff, 0xffff_00ff_00ff_00ff,
-    0xffff_00ff_00ff_00ff, 0xffff_00ff_00ff_00ff, 0xffff_00ff_00ff_00ff, 0xffff_00ff_00ff_00ff,
-    0xffff_00ff_00ff_00ff, 0xffff_00ff_00ff_00ff, 0xffff_00ff_00ff_00ff, 0xffff_00ff_00ff_00ff,
-    0xffff_00ff_00ff_00ff, 0xffff_00ff_00ff_00ff, 0xffff_00ff_00ff_00ff, 0xffff_00ff_00ff_00ff,
-    0xffff_00ff_00ff_00ff, 0xffff_00ff_00ff_00ff, 0xffff_00ff_00ff_00ff, 0xffff_00ff_00ff_00ff,
-    0xffff_00ff_00ff_00ff, 0xffff_00ff_00ff_00ff, 0xffff_00ff_00ff_00ff, 0xffff_00ff_00ff_00ff,
-    0xffff_00ff_00ff_00ff, 0xffff_00ff_00ff_00ff, 0xffff_00ff_00ff_00ff, 0xffff_00ff_00ff_00ff,
-    0xffff_00ff_00ff_00ff, 0xffff_00ff_00ff_00ff, 0xffff_00ff_00ff_00ff, 0xffff_00ff_00ff_00ff,
-    0xffff_00ff_00ff_00ff, 0xffff_00ff_00ff_00ff, 0xffff_00ff_00ff_00ff, 0xffff_00ff_00ff_00ff,
-    0xffff_00ff_00ff_00ff, 0xffff_00ff_00ff_00ff, 0xffff_00ff_00ff_00ff, 0xffff_00ff_00ff_00ff,
-    0xffff_00ff_00ff_00ff, 0xffff_00ff_00ff_00ff, 0xffff_00ff_00ff_00ff, 0xffff_00ff_00ff_00ff,
-    0xffff_00ff_00ff_00ff, 0xffff_00ff_00ff_00ff, 0xffff_00ff_00ff_00ff, 0xffff_00ff_00ff_00ff,
-    0xffff_00ff_00ff_00ff, 0xffff_00ff_00ff_00ff, 0xffff_00ff_00ff_00ff, 0xffff_00ff_00ff_00ff,
-    0xffff_00ff_00ff_00ff, 0xffff_00ff_00ff_00ff, 0xffff_00ff_00ff_00ff, 0xffff_00ff_00ff_00ff,
-    0xffff_00ff_00ff_00ff, 0xffff_00ff_00ff_00ff, 0xffff_00ff_00ff_00ff, 0xffff_00ff_00ff_00ff,
-    0xffff_00ff_00ff_00ff, 0xffff_00ff_00ff_00ff, 0xffff_00ff_00ff_00ff, 0xffff_00ff_00ff_00ff,
-    0xffff_00ff_00ff_00ff, 0xffff_00ff_00ff_00ff, 0xffff_00ff_00ff_00ff, 0xffff_00ff_00ff_00ff,
-    0xffff_00ff_00ff_00ff, 0xffff_00ff_00ff_00ff, 0xffff_00ff_00ff_00ff, 0xffff_00ff_00ff_00ff,
-    0xffff_00ff_00ff_00ff, 0xffff_00ff_00ff_00ff, 0xffff_00ff_00ff_00ff, 0xffff_00ff_00ff_00ff,
-    0xffff_00ff_00ff_00ff, 0xffff_00ff_00ff_00ff, 0xffff_00ff_00ff_00ff, 0xffff_00ff_00ff_00ff,
-    0xffff_00ff_00ff_00ff, 0xffff_00ff_00ff_00ff, 0xffff_00ff_00ff_00ff, 0xffff_00ff_00ff_00ff,
-    0xffff_00ff_00ff_00ff, 0xffff_00ff_00ff_00ff, 0xffff_00ff_00ff_00ff, 0xffff_00ff_00ff_00ff,
-    0xffff_00ff_00ff_00ff, 0xffff_00ff_00ff_00ff, 0xffff_00ff_00ff_00ff, 0xffff_00ff_00ff_00ff,
-    0xffff_00ff_00ff_00ff, 0xffff_00ff_00ff_00ff, 0xffff_00ff_00ff_00ff, 0xffff_00ff_00ff_00ff,
-    0xffff_00ff_00ff_00ff, 0xffff_00ff_00ff_00ff, 0xffff_00ff_00ff_00ff, 0xffff_00ff_00ff_00ff,
-    0xffff_00ff_00ff_00ff, 0xffff_00ff_00ff_00ff, 0xffff_00ff_00ff_00ff, 0xffff_00ff_00ff_00ff,
-    0xffff_00ff_00ff_00ff, 0xffff_00ff_00ff_00ff, 0xffff_00ff_00ff_00ff, 0xffff_00ff_00ff_00ff,
-    0xffff_00ff_00ff_00ff, 0xffff_00ff_00ff_00ff, 0xffff_00ff_00ff_00ff, 0xffff_00ff_00ff_00ff,
-    0xffff_00ff_00ff_00ff, 0xffff_00ff_00ff_00ff, 0xffff_00ff_00ff_00ff, 0xffff_00ff_00ff_00ff,
-    0xffff_00ff_00ff_00ff, 0xffff_00ff_00ff_00ff, 0xffff_00ff_00ff_00ff, 0xffff_00ff_00ff_00ff,
-    0xffff_00ff_00ff_00ff, 0xffff_00ff_00ff_00ff, 0xffff_00ff_00ff_00ff, 0xffff_00ff_00ff_00ff,
-    // What counts of that: all bits after the first byte of a luma, else none.
+    KEEP, KEEP, KEEP, KEEP, KEEP, KEEP, KEEP, KEEP, KEEP, KEEP, KEEP, KEEP, KEEP, KEEP, KEEP, KEEP,
+    KEEP, KEEP, KEEP, KEEP, KEEP, KEEP, KEEP, KEEP, KEEP, KEEP, KEEP, KEEP, KEEP, KEEP, KEEP, KEEP,
+    KEEP, KEEP, KEEP, KEEP, KEEP, KEEP, KEEP, KEEP, KEEP, KEEP, KEEP, KEEP, KEEP, KEEP, KEEP, KEEP,
+    KEEP, KEEP, KEEP, KEEP, KEEP, KEEP, KEEP, KEEP, KEEP, KEEP, KEEP, KEEP, KEEP, KEEP, KEEP, KEEP,
+    KEEP, KEEP, KEEP, KEEP, KEEP, KEEP, KEEP, KEEP, KEEP, KEEP, KEEP, KEEP, KEEP, KEEP, KEEP, KEEP,
+    KEEP, KEEP, KEEP, KEEP, KEEP, KEEP, KEEP, KEEP, KEEP, KEEP, KEEP, KEEP, KEEP, KEEP, KEEP, KEEP,
+    KEEP, KEEP, KEEP, KEEP, KEEP, KEEP, KEEP, KEEP, KEEP, KEEP, KEEP, KEEP, KEEP, KEEP, KEEP, KEEP,
+    KEEP, KEEP, KEEP, KEEP, KEEP, KEEP, KEEP, KEEP, KEEP, KEEP, KEEP, KEEP, KEEP, KEEP, KEEP, KEEP,
+    KEEP, KEEP, KEEP, KEEP, KEEP, KEEP, KEEP, KEEP, KEEP, KEEP, KEEP, KEEP, KEEP, KEEP, KEEP, KEEP,
+    KEEP, KEEP, KEEP, KEEP, KEEP, KEEP, KEEP, KEEP, KEEP, KEEP, KEEP, KEEP, KEEP, KEEP, KEEP, KEEP,
+    KEEP, KEEP, KEEP, KEEP, KEEP, KEEP, KEEP, KEEP, KEEP, KEEP, KEEP, KEEP, KEEP, KEEP, KEEP, KEEP,
+    KEEP, KEEP, KEEP, KEEP, KEEP, KEEP, KEEP, KEEP, KEEP, KEEP, KEEP, KEEP, KEEP, KEEP,
+    0x00ff_0000_0000_0000, 0,
+    // What counts of what is read after it: all of what the second byte of a luma adds; of four
+    // bytes in lanes of 16 bits three of an RGB chunk, and all of an RGBA chunk.
     0, 0, 0, 0, 0, 0, 0, 0, 0, 0, 0, 0, 0, 0, 0, 0, 0, 0, 0, 0, 0, 0, 0, 0, 0, 0, 0, 0, 0, 0, 0, 0,
     0, 0, 0, 0, 0, 0, 0, 0, 0, 0, 0, 0, 0, 0, 0, 0, 0, 0, 0, 0, 0, 0, 0, 0, 0, 0, 0, 0, 0, 0, 0, 0,
     0, 0, 0, 0, 0, 0, 0, 0, 0, 0, 0, 0, 0, 0, 0, 0, 0, 0, 0, 0, 0, 0, 0, 0, 0, 0, 0, 0, 0, 0, 0, 0,
     0, 0, 0, 0, 0, 0, 0, 0, 0, 0, 0, 0, 0, 0, 0, 0, 0, 0, 0, 0, 0, 0, 0, 0, 0, 0, 0, 0, 0, 0, 0, 0,
-    u64::MAX, u64::MAX, u64::MAX, u64::MAX, u64::MAX, u64::MAX, u64::MAX, u64::MAX,
-    u64::MAX, u64::MAX, u64::MAX, u64::MAX, u64::MAX, u64::MAX, u64::MAX, u64::MAX,
-    u64::MAX, u64::MAX, u64::MAX, u64::MAX, u64::MAX, u64::MAX, u64::MAX, u64::MAX,
-    u64::MAX, u64::MAX, u64::MAX, u64::MAX, u64::MAX, u64::MAX, u64::MAX, u64::MAX,
-    u64::MAX, u64::MAX, u64::MAX, u64::MAX, u64::MAX, u64::MAX, u64::MAX, u64::MAX,
-    u64::MAX, u64::MAX, u64::MAX, u64::MAX, u64::MAX, u64::MAX, u64::MAX, u64::MAX,
-    u64::MAX, u64::MAX, u64::MAX, u64::MAX, u64::MAX, u64::MAX, u64::MAX, u64::MAX,
-    u64::MAX, u64::MAX, u64::MAX, u64::MAX, u64::MAX, u64::MAX, u64::MAX, u64::MAX,
+    FULL, FULL, FULL, FULL, FULL, FULL, FULL, FULL, FULL, FULL, FULL, FULL, FULL, FULL, FULL, FULL,
+    FULL, FULL, FULL, FULL, FULL, FULL, FULL, FULL, FULL, FULL, FULL, FULL, FULL, FULL, FULL, FULL,
+    FULL, FULL, FULL, FULL, FULL, FULL, FULL, FULL, FULL, FULL, FULL, FULL, FULL, FULL, FULL, FULL,
+    FULL, FULL, FULL, FULL, FULL, FULL, FULL, FULL, FULL, FULL, FULL, FULL, FULL, FULL, FULL, FULL,
     0, 0, 0, 0, 0, 0, 0, 0, 0, 0, 0, 0, 0, 0, 0, 0, 0, 0, 0, 0, 0, 0, 0, 0, 0, 0, 0, 0, 0, 0, 0, 0,
-    0, 0, 0, 0, 0, 0, 0, 0, 0, 0, 0, 0, 0, 0, 0, 0, 0, 0, 0, 0, 0, 0, 0, 0, 0, 0, 0, 0, 0, 0, 0, 0,
-    // How many bytes the pixels of a chunk have in three channels, by its first byte: 3 of one
-    // pixel, and 3 for each pixel of a run.
-    3, 3, 3, 3, 3, 3, 3, 3, 3, 3, 3, 3, 3, 3, 3, 3,
-    3, 3, 3, 3, 3, 3, 3, 3, 3, 3, 3, 3, 3, 3, 3, 3,
-    3, 3, 3, 3, 3, 3, 3, 3, 3, 3, 3, 3, 3, 3, 3, 3,
-    3, 3, 3, 3, 3, 3, 3, 3, 3, 3, 3, 3, 3, 3, 3, 3,
-    3, 3, 3, 3, 3, 3, 3, 3, 3, 3, 3, 3, 3, 3, 3, 3,
-    3, 3, 3, 3, 3, 3, 3, 3, 3, 3, 3, 3, 3, 3, 3, 3,
-    3, 3, 3, 3, 3, 3, 3, 3, 3, 3, 3, 3, 3, 3, 3, 3,
-    3, 3, 3, 3, 3, 3, 3, 3, 3, 3, 3, 3, 3, 3, 3, 3,
-    3, 3, 3, 3, 3, 3, 3, 3, 3, 3, 3, 3, 3, 3, 3, 3,
-    3, 3, 3, 3, 3, 3, 3, 3, 3, 3, 3, 3, 3, 3, 3, 3,
-    3, 3, 3, 3, 3, 3, 3, 3, 3, 3, 3, 3, 3, 3, 3, 3,
-    3, 3, 3, 3, 3, 3, 3, 3, 3, 3, 3, 3, 3, 3, 3, 3,
+    0, 0, 0, 0, 0, 0, 0, 0, 0, 0, 0, 0, 0, 0, 0, 0, 0, 0, 0, 0, 0, 0, 0, 0, 0, 0, 0, 0, 0, 0,
+    0x0000_ffff_ffff_ffff, FULL,
+    // How many bytes the pixels of a chunk have in three channels: 3 of one pixel, and 3 for each
+    // pixel of a run.
+    3, 3, 3, 3, 3, 3, 3, 3, 3, 3, 3, 3, 3, 3, 3, 3, 3, 3, 3, 3, 3, 3, 3, 3, 3, 3, 3, 3, 3, 3, 3, 3,
+    3, 3, 3, 3, 3, 3, 3, 3, 3, 3, 3, 3, 3, 3, 3, 3, 3, 3, 3, 3, 3, 3, 3, 3, 3, 3, 3, 3, 3, 3, 3, 3,
+    3, 3, 3, 3, 3, 3, 3, 3, 3, 3, 3, 3, 3, 3, 3, 3, 3, 3, 3, 3, 3, 3, 3, 3, 3, 3, 3, 3, 3, 3, 3, 3,
+    3, 3, 3, 3, 3, 3, 3, 3, 3, 3, 3, 3, 3, 3, 3, 3, 3, 3, 3, 3, 3, 3, 3, 3, 3, 3, 3, 3, 3, 3, 3, 3,
+    3, 3, 3, 3, 3, 3, 3, 3, 3, 3, 3, 3, 3, 3, 3, 3, 3, 3, 3, 3, 3, 3, 3, 3, 3, 3, 3, 3, 3, 3, 3, 3,
+    3, 3, 3, 3, 3, 3, 3, 3, 3, 3, 3, 3, 3, 3, 3, 3, 3, 3, 3, 3, 3, 3, 3, 3, 3, 3, 3, 3, 3, 3, 3, 3,
     3, 6, 9, 12, 15, 18, 21, 24, 27, 30, 33, 36, 39, 42, 45, 48,
     51, 54, 57, 60, 63, 66, 69, 72, 75, 78, 81, 84, 87, 90, 93, 96,
     99, 102, 105, 108, 111, 114, 117, 120, 123, 126, 129, 132, 135, 138, 141, 144,
     147, 150, 153, 156, 159, 162, 165, 168, 171, 174, 177, 180, 183, 186, 3, 3,
     // How many they have in four channels.
-    4, 4, 4, 4, 4, 4, 4, 4, 4, 4, 4, 4, 4, 4, 4, 4,
-    4, 4, 4, 4, 4, 4, 4, 4, 4, 4, 4, 4, 4, 4, 4, 4,
-    4, 4, 4, 4, 4, 4, 4, 4, 4, 4, 4, 4, 4, 4, 4, 4,
-    4, 4, 4, 4, 4, 4, 4, 4, 4, 4, 4, 4, 4, 4, 4, 4,
-    4, 4, 4, 4, 4, 4, 4, 4, 4, 4, 4, 4, 4, 4, 4, 4,
-    4, 4, 4, 4, 4, 4, 4, 4, 4, 4, 4, 4, 4, 4, 4, 4,
-    4, 4, 4, 4, 4, 4, 4, 4, 4, 4, 4, 4, 4, 4, 4, 4,
-    4, 4, 4, 4, 4, 4, 4, 4, 4, 4, 4, 4, 4, 4, 4, 4,
-    4, 4, 4, 4, 4, 4, 4, 4, 4, 4, 4, 4, 4, 4, 4, 4,
-    4, 4, 4, 4, 4, 4, 4, 4, 4, 4, 4, 4, 4, 4, 4, 4,
-    4, 4, 4, 4, 4, 4, 4, 4, 4, 4, 4, 4, 4, 4, 4, 4,
-    4, 4, 4, 4, 4, 4, 4, 4, 4, 4, 4, 4, 4, 4, 4, 4,
+    4, 4, 4, 4, 4, 4, 4, 4, 4, 4, 4, 4, 4, 4, 4, 4, 4, 4, 4, 4, 4, 4, 4, 4, 4, 4, 4, 4, 4, 4, 4, 4,
+    4, 4, 4, 4, 4, 4, 4, 4, 4, 4, 4, 4, 4, 4, 4, 4, 4, 4, 4, 4, 4, 4, 4, 4, 4, 4, 4, 4, 4, 4, 4, 4,
+    4, 4, 4, 4, 4, 4, 4, 4, 4, 4, 4, 4, 4, 4, 4, 4, 4, 4, 4, 4, 4, 4, 4, 4, 4, 4, 4, 4, 4, 4, 4, 4,
+    4, 4, 4, 4, 4, 4, 4, 4, 4, 4, 4, 4, 4, 4, 4, 4, 4, 4, 4, 4, 4, 4, 4, 4, 4, 4, 4, 4, 4, 4, 4, 4,
+    4, 4, 4, 4, 4, 4, 4, 4, 4, 4, 4, 4, 4, 4, 4, 4, 4, 4, 4, 4, 4, 4, 4, 4, 4, 4, 4, 4, 4, 4, 4, 4,
+    4, 4, 4, 4, 4, 4, 4, 4, 4, 4, 4, 4, 4, 4, 4, 4, 4, 4, 4, 4, 4, 4, 4, 4, 4, 4, 4, 4, 4, 4, 4, 4,
     4, 8, 12, 16, 20, 24, 28, 32, 36, 40, 44, 48, 52, 56, 60, 64,
     68, 72, 76, 80, 84, 88, 92, 96, 100, 104, 108, 112, 116, 120, 124, 128,
     132, 136, 140, 144, 148, 152, 156, 160, 164, 168, 172, 176, 180, 184, 188, 192,
     196, 200, 204, 208, 212, 216, 220, 224, 228, 232, 236, 240, 244, 248, 4, 4,
-    // What an RGB chunk and an RGBA chunk keep of the last pixel: alpha, and nothing.
-    0x00ff_0000_0000_0000, 0,
-    // What counts of the four bytes after the first one, in lanes of 16 bits: three, and all.
-    0x0000_ffff_ffff_ffff, u64::MAX,
+    // What counts of the product with four lanes: the index position, of an RGB or RGBA chunk.
+    0, 0, 0, 0, 0, 0, 0, 0, 0, 0, 0, 0, 0, 0, 0, 0, 0, 0, 0, 0, 0, 0, 0, 0, 0, 0, 0, 0, 0, 0, 0, 0,
+    0, 0, 0, 0, 0, 0, 0, 0, 0, 0, 0, 0, 0, 0, 0, 0, 0, 0, 0, 0, 0, 0, 0, 0, 0, 0, 0, 0, 0, 0, 0, 0,
+    0, 0, 0, 0, 0, 0, 0, 0, 0, 0, 0, 0, 0, 0, 0, 0, 0, 0, 0, 0, 0, 0, 0, 0, 0, 0, 0, 0, 0, 0, 0, 0,
+    0, 0, 0, 0, 0, 0, 0, 0, 0, 0, 0, 0, 0, 0, 0, 0, 0, 0, 0, 0, 0, 0, 0, 0, 0, 0, 0, 0, 0, 0, 0, 0,
+    0, 0, 0, 0, 0, 0, 0, 0, 0, 0, 0, 0, 0, 0, 0, 0, 0, 0, 0, 0, 0, 0, 0, 0, 0, 0, 0, 0, 0, 0, 0, 0,
+    0, 0, 0, 0, 0, 0, 0, 0, 0, 0, 0, 0, 0, 0, 0, 0, 0, 0, 0, 0, 0, 0, 0, 0, 0, 0, 0, 0, 0, 0, 0, 0,
+    0, 0, 0, 0, 0, 0, 0, 0, 0, 0, 0, 0, 0, 0, 0, 0, 0, 0, 0, 0, 0, 0, 0, 0, 0, 0, 0, 0, 0, 0, 0, 0,
+    0, 0, 0, 0, 0, 0, 0, 0, 0, 0, 0, 0, 0, 0, 0, 0, 0, 0, 0, 0, 0, 0, 0, 0, 0, 0, 0, 0, 0, 0,
+    0xff00_0000_0000_0000, 0xff00_0000_0000_0000,
+    // Whether a chunk is plain, in three channels: 0 if it is a luma or a run that a vector doesn't
+    // hold.
+    1, 1, 1, 1, 1, 1, 1, 1, 1, 1, 1, 1, 1, 1, 1, 1, 1, 1, 1, 1, 1, 1, 1, 1, 1, 1, 1, 1, 1, 1, 1, 1,
+    1, 1, 1, 1, 1, 1, 1, 1, 1, 1, 1, 1, 1, 1, 1, 1, 1, 1, 1, 1, 1, 1, 1, 1, 1, 1, 1, 1, 1, 1, 1, 1,
+    1, 1, 1, 1, 1, 1, 1, 1, 1, 1, 1, 1, 1, 1, 1, 1, 1, 1, 1, 1, 1, 1, 1, 1, 1, 1, 1, 1, 1, 1, 1, 1,
+    1, 1, 1, 1, 1, 1, 1, 1, 1, 1, 1, 1, 1, 1, 1, 1, 1, 1, 1, 1, 1, 1, 1, 1, 1, 1, 1, 1, 1, 1, 1, 1,
+    0, 0, 0, 0, 0, 0, 0, 0, 0, 0, 0, 0, 0, 0, 0, 0, 0, 0, 0, 0, 0, 0, 0, 0, 0, 0, 0, 0, 0, 0, 0, 0,
+    0, 0, 0, 0, 0, 0, 0, 0, 0, 0, 0, 0, 0, 0, 0, 0, 0, 0, 0, 0, 0, 0, 0, 0, 0, 0, 0, 0, 0, 0, 0, 0,
+    1, 1, 1, 1, 1, 0, 0, 0, 0, 0, 0, 0, 0, 0, 0, 0, 0, 0, 0, 0, 0, 0, 0, 0, 0, 0, 0, 0, 0, 0, 0, 0,
+    0, 0, 0, 0, 0, 0, 0, 0, 0, 0, 0, 0, 0, 0, 0, 0, 0, 0, 0, 0, 0, 0, 0, 0, 0, 0, 0, 0, 0, 0, 1, 1,
+    // Whether it is in four channels.
+    1, 1, 1, 1, 1, 1, 1, 1, 1, 1, 1, 1, 1, 1, 1, 1, 1, 1, 1, 1, 1, 1, 1, 1, 1, 1, 1, 1, 1, 1, 1, 1,
+    1, 1, 1, 1, 1, 1, 1, 1, 1, 1, 1, 1, 1, 1, 1, 1, 1, 1, 1, 1, 1, 1, 1, 1, 1, 1, 1, 1, 1, 1, 1, 1,
+    1, 1, 1, 1, 1, 1, 1, 1, 1, 1, 1, 1, 1, 1, 1, 1, 1, 1, 1, 1, 1, 1, 1, 1, 1, 1, 1, 1, 1, 1, 1, 1,
+    1, 1, 1, 1, 1, 1, 1, 1, 1, 1, 1, 1, 1, 1, 1, 1, 1, 1, 1, 1, 1, 1, 1, 1, 1, 1, 1, 1, 1, 1, 1, 1,
+    0, 0, 0, 0, 0, 0, 0, 0, 0, 0, 0, 0, 0, 0, 0, 0, 0, 0, 0, 0, 0, 0, 0, 0, 0, 0, 0, 0, 0, 0, 0, 0,
+    0, 0, 0, 0, 0, 0, 0, 0, 0, 0, 0, 0, 0, 0, 0, 0, 0, 0, 0, 0, 0, 0, 0, 0, 0, 0, 0, 0, 0, 0, 0, 0,
+    1, 1, 1, 1, 0, 0, 0, 0, 0, 0, 0, 0, 0, 0, 0, 0, 0, 0, 0, 0, 0, 0, 0, 0, 0, 0, 0, 0, 0, 0, 0, 0,
+    0, 0, 0, 0, 0, 0, 0, 0, 0, 0, 0, 0, 0, 0, 0, 0, 0, 0, 0, 0, 0, 0, 0, 0, 0, 0, 0, 0, 0, 0, 1, 1,
 ];
 
 /// Whether a chunk with this first byte is a luma.
@@ -261,27 +242,6 @@ pub(super) fn added(b1: usize) -> u64
     ADDED[b1]
 }
 
-/// What a first byte keeps of the last pixel.
-#[inline(always)]
-pub(super) fn kept_mask(b1: usize) -> u64
-    requires { b1 < 256 }
-    ensures place { b1 < diff_tag → result ≡ 0 }
-    ensures other { diff_tag ≤ b1 → result ≡ lane_mask }
-{
-    BYTE_TABLES[256 + b1]
-}
-
-/// What counts of the number that the byte after it adds.
-#[inline(always)]
-pub(super) fn second_mask(b1: usize) -> u64
-    requires { b1 < 256 }
-    ensures luma { luma_tag ≤ b1 → b1 < run_tag → result ≡ 2 ^ 64 - 1 }
-    ensures before { b1 < luma_tag → result ≡ 0 }
-    ensures after { run_tag ≤ b1 → result ≡ 0 }
-{
-    BYTE_TABLES[512 + b1]
-}
-
 /// What the second byte of a luma adds (QOI specification 1.0, "QOI_OP_LUMA").
 #[inline(always)]
 pub(super) fn second_added(b2: usize) -> u64
@@ -291,24 +251,40 @@ pub(super) fn second_added(b2: usize) -> u64
     BYTE_TABLES[b2]
 }
 
-/// What an RGB or RGBA chunk keeps of the last pixel.
+/// What a first byte keeps of the last pixel's number.
 #[inline(always)]
-pub(super) fn full_kept_mask(b1: usize) -> u64
-    requires { (rgb_tag ≤ b1) × (b1 < 256) }
+pub(super) fn kept_by(b1: usize) -> u64
+    requires { b1 < 256 }
+    ensures place { b1 < diff_tag → result ≡ 0 }
+    ensures other { diff_tag ≤ b1 → b1 < rgb_tag → result ≡ lane_mask }
     ensures rgb { b1 ≡ rgb_tag → result ≡ alpha_mask }
     ensures rgba { b1 ≡ rgba_tag → result ≡ 0 }
 {
-    BYTE_TABLES[1026 + b1]
+    BYTE_TABLES[256 + b1]
 }
 
-/// What counts of the four bytes after the first byte of such a chunk, in lanes of 16 bits.
+/// What counts of what is read after the first byte: of a luma the number that the second byte
+/// adds, of an RGB or RGBA chunk four bytes in lanes of 16 bits.
 #[inline(always)]
-pub(super) fn read_mask(b1: usize) -> u64
-    requires { (rgb_tag ≤ b1) × (b1 < 256) }
+pub(super) fn read_by(b1: usize) -> u64
+    requires { b1 < 256 }
+    ensures luma { luma_tag ≤ b1 → b1 < run_tag → result ≡ 2 ^ 64 - 1 }
+    ensures before { b1 < luma_tag → result ≡ 0 }
+    ensures run { run_tag ≤ b1 → b1 < rgb_tag → result ≡ 0 }
     ensures rgb { b1 ≡ rgb_tag → result ≡ 2 ^ 48 - 1 }
     ensures rgba { b1 ≡ rgba_tag → result ≡ 2 ^ 64 - 1 }
 {
-    BYTE_TABLES[1028 + b1]
+    BYTE_TABLES[512 + b1]
+}
+
+/// What counts of the product that has the index position of a chunk's lanes.
+#[inline(always)]
+pub(super) fn placed_by(b1: usize) -> u64
+    requires { b1 < 256 }
+    ensures none { b1 < rgb_tag → result ≡ 0 }
+    ensures full { rgb_tag ≤ b1 → result ≡ top_mask }
+{
+    BYTE_TABLES[1280 + b1]
 }
 
 /// How many bytes the pixels of a chunk have in `N` channels.
@@ -316,13 +292,25 @@ pub(super) fn read_mask(b1: usize) -> u64
 pub(super) fn advance<const N: usize>(b1: usize) -> usize
     requires channels { IsChannels N }
     requires byte { b1 < 256 }
-    ensures once { b1 < run_tag → result ≡ N }
-    ensures run { run_tag ≤ b1 → b1 < rgb_tag → result ≡ N * (b1 - (run_tag - 1)) }
-    ensures full { rgb_tag ≤ b1 → result ≡ N }
+    ensures { IsAdvance N b1 result }
 {
     if N == 3 {
         BYTE_TABLES[768 + b1] as usize
     } else {
         BYTE_TABLES[1024 + b1] as usize
+    }
+}
+
+/// Whether a chunk with this first byte is plain: no luma, and no run that a vector of sixteen bytes
+/// doesn't hold.
+#[inline(always)]
+pub(super) fn is_plain<const N: usize>(b1: u8) -> bool
+    requires { IsChannels N }
+    ensures { IsTrue result ↔ IsPlainTag N b1 }
+{
+    if N == 3 {
+        BYTE_TABLES[1536 + b1 as usize] != 0
+    } else {
+        BYTE_TABLES[1792 + b1 as usize] != 0
     }
 }

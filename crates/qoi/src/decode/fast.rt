@@ -1,11 +1,10 @@
 //! The loops over chunks in memory while input and output have room ahead: for eight short ones and
 //! a full one, which is tested once for all nine or, near the end of an output that goes on
 //! elsewhere, for one of each. `fast_chunks` and `chunks_ahead` of `blocks` enter them.
-ghost use Rattle.std.specs.Prelude.{◌≡◌, ◌↔◌, IsTrue, ◌+◌, ◌-◌, ◌*◌, ◌/◌, ◌<◌, ◌≤◌, ◌^◌, length, replicate};
+ghost use Rattle.std.specs.Prelude.{◌≡◌, ◌⊎◌, ◌↔◌, IsTrue, ◌+◌, ◌-◌, ◌*◌, ◌/◌, ◌<◌, ◌≤◌, ◌^◌, length};
 ghost use Rattle.qoi.specs.Qoi.{run_tag, rgb_tag};
 ghost use Rattle.qoi.specs.Raw.{IsChannels};
 ghost use Rattle.qoi.specs.declared.decode.fast.TheConstants.{INPUT_ROOM};
-ghost use Rattle.qoi.specs.inner.Hashed.{pixel_of_lanes};
 
 use crate::consts::{QOI_OP_RGB, QOI_OP_RGBA, QOI_OP_RUN};
 use crate::decode::deltas::{advance, is_luma};
@@ -25,10 +24,10 @@ pub(super) const OUTPUT_ROOM: usize = 144;
 /// fast loop for them would take longer than to decode them with every test.
 pub(super) const FEW: usize = 528;
 
-/// What the loop has between two chunks: the last pixel, how many bytes are taken, where the output
-/// stopped, and the byte that comes next.
+/// What the loop has between two chunks, in `N` channels of output, of a file of `F` channels: the
+/// last pixel, how many bytes are taken, where the output stopped, and the byte that comes next.
 #[derive(Clone, Copy)]
-pub(super) struct Progress {
+pub(super) struct Progress<const N: usize, const F: usize> {
     pub(super) last: Hashed,
     pub(super) taken: usize,
     pub(super) at: usize,
@@ -57,34 +56,30 @@ fn leaves_room<const N: usize>(b1: u8, room: usize) -> bool
     RUN_ROOM <= room || advance::<N>(b1 as usize) < room
 }
 
-impl Progress {
-    ghost use Rattle.qoi.specs.inner.Filling.{upto, taken_further, HasWritten, IsRow, HasAhead, fast, FastStep, FastChunks};
+impl<const N: usize, const F: usize> Progress<N, F> {
+    ghost use Rattle.qoi.specs.inner.Filling.{taken_further, HasAhead, FastStep, FastChunks};
 
     // `count` bytes more are taken.
     #[inline(always)]
-    fn taken_further(self, count: usize) -> Progress
+    fn taken_further(self, count: usize) -> Self
         requires { self.taken + count < 2 ^ 64 }
-        ensures { result ≡ taken_further count self }
+        ensures { result ≡ taken_further count self.entry }
     {
         Progress {
-            last: self.last,
             taken: self.taken + count,
-            at: self.at,
-            next: self.next,
+            ..self
         }
     }
 
     /// A copy, field by field. A copy of the whole would take along the bytes after the last
     /// field, for which a loop would need registers.
     #[inline(always)]
-    pub(super) fn by_fields(self) -> Progress
-        ensures { result ≡ self }
+    pub(super) fn by_fields(self) -> Self
+        ensures { result ≡ self.entry }
     {
         Progress {
             last: self.last,
-            taken: self.taken,
-            at: self.at,
-            next: self.next,
+            ..self
         }
     }
 
@@ -95,23 +90,21 @@ impl Progress {
     // own: a row adds them at its end. So from chunk to chunk only the second byte of a luma is
     // added, and the next byte's address is known a cycle sooner.
     #[inline(always)]
-    fn short_chunk<const N: usize, const F: usize, const DONE: usize>(
+    fn short_chunk<const DONE: usize>(
         self,
         table: &mut TermTable,
         bytes: &[u8],
         out: &mut [u8],
-    ) -> Progress
+    ) -> Self
         requires done { DONE < 4 }
-        requires ahead { HasAhead N 3 16 bytes.now out.old (taken_further DONE self) }
+        requires ahead { HasAhead 3 16 bytes.now out.old (taken_further DONE self) }
         requires short { self.next ≤ run_tag - 1 + 16 / N }
-        ensures { FastStep F N 2 16 bytes.now (fast (taken_further DONE self) table.old out.old)
-            (fast (taken_further (DONE + 1) result) table.new out.new) }
+        ensures { FastStep 1 2 16 bytes.now (taken_further DONE self.entry) table.old out.old
+            (taken_further (DONE + 1) result) table.new out.new }
     {
         let b1 = self.next as usize;
-        let (one, two) = (
-            bytes[self.taken + (DONE + 1)],
-            bytes[self.taken + (DONE + 2)],
-        );
+        let done = self.taken + DONE;
+        let (one, two) = (bytes[done + 1], bytes[done + 2]);
         let last = self.last.after_short(table, b1, one);
         table.put(last);
         store_vector::<N, F>(out, self.at, last);
@@ -124,95 +117,70 @@ impl Progress {
         }
     }
 
-    // Decodes a short chunk, if one comes next.
+    // Decodes short chunks, as many as come one after the other, but `MOST` at most: one or four.
     #[inline(always)]
-    fn short_or_none<const N: usize, const F: usize>(
+    fn short_chunks<const MOST: usize>(
         self,
         table: &mut TermTable,
         bytes: &[u8],
         out: &mut [u8],
-    ) -> Progress
-        requires { HasAhead N 3 16 bytes.now out.old self }
-        ensures { FastStep F N 2 16 bytes.now
-            (fast self table.old out.old) (fast result table.new out.new) }
+    ) -> Self
+        requires most { (MOST ≡ 1) ⊎ (MOST ≡ 4) }
+        requires ahead { HasAhead 9 (16 * MOST) bytes.now out.old self }
+        ensures step { FastStep 0 8 (16 * MOST) bytes.now
+            self.entry table.old out.old result table.new out.new }
+        ensures some { result.next ≤ run_tag - 1 + 16 / N → self.entry.taken < result.taken }
     {
         if !is_short::<N>(self.next) {
             return self;
         }
-        self.short_chunk::<N, F, 0>(table, bytes, out)
-            .taken_further(1)
-    }
-
-    // Decodes short chunks, as many as come one after the other, but four at most.
-    #[inline(always)]
-    fn short_chunks<const N: usize, const F: usize>(
-        self,
-        table: &mut TermTable,
-        bytes: &[u8],
-        out: &mut [u8],
-    ) -> Progress
-        requires { HasAhead N 9 64 bytes.now out.old self }
-        ensures { FastStep F N 8 64 bytes.now
-            (fast self table.old out.old) (fast result table.new out.new) }
-    {
-        if !is_short::<N>(self.next) {
-            return self;
-        }
-        let one = self.short_chunk::<N, F, 0>(table, bytes, out);
-        if !is_short::<N>(one.next) {
+        let one = self.short_chunk::<0>(table, bytes, out);
+        if MOST == 1 || !is_short::<N>(one.next) {
             return one.taken_further(1);
         }
-        let two = one.short_chunk::<N, F, 1>(table, bytes, out);
+        let two = one.short_chunk::<1>(table, bytes, out);
         if !is_short::<N>(two.next) {
             return two.taken_further(2);
         }
-        let three = two.short_chunk::<N, F, 2>(table, bytes, out);
+        let three = two.short_chunk::<2>(table, bytes, out);
         if !is_short::<N>(three.next) {
             return three.taken_further(3);
         }
-        three
-            .short_chunk::<N, F, 3>(table, bytes, out)
-            .taken_further(4)
+        three.short_chunk::<3>(table, bytes, out).taken_further(4)
     }
 
     // Decodes short chunks that follow each other, `ROW` at most: one or eight.
     #[inline(always)]
-    fn short_row<const N: usize, const F: usize, const ROW: usize>(
+    fn short_row<const ROW: usize>(
         self,
         table: &mut TermTable,
         bytes: &[u8],
         out: &mut [u8],
-    ) -> Progress
-        requires row { IsRow ROW }
-        requires ahead { HasAhead N 17 (16 * ROW) bytes.now out.old self }
-        ensures { FastStep F N 16 (16 * ROW) bytes.now
-            (fast self table.old out.old) (fast result table.new out.new) }
+    ) -> Self
+        requires row { (ROW ≡ 1) ⊎ (ROW ≡ 8) }
+        requires ahead { HasAhead 17 (16 * ROW) bytes.now out.old self }
+        ensures step { FastStep 0 16 (16 * ROW) bytes.now
+            self.entry table.old out.old result table.new out.new }
+        ensures some { result.next ≤ run_tag - 1 + 16 / N → self.entry.taken < result.taken }
     {
         if ROW == 1 {
-            return self.short_or_none::<N, F>(table, bytes, out);
+            return self.short_chunks::<1>(table, bytes, out);
         }
-        let four = self.short_chunks::<N, F>(table, bytes, out);
+        let four = self.short_chunks::<4>(table, bytes, out);
         if !is_short::<N>(four.next) {
             return four;
         }
-        four.short_chunks::<N, F>(table, bytes, out)
+        four.short_chunks::<4>(table, bytes, out)
     }
 
     // Decodes an RGB or RGBA chunk, without a jump between the two. The byte that comes next is one of
     // two, which are loaded before it is known which. Not side by side: the compiler would load one
     // byte, whose address waits.
     #[inline(always)]
-    fn full_chunk<const N: usize, const F: usize>(
-        self,
-        table: &mut TermTable,
-        bytes: &[u8],
-        out: &mut [u8],
-    ) -> Progress
-        requires ahead { HasAhead N 6 16 bytes.now out.old self }
+    fn full_chunk(self, table: &mut TermTable, bytes: &[u8], out: &mut [u8]) -> Self
+        requires ahead { HasAhead 6 16 bytes.now out.old self }
         requires full { rgb_tag ≤ self.next }
-        ensures step { FastStep F N 5 4 bytes.now
-            (fast self table.old out.old) (fast result table.new out.new) }
-        ensures on { self.taken < result.taken }
+        ensures { FastStep 4 5 4 bytes.now self.entry table.old out.old result table.new out.new }
     {
         let four = bytes[self.taken + 4];
         let last = self
@@ -233,22 +201,12 @@ impl Progress {
     // Decodes a run that a vector doesn't hold, and that doesn't fill the output: by the vectors of
     // any run, if those have room.
     #[inline(always)]
-    fn long_run<const N: usize, const F: usize>(
-        self,
-        table: &mut TermTable,
-        bytes: &[u8],
-        out: &mut [u8],
-    ) -> Progress
-        requires ahead { HasAhead N 2 (N * (self.next - (run_tag - 1)) + 1) bytes.now out.old self }
+    fn long_run(self, table: &mut TermTable, bytes: &[u8], out: &mut [u8]) -> Self
+        requires ahead { HasAhead 2 (N * (self.next - (run_tag - 1)) + 1) bytes.now out.old self }
         requires run { (run_tag ≤ self.next) × (self.next < rgb_tag) }
-        ensures step { FastStep F N 1 (N * (self.next - (run_tag - 1))) bytes.now
-            (fast self table.old out.old) (fast result table.new out.new) }
-        ensures on { self.taken < result.taken }
+        ensures step { FastStep 1 1 (N * (self.entry.next - (run_tag - 1))) bytes.now
+            self.entry table.old out.old result table.new out.new }
         ensures below { result.at < length out.new }
-        ensures written { HasWritten F N (upto out.old self.at) (upto out.new result.at)
-            (replicate (self.next - (run_tag - 1)) (pixel_of_lanes self.last)) }
-        ensures kept { (result.last ≡ self.last) × (result.taken ≡ self.taken + 1)
-            × (result.at ≡ self.at + N * (self.next - (run_tag - 1))) }
     {
         let count = (self.next - (QOI_OP_RUN - 1)) as usize;
         table.put(self.last);
@@ -268,31 +226,30 @@ impl Progress {
     /// Decodes chunks while input and output have room ahead for `ROW` short ones and a full one, up to
     /// a run that has none.
     #[inline(always)]
-    pub(super) fn chunks_until<const N: usize, const F: usize, const ROW: usize>(
+    pub(super) fn chunks_until<const ROW: usize>(
         self,
         table: &mut TermTable,
         bytes: &[u8],
         out: &mut [u8],
-    ) -> Progress
-        requires row { IsRow ROW }
+    ) -> Self
+        requires row { (ROW ≡ 1) ⊎ (ROW ≡ 8) }
         requires input { INPUT_ROOM ≤ length bytes.now }
         requires room { 16 * ROW + 16 ≤ length out.old }
-        requires ahead { HasAhead N 1 0 bytes.now out.old self }
-        ensures { FastChunks F N bytes.now
-            (fast self table.old out.old) (fast result table.new out.new) }
+        requires ahead { HasAhead 1 0 bytes.now out.old self }
+        ensures { FastChunks bytes.now self.entry table.old out.old result table.new out.new }
     {
         let mut now = self.by_fields();
         let near = bytes.len() - INPUT_ROOM;
         let top = out.len() - (VECTOR * ROW + VECTOR);
         while now.taken <= near && now.at <= top {
-            now = now.short_row::<N, F, ROW>(table, bytes, out);
+            now = now.short_row::<ROW>(table, bytes, out);
             if is_short::<N>(now.next) {
                 continue;
             }
             if now.next >= QOI_OP_RGB {
-                now = now.full_chunk::<N, F>(table, bytes, out);
+                now = now.full_chunk(table, bytes, out);
             } else if leaves_room::<N>(now.next, out.len() - now.at) {
-                now = now.long_run::<N, F>(table, bytes, out);
+                now = now.long_run(table, bytes, out);
             } else {
                 return now.by_fields();
             }

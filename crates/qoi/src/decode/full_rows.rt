@@ -1,5 +1,5 @@
 //! Rows of RGB or of RGBA chunks, as noise has them, by a loop of their own.
-ghost use Rattle.std.specs.Prelude.{◌≡◌, ◌<◌, ◌≤◌, length};
+ghost use Rattle.std.specs.Prelude.{◌≡◌, ◌≤◌, length};
 ghost use Rattle.qoi.specs.declared.decode.fast.TheConstants.{INPUT_ROOM, OUTPUT_ROOM};
 
 use crate::consts::{QOI_OP_RGB, QOI_OP_RGBA};
@@ -8,31 +8,25 @@ use crate::decode::hashed::Hashed;
 use crate::decode::output::store_vector;
 use crate::decode::table::TermTable;
 
-// A row of chunks with one first byte: how far it came, and the pixel before it, whose alpha RGB chunks
-// keep. So no chunk waits for another.
+// A row of chunks with the first byte `TAG`: how far it came, and the pixel before it, whose alpha
+// RGB chunks keep. So no chunk waits for another.
 #[derive(Clone, Copy)]
-struct Row {
-    to: Progress,
+struct Row<const N: usize, const F: usize, const TAG: u8> {
+    to: Progress<N, F>,
     before: Hashed,
 }
 
-impl Row {
-    ghost use Rattle.qoi.specs.inner.Filling.{HasAhead, fast, FastStep, IsFullTag, KeepsAlpha};
+impl<const N: usize, const F: usize, const TAG: u8> Row<N, F, TAG> {
+    ghost use Rattle.qoi.specs.inner.Filling.{HasAhead, FastStep, IsFullTag, KeepsAlpha};
 
     // Decodes the chunk that comes next, whose first byte is `TAG`.
     #[inline(always)]
-    fn chunk_of<const N: usize, const F: usize, const TAG: u8>(
-        self,
-        table: &mut TermTable,
-        bytes: &[u8],
-        out: &mut [u8],
-    ) -> Row
-        requires ahead { HasAhead N 6 16 bytes.now out.old self.to }
+    fn chunk_of(self, table: &mut TermTable, bytes: &[u8], out: &mut [u8]) -> Self
+        requires ahead { HasAhead 6 16 bytes.now out.old self.to }
         requires tag { IsFullTag TAG × (self.to.next ≡ TAG) }
         requires alpha { KeepsAlpha TAG self.before self.to.last }
-        ensures step { FastStep F N 5 4 bytes.now
-            (fast self.to table.old out.old) (fast result.to table.new out.new) }
-        ensures on { self.to.taken < result.to.taken }
+        ensures step { FastStep 4 5 4 bytes.now
+            self.entry.to table.old out.old result.to table.new out.new }
         ensures alpha { KeepsAlpha TAG result.before result.to.last }
     {
         let Row { to, before } = self;
@@ -51,62 +45,50 @@ impl Row {
 
     // Decodes such chunks, as many as come one after the other, but four at most.
     #[inline(always)]
-    fn chunks_of<const N: usize, const F: usize, const TAG: u8>(
-        self,
-        table: &mut TermTable,
-        bytes: &[u8],
-        out: &mut [u8],
-    ) -> Row
-        requires ahead { HasAhead N 21 28 bytes.now out.old self.to }
+    fn chunks_of(self, table: &mut TermTable, bytes: &[u8], out: &mut [u8]) -> Self
+        requires ahead { HasAhead 21 28 bytes.now out.old self.to }
         requires tag { IsFullTag TAG × (self.to.next ≡ TAG) }
         requires alpha { KeepsAlpha TAG self.before self.to.last }
-        ensures step { FastStep F N 20 16 bytes.now
-            (fast self.to table.old out.old) (fast result.to table.new out.new) }
-        ensures on { self.to.taken < result.to.taken }
+        ensures step { FastStep 4 20 16 bytes.now
+            self.entry.to table.old out.old result.to table.new out.new }
         ensures alpha { KeepsAlpha TAG result.before result.to.last }
     {
-        let one = self.chunk_of::<N, F, TAG>(table, bytes, out);
+        let one = self.chunk_of(table, bytes, out);
         if one.to.next != TAG {
             return one;
         }
-        let two = one.chunk_of::<N, F, TAG>(table, bytes, out);
+        let two = one.chunk_of(table, bytes, out);
         if two.to.next != TAG {
             return two;
         }
-        let three = two.chunk_of::<N, F, TAG>(table, bytes, out);
+        let three = two.chunk_of(table, bytes, out);
         if three.to.next != TAG {
             return three;
         }
-        three.chunk_of::<N, F, TAG>(table, bytes, out)
+        three.chunk_of(table, bytes, out)
     }
 }
 
-impl Progress {
-    ghost use Rattle.qoi.specs.inner.Filling.{HasAhead, fast, FastChunks, IsFullTag};
+impl<const N: usize, const F: usize> Progress<N, F> {
+    ghost use Rattle.qoi.specs.inner.Filling.{HasAhead, FastChunks, IsFullTag};
 
     // Decodes chunks with the first byte `TAG`, as many as come one after the other, while there is
     // room ahead.
     #[inline(never)]
-    fn row_of<const N: usize, const F: usize, const TAG: u8>(
-        self,
-        table: &mut TermTable,
-        bytes: &[u8],
-        out: &mut [u8],
-    ) -> Progress
+    fn row_of<const TAG: u8>(self, table: &mut TermTable, bytes: &[u8], out: &mut [u8]) -> Self
         requires tag { IsFullTag TAG }
         requires input { INPUT_ROOM ≤ length bytes.now }
         requires room { OUTPUT_ROOM ≤ length out.old }
-        requires ahead { HasAhead N 1 0 bytes.now out.old self }
-        ensures { FastChunks F N bytes.now
-            (fast self table.old out.old) (fast result table.new out.new) }
+        requires ahead { HasAhead 1 0 bytes.now out.old self }
+        ensures { FastChunks bytes.now self.entry table.old out.old result table.new out.new }
     {
         let before = self.last;
         let to = self.by_fields();
-        let mut row = Row { to, before };
+        let mut row = Row::<N, F, TAG> { to, before };
         let far = bytes.len() - INPUT_ROOM;
         let top = out.len() - OUTPUT_ROOM;
         while row.to.next == TAG && row.to.taken <= far && row.to.at <= top {
-            row = row.chunks_of::<N, F, TAG>(table, bytes, out);
+            row = row.chunks_of(table, bytes, out);
         }
         let Row { to, .. } = row;
         to.by_fields()
@@ -114,27 +96,21 @@ impl Progress {
 
     /// Decodes a row of RGB or of RGBA chunks, if one comes next.
     #[inline(always)]
-    pub(super) fn full_row<const N: usize, const F: usize>(
-        self,
-        table: &mut TermTable,
-        bytes: &[u8],
-        out: &mut [u8],
-    ) -> Progress
+    pub(super) fn full_row(self, table: &mut TermTable, bytes: &[u8], out: &mut [u8]) -> Self
         requires input { INPUT_ROOM ≤ length bytes.now }
         requires room { OUTPUT_ROOM ≤ length out.old }
-        requires ahead { HasAhead N 11 0 bytes.now out.old self }
-        ensures { FastChunks F N bytes.now
-            (fast self table.old out.old) (fast result table.new out.new) }
+        requires ahead { HasAhead 11 0 bytes.now out.old self }
+        ensures { FastChunks bytes.now self.entry table.old out.old result table.new out.new }
     {
         let at = self.taken;
         if self.next == QOI_OP_RGB && bytes[at + 4] == QOI_OP_RGB && bytes[at + 8] == QOI_OP_RGB {
-            return self.row_of::<N, F, 0xfe>(table, bytes, out);
+            return self.row_of::<0xfe>(table, bytes, out);
         }
         if self.next == QOI_OP_RGBA
             && bytes[at + 5] == QOI_OP_RGBA
             && bytes[at + 10] == QOI_OP_RGBA
         {
-            return self.row_of::<N, F, 0xff>(table, bytes, out);
+            return self.row_of::<0xff>(table, bytes, out);
         }
         self
     }

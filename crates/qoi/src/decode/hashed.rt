@@ -1,11 +1,10 @@
 //! Pixels as single numbers that hold their index positions too.
-ghost use Rattle.std.specs.Prelude.{◌≡◌, ℕ, ◌+◌, ◌*◌, ◌/◌, ◌%◌, ◌^◌, ◌<◌, ◌≤◌, length, take, slice_index, replicate};
-ghost use Rattle.qoi.specs.Qoi.{Past, seen, pixel, start, hash, positions, diff_tag, luma_tag, run_tag, rgb_tag, rgba_tag, after_diff, after_luma};
+ghost use Rattle.std.specs.Prelude.{◌≡◌, ◌⊎◌, ℕ, ◌<◌, ◌≤◌, length, take, slice_index, replicate};
+ghost use Rattle.qoi.specs.Qoi.{pixel, start, hash, positions, luma_tag, run_tag, rgb_tag};
 ghost use Rattle.qoi.specs.Raw.{IsChannels, output};
-ghost use Rattle.qoi.specs.inner.Hashed.{pixel_of_lanes, IsPlain, IsHashed, HoldsSeen};
+ghost use Rattle.qoi.specs.inner.Hashed.{pixel_of_lanes, IsPlain, IsHashed, IsAfterShort, IsAfterFull};
 
-use crate::decode::deltas::{full_kept_mask, kept_mask, read_mask, second_added, second_mask};
-use crate::decode::plain_tables::{kept_by, placed_by, read_by};
+use crate::decode::deltas::{kept_by, placed_by, read_by, second_added};
 use crate::decode::table::SizedTerms;
 use std::marker::Model;
 use std::simd::{Simd, u8x4, u8x16, u16x4, u64x2};
@@ -96,17 +95,11 @@ impl Hashed {
         b1: usize,
         b2: u8,
     ) -> Hashed
-        requires { b1 < 256 }
-        ensures place { b1 < diff_tag → (past : Past) → HoldsSeen table.now past
-            → pixel_of_lanes result ≡ seen past b1 }
-        ensures diff { diff_tag ≤ b1 → b1 < luma_tag
-            → pixel_of_lanes result ≡ after_diff (pixel_of_lanes self) b1 }
-        ensures luma { luma_tag ≤ b1 → b1 < run_tag
-            → pixel_of_lanes result ≡ after_luma (pixel_of_lanes self) b1 b2 }
-        ensures run { run_tag ≤ b1 → pixel_of_lanes result ≡ pixel_of_lanes self }
+        requires { b1 < rgb_tag }
+        ensures { IsAfterShort b1 b2 table.now (pixel_of_lanes self) (pixel_of_lanes result) }
     {
-        let own = self.0 & kept_mask(b1);
-        let more = second_added(b2 as usize) & second_mask(b1);
+        let own = self.0 & kept_by(b1);
+        let more = second_added(b2 as usize) & read_by(b1);
         Hashed(own.wrapping_add(more).wrapping_add(table.at(b1)))
     }
 
@@ -116,15 +109,10 @@ impl Hashed {
     #[inline(always)]
     pub(super) fn after_full(self, b1: usize, bytes: &[u8]) -> Hashed
         requires { (rgb_tag ≤ b1) × (b1 < 256) × (5 ≤ length bytes.now) }
-        ensures rgb { b1 ≡ rgb_tag
-            → pixel_of_lanes result ≡ pixel (slice_index bytes.now 1) (slice_index bytes.now 2)
-            (slice_index bytes.now 3) (pixel_of_lanes self).a }
-        ensures rgba { b1 ≡ rgba_tag
-            → pixel_of_lanes result ≡ pixel (slice_index bytes.now 1) (slice_index bytes.now 2)
-            (slice_index bytes.now 3) (slice_index bytes.now 4) }
+        ensures { IsAfterFull b1 bytes.now (pixel_of_lanes self) (pixel_of_lanes result) }
     {
-        let own = (self.0 & full_kept_mask(b1)).wrapping_mul(ALPHA_FACTOR);
-        let read = Hashed::of_lanes(four_lanes(&bytes[1..5]) & read_mask(b1));
+        let own = (self.0 & kept_by(b1)).wrapping_mul(ALPHA_FACTOR);
+        let read = Hashed::of_lanes(four_lanes(&bytes[1..5]) & read_by(b1));
         Hashed(own.wrapping_add(read.0))
     }
 
@@ -137,18 +125,11 @@ impl Hashed {
         b1: usize,
         bytes: &[u8],
     ) -> Hashed
-        requires { (b1 < 256) × (5 ≤ length bytes.now) }
-        ensures place { b1 < diff_tag → (past : Past) → HoldsSeen table.now past
-            → pixel_of_lanes result ≡ seen past b1 }
-        ensures diff { diff_tag ≤ b1 → b1 < luma_tag
-            → pixel_of_lanes result ≡ after_diff (pixel_of_lanes self) b1 }
-        ensures run { run_tag ≤ b1 → b1 < rgb_tag → pixel_of_lanes result ≡ pixel_of_lanes self }
-        ensures rgb { b1 ≡ rgb_tag
-            → pixel_of_lanes result ≡ pixel (slice_index bytes.now 1) (slice_index bytes.now 2)
-            (slice_index bytes.now 3) (pixel_of_lanes self).a }
-        ensures rgba { b1 ≡ rgba_tag
-            → pixel_of_lanes result ≡ pixel (slice_index bytes.now 1) (slice_index bytes.now 2)
-            (slice_index bytes.now 3) (slice_index bytes.now 4) }
+        requires long { (b1 < 256) × (5 ≤ length bytes.now) }
+        requires other { (b1 < luma_tag) ⊎ (run_tag ≤ b1) }
+        ensures short { (e : ℕ) → b1 < rgb_tag
+            → IsAfterShort b1 e table.now (pixel_of_lanes self) (pixel_of_lanes result) }
+        ensures full { IsAfterFull b1 bytes.now (pixel_of_lanes self) (pixel_of_lanes result) }
     {
         let read = four_lanes(&bytes[1..5]) & read_by(b1);
         let lanes = (self.0 & kept_by(b1)).wrapping_add(read);

@@ -106,12 +106,12 @@ pub(super) fn chunks_in_place<const N: usize, const F: usize>(
     if bytes.len() < INPUT_ROOM || out.len() < OUTPUT_ROOM {
         return InPlace::after(none);
     }
-    let front = Progress::chunks_ahead::<N, F, 8>(table, none, bytes, out);
+    let front = Progress::<N, F>::chunks_ahead::<8>(table, none, bytes, out);
     if is_run_to_end::<N>(bytes[front.taken], out.len() - front.reached.at) {
         // Not joined with the other way: what the loops return would be copied, and the copy
         // waits for the stores before it.
         return last_run::<N, F>(table, front, bytes, out);
     }
-    let near = Progress::chunks_ahead::<N, F, 1>(table, front, bytes, out);
+    let near = Progress::<N, F>::chunks_ahead::<1>(table, front, bytes, out);
     last_run::<N, F>(table, near, bytes, out)
 }

@@ -3,7 +3,7 @@ ghost use Rattle.std.specs.Prelude.{◌≡◌, IsTrue, ◌+◌, ◌*◌, ◌/◌
 ghost use Rattle.qoi.specs.Qoi.{Past, run_max};
 ghost use Rattle.qoi.specs.declared.decode.output.TheConstants.{VECTOR, RUN_ROOM};
 ghost use Rattle.qoi.specs.Raw.{IsChannels};
-ghost use Rattle.qoi.specs.inner.Filling.{upto, HasWritten, HasFilled, HasRoom};
+ghost use Rattle.qoi.specs.inner.Filling.{upto, HasWritten, HasCopies, HasFilled, HasRoom};
 ghost use Rattle.qoi.specs.inner.Hashed.{pixel_of_lanes};
 
 use crate::decode::hashed::Hashed;
@@ -39,8 +39,7 @@ fn store_pixel<const N: usize, const F: usize>(out: &mut [u8], at: usize, px: Ha
 pub(super) fn store_vector<const N: usize, const F: usize>(out: &mut [u8], at: usize, px: Hashed)
     requires channels { IsChannels N }
     requires room { at + VECTOR ≤ length out.old }
-    ensures { (count : ℕ) → count ≤ VECTOR / N → HasWritten F N (upto out.old at)
-        (upto out.new (at + N * count)) (replicate count (pixel_of_lanes px)) }
+    ensures { (count : ℕ) → count ≤ VECTOR / N → HasCopies F N at count px out.old out.new }
 {
     px.repeated::<N, F>()
         .copy_to_slice(&mut out[at..at + VECTOR]);
@@ -51,8 +50,7 @@ pub(super) fn store_vector<const N: usize, const F: usize>(out: &mut [u8], at: u
 fn store_two_vectors<const N: usize, const F: usize>(out: &mut [u8], at: usize, px: Hashed)
     requires channels { IsChannels N }
     requires room { at + N * (2 * (VECTOR / N)) + VECTOR % N ≤ length out.old }
-    ensures { (count : ℕ) → count ≤ 2 * (VECTOR / N) → HasWritten F N (upto out.old at)
-        (upto out.new (at + N * count)) (replicate count (pixel_of_lanes px)) }
+    ensures { (count : ℕ) → count ≤ 2 * (VECTOR / N) → HasCopies F N at count px out.old out.new }
 {
     store_vector::<N, F>(out, at, px);
     store_vector::<N, F>(out, at + N * (VECTOR / N), px);
@@ -63,8 +61,7 @@ fn store_two_vectors<const N: usize, const F: usize>(out: &mut [u8], at: usize, 
 fn store_four_vectors<const N: usize, const F: usize>(out: &mut [u8], at: usize, px: Hashed)
     requires channels { IsChannels N }
     requires room { at + N * (4 * (VECTOR / N)) + VECTOR % N ≤ length out.old }
-    ensures { (count : ℕ) → count ≤ 4 * (VECTOR / N) → HasWritten F N (upto out.old at)
-        (upto out.new (at + N * count)) (replicate count (pixel_of_lanes px)) }
+    ensures { (count : ℕ) → count ≤ 4 * (VECTOR / N) → HasCopies F N at count px out.old out.new }
 {
     store_two_vectors::<N, F>(out, at, px);
     store_two_vectors::<N, F>(out, at + N * (2 * (VECTOR / N)), px);
@@ -75,8 +72,7 @@ fn store_four_vectors<const N: usize, const F: usize>(out: &mut [u8], at: usize,
 fn store_eight_vectors<const N: usize, const F: usize>(out: &mut [u8], at: usize, px: Hashed)
     requires channels { IsChannels N }
     requires room { at + N * (8 * (VECTOR / N)) + VECTOR % N ≤ length out.old }
-    ensures { (count : ℕ) → count ≤ 8 * (VECTOR / N) → HasWritten F N (upto out.old at)
-        (upto out.new (at + N * count)) (replicate count (pixel_of_lanes px)) }
+    ensures { (count : ℕ) → count ≤ 8 * (VECTOR / N) → HasCopies F N at count px out.old out.new }
 {
     store_four_vectors::<N, F>(out, at, px);
     store_four_vectors::<N, F>(out, at + N * (4 * (VECTOR / N)), px);
@@ -94,8 +90,7 @@ pub(super) fn store_run<const N: usize, const F: usize>(
     requires channels { IsChannels N }
     requires room { at + RUN_ROOM ≤ length out.old }
     requires short { count ≤ run_max }
-    ensures { HasWritten F N (upto out.old at)
-        (upto out.new (at + N * count)) (replicate count (pixel_of_lanes px)) }
+    ensures { HasCopies F N at count px out.old out.new }
 {
     let eight = 8 * (VECTOR / N);
     store_eight_vectors::<N, F>(out, at, px);
@@ -110,8 +105,7 @@ pub(super) fn store_run<const N: usize, const F: usize>(
 fn store_pixels<const N: usize, const F: usize>(out: &mut [u8], at: usize, px: Hashed, count: usize)
     requires channels { IsChannels N }
     requires room { at + N * count ≤ length out.old }
-    ensures { HasWritten F N (upto out.old at)
-        (upto out.new (at + N * count)) (replicate count (pixel_of_lanes px)) }
+    ensures { HasCopies F N at count px out.old out.new }
 {
     let mut done = 0;
     while done < count {
@@ -139,8 +133,7 @@ fn store_from_both_ends<const N: usize, const F: usize>(
     requires room { at + N * count + VECTOR % N ≤ length out.old }
     requires some { VECTOR / N ≤ count }
     requires short { count ≤ run_max }
-    ensures { HasWritten F N (upto out.old at)
-        (upto out.new (at + N * count)) (replicate count (pixel_of_lanes px)) }
+    ensures { HasCopies F N at count px out.old out.new }
 {
     let one = VECTOR / N;
     if count <= 2 * one {
@@ -169,8 +162,7 @@ pub(super) fn store_exactly<const N: usize, const F: usize>(
     requires channels { IsChannels N }
     requires room { at + N * count ≤ length out.old }
     requires short { count ≤ run_max }
-    ensures { HasWritten F N (upto out.old at)
-        (upto out.new (at + N * count)) (replicate count (pixel_of_lanes px)) }
+    ensures { HasCopies F N at count px out.old out.new }
 {
     if count <= VECTOR / N {
         store_pixels::<N, F>(out, at, px, count);
@@ -193,8 +185,7 @@ pub(super) fn store_late_run<const N: usize, const F: usize>(
     requires channels { IsChannels N }
     requires room { at + N * count ≤ length out.old }
     requires short { count ≤ run_max }
-    ensures { HasWritten F N (upto out.old at)
-        (upto out.new (at + N * count)) (replicate count (pixel_of_lanes px)) }
+    ensures { HasCopies F N at count px out.old out.new }
 {
     store_exactly::<N, F>(out, at, px, count);
 }

@@ -4,10 +4,9 @@ ghost use Rattle.std.specs.Prelude.{◌≡◌, ◌<◌, ◌≤◌, length};
 ghost use Rattle.qoi.specs.Qoi.{rgb_tag, rgba_tag};
 ghost use Rattle.qoi.specs.declared.decode.fast.TheConstants.{OUTPUT_ROOM};
 
-use crate::decode::deltas::advance;
+use crate::decode::deltas::{advance, is_plain};
 use crate::decode::fast::{OUTPUT_ROOM, Progress};
 use crate::decode::output::store_vector;
-use crate::decode::plain_tables::is_plain;
 use crate::decode::table::TermTable;
 
 // Bytes of eight RGBA chunks and of the byte after them.
@@ -31,22 +30,15 @@ fn byte_count(b1: usize) -> usize
     1 + 3 * usize::from(b1 >= 0xfe) + usize::from(b1 == 0xff)
 }
 
-impl Progress {
-    ghost use Rattle.qoi.specs.inner.Filling.{HasAhead, fast, FastStep, FastChunks, IsPlainTag};
+impl<const N: usize, const F: usize> Progress<N, F> {
+    ghost use Rattle.qoi.specs.inner.Filling.{HasAhead, FastStep, FastChunks, IsPlainTag};
 
     // Decodes a plain chunk without a jump. Where the next one stands, `byte_count` says.
     #[inline(always)]
-    fn plain_chunk<const N: usize, const F: usize>(
-        self,
-        table: &mut TermTable,
-        bytes: &[u8],
-        out: &mut [u8],
-    ) -> Progress
-        requires ahead { HasAhead N 6 16 bytes.now out.old self }
+    fn plain_chunk(self, table: &mut TermTable, bytes: &[u8], out: &mut [u8]) -> Self
+        requires ahead { HasAhead 6 16 bytes.now out.old self }
         requires plain { IsPlainTag N self.next }
-        ensures step { FastStep F N 5 16 bytes.now
-            (fast self table.old out.old) (fast result table.new out.new) }
-        ensures on { self.taken < result.taken }
+        ensures { FastStep 1 5 16 bytes.now self.entry table.old out.old result table.new out.new }
     {
         let b1 = self.next as usize;
         let last = self.last.after_plain(table, b1, &bytes[self.taken..]);
@@ -64,67 +56,38 @@ impl Progress {
     // Decodes plain chunks, as many as come one after the other, but four at most. `COPY` gives each
     // call a function of its own, which the compiler inlines there.
     #[inline(always)]
-    fn plain_chunks<const N: usize, const F: usize, const COPY: u8>(
+    fn plain_chunks<const COPY: u8>(
         self,
         table: &mut TermTable,
         bytes: &[u8],
         out: &mut [u8],
-    ) -> Progress
-        requires ahead { HasAhead N 21 64 bytes.now out.old self }
+    ) -> Self
+        requires ahead { HasAhead 21 64 bytes.now out.old self }
         requires plain { IsPlainTag N self.next }
-        ensures step { FastStep F N 20 64 bytes.now
-            (fast self table.old out.old) (fast result table.new out.new) }
-        ensures on { self.taken < result.taken }
+        ensures { FastStep 1 20 64 bytes.now self.entry table.old out.old result table.new out.new }
     {
-        let one = self.plain_chunk::<N, F>(table, bytes, out);
+        let one = self.plain_chunk(table, bytes, out);
         if !is_plain::<N>(one.next) {
             return one;
         }
-        let two = one.plain_chunk::<N, F>(table, bytes, out);
+        let two = one.plain_chunk(table, bytes, out);
         if !is_plain::<N>(two.next) {
             return two;
         }
-        let three = two.plain_chunk::<N, F>(table, bytes, out);
+        let three = two.plain_chunk(table, bytes, out);
         if !is_plain::<N>(three.next) {
             return three;
         }
-        three.plain_chunk::<N, F>(table, bytes, out)
+        three.plain_chunk(table, bytes, out)
     }
 
-    // Decodes plain chunks as `plain_chunks`, but eight at most.
-    #[inline(always)]
-    fn eight_plain<const N: usize, const F: usize>(
-        self,
-        table: &mut TermTable,
-        bytes: &[u8],
-        out: &mut [u8],
-    ) -> Progress
-        requires ahead { HasAhead N 41 128 bytes.now out.old self }
-        requires plain { IsPlainTag N self.next }
-        ensures step { FastStep F N 40 128 bytes.now
-            (fast self table.old out.old) (fast result table.new out.new) }
-        ensures on { self.taken < result.taken }
-    {
-        let four = self.plain_chunks::<N, F, 0>(table, bytes, out);
-        if !is_plain::<N>(four.next) {
-            return four;
-        }
-        four.plain_chunks::<N, F, 1>(table, bytes, out)
-    }
-
-    /// Decodes plain chunks while there is room ahead, until another chunk comes or `MOST_SAME` ends
-    /// the row.
+    /// Decodes plain chunks, up to eight at a time, while there is room ahead, until another chunk
+    /// comes or `MOST_SAME` ends the row.
     #[inline(never)]
-    pub(super) fn plain_row<const N: usize, const F: usize>(
-        self,
-        table: &mut TermTable,
-        bytes: &[u8],
-        out: &mut [u8],
-    ) -> Progress
+    pub(super) fn plain_row(self, table: &mut TermTable, bytes: &[u8], out: &mut [u8]) -> Self
         requires room { OUTPUT_ROOM ≤ length out.old }
-        requires ahead { HasAhead N 1 0 bytes.now out.old self }
-        ensures { FastChunks F N bytes.now
-            (fast self table.old out.old) (fast result table.new out.new) }
+        requires ahead { HasAhead 1 0 bytes.now out.old self }
+        ensures { FastChunks bytes.now self.entry table.old out.old result table.new out.new }
     {
         let mut now = self.by_fields();
         if bytes.len() < ROW_ROOM {
@@ -138,7 +101,10 @@ impl Progress {
                 break;
             }
             let from = now.taken;
-            now = now.eight_plain::<N, F>(table, bytes, out);
+            now = now.plain_chunks::<0>(table, bytes, out);
+            if is_plain::<N>(now.next) {
+                now = now.plain_chunks::<1>(table, bytes, out);
+            }
             let size = now.taken - from;
             same = if size == before { same + 1 } else { 0 };
             before = size;

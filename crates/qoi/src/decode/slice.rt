@@ -85,7 +85,7 @@ fn slice_chunks<'a, const N: usize, const F: usize, const RUN_FITS: bool>(
     if RUN_FITS && out.len() < FEW {
         return careful_chunks::<N, F, RUN_FITS, _>(table, from, data, out);
     }
-    let now = Progress::fast_chunks::<N, F>(table, from, data, out);
+    let now = Progress::<N, F>::fast_chunks(table, from, data, out);
     let (_, rest) = data.split_at(now.taken);
     careful_chunks::<N, F, RUN_FITS, _>(table, now.reached, rest, out)
 }

@@ -87,6 +87,7 @@ impl<const SIZE: usize> SizedTerms<SIZE> {
     }
 
     /// Puts a pixel at an index position, which needn't be its own.
+    #[inline(always)]
     pub(super) fn set(&mut self, at: usize, px: Hashed)
         requires { at < positions }
         ensures here { slice_index self.new at ≡ px }
@@ -101,6 +102,6 @@ impl<const SIZE: usize> SizedTerms<SIZE> {
         ensures { (past : Past) → HoldsSeen self.old past
             → HoldsSeen self.new (pixel_of_lanes px ∷ past) }
     {
-        self.numbers[px.position()] = px.number();
+        self.set(px.position(), px);
     }
 }

@@ -1,9 +1,115 @@
--- The marker after the chunks is refused.
-use Rattle.std.proofs.Common.{◌/◌}
+-- Each step is filled, but for less than a run, before the vector grows.
+use Rattle.std.proofs.Common.{◌≡◌, [], ◌-◌, ◌/◌, ◌%◌, ◌<◌, ◌++◌, length, replicate, refl, sym, ap, ◌∙◌, subst, arith}
+use Rattle.std.specs.Io.KnownBytes.{Consumes}
+use Rattle.std.proofs.KnownBytes.{Consumes-nil}
+use Rattle.std.proofs.lemmas.Result.{err_from_is_err_and}
+use Rattle.qoi.specs.inner.Filling.{filling, DecoderBetween}
+use Rattle.qoi.proofs.decoding.Grown.{grown, growing_start, growing_on, lent_back, some_channels, between_fillable, whole_step, fewer_pixels, none_whole, at_most, written_most}
+use Rattle.qoi.specs.Decoding.{ReadsImage}
+use Rattle.qoi.proofs.Results.{on_ok_of}
+use Rattle.qoi.proofs.decoding.Progress.{none_more, first_streams, marker_taken}
 use Rattle.qoi.proofs.decoding.StreamReads.{after_refused}
+use Rattle.qoi.proofs.decode.chunks.image_to_vec.Given.{Over}
+use Rattle.qoi.proofs.decode.chunks.image_to_vec.Goals.{After-deref_mut, After-deref_mut-2}
 use Rattle.qoi.proofs.decode.chunks.image_to_vec.Goals as goal
+
+-- a step is whole pixels
+whole : (g : Over) (c : After-deref_mut g) → c.grow.new.out.len % g.row.N ≡ 0
+whole g c = whole_step g.row.N c.loop-out.out.len c.grow.new.out.len c.requires.channels c.loop-out.invariant.whole (omega (arith, c.grow.ensures.len, c.len-in-loop-out.ensures))
+
+-- before a step is decoded
+before : (g : Over) (c : After-deref_mut g) → DecoderBetween g.row.F g.row.N [] (c.grow.new.out.len / g.row.N)
+    (Consumes (g.R.Chunks.ahead c.args.reader.now) (g.R.Chunks.ahead c.loop-out.reader))
+    (filling c.loop-out.table c.loop-out.now c.deref_mut.result.now)
+before g c =
+    let old = c.loop-out.out in
+    grown old.items c.deref_mut.result.now old.len c.grow.new.out.len c.requires.channels c.loop-out.invariant.growing old.ok.0
+    (omega (arith, c.grow.ensures.len, c.len-in-loop-out.ensures)) (whole g c)
+    (c.deref_mut.ensures.value ∙ c.grow.ensures.items ∙ ap (λ z. old.items ++ replicate (z - old.len) 0) (sym c.grow.ensures.len))
+
+-- before the last step is
+before_last : (g : Over) (c : After-deref_mut-2 g) → DecoderBetween g.row.F g.row.N [] (c.args.size / g.row.N)
+    (Consumes (g.R.Chunks.ahead c.args.reader.now) (g.R.Chunks.ahead c.loop-out.reader))
+    (filling c.loop-out.table c.loop-out.now c.deref_mut-2.result.now)
+before_last g c =
+    let old = c.loop-out.out in
+    grown old.items c.deref_mut-2.result.now old.len c.args.size c.requires.channels c.loop-out.invariant.growing old.ok.0
+    c.loop-out.invariant.fits c.requires.whole (c.deref_mut-2.ensures.value ∙ c.grow-2.ensures.items)
+
+pub loop-out-init : goal.loop-out-init
+loop-out-init g c = record {
+  whole = none_whole g.row.N c.args.out.now.len c.requires.channels c.requires.empty;
+  fits = omega (arith, c.requires.empty);
+  room = c.requires.room;
+  within = omega arith;
+  filled = omega (arith, c.requires.empty);
+  growing = growing_start g.row.F g.row.N (Consumes (g.R.Chunks.ahead c.args.reader.now) (g.R.Chunks.ahead c.args.reader.now)) _ _ c.args.out.now.items
+      c.requires.channels (sym c.args.out.now.ok.0 ∙ c.requires.empty) c.new-table.ensures c.start-last.ensures (Consumes-nil _);
+}
+
+pub some_chunks-requires : goal.some_chunks-requires
+some_chunks-requires g c = between_fillable c.requires.channels (before g (goal.at.some_chunks-requires g c).After-deref_mut)
+
+pub returns-in_err-now-clause-refused : goal.returns-in_err-now-clause-refused
+returns-in_err-now-clause-refused g c =
+    let at = (goal.at.returns-in_err-now-clause-refused g c).After-deref_mut in
+    let p = err_from_is_err_and c.from_residual.result c.from_residual.ensures.1 in
+    let fewer = fewer_pixels g.row.N c.grow.new.out.len c.args.size c.requires.channels
+    (omega (arith, c.loop-out-test.true, c.len.ensures, c.grow.ensures.len, c.len-in-loop-out.ensures)) in
+    rw (p.1, p.2) (c.in_err-now.ensures.refused [] _ _ (before g at) _ (rw (none_more (c.grow.new.out.len / g.row.N)) fewer))
+
+pub loop-out-preserved : goal.loop-out-preserved
+loop-out-preserved g c =
+    let i = c.loop-out.invariant in
+    let some = some_channels g.row.N c.requires.channels in
+    let at = (goal.at.loop-out-preserved g c).After-deref_mut in
+    let inside : c.loop-out.now.at < length c.deref_mut.result.now =
+    omega (arith, some, i.within, c.deref_mut.ensures.len, c.grow.ensures.len, c.len-in-loop-out.ensures) in
+    let left = c.in_ok-now.ensures.read.below refl inside in
+    let size : c.grow.new.out.len ≡ length c.some_chunks.new.out = omega (arith, c.some_chunks.auto.out, c.deref_mut.ensures.len) in
+    record {
+      whole = whole g at;
+      fits = omega (arith, c.loop-out-test.true, c.len.ensures, c.grow.ensures.len, c.len-in-loop-out.ensures);
+      room = omega (arith, i.room, c.grow.ensures.capacity);
+      within = omega (arith, left, size);
+      filled = omega (arith, c.in_ok-now.ensures.read.filled refl, size);
+      growing = growing_on c.some_chunks.new.out _ c.requires.channels (c.in_ok-now.ensures.read.goes_on.between [] _ _ (before g at)) left (lent_back _ _ _ size);
+    }
+
+pub all_chunks-requires : goal.all_chunks-requires
+all_chunks-requires g c = between_fillable c.requires.channels (before_last g (goal.at.all_chunks-requires g c).After-deref_mut-2)
+
+pub returns-in_err-all_chunks-clause-refused : goal.returns-in_err-all_chunks-clause-refused
+returns-in_err-all_chunks-clause-refused g c =
+    let p = err_from_is_err_and c.from_residual-in_err-all_chunks.result c.from_residual-in_err-all_chunks.ensures.1 in
+    rw (p.1, p.2) (c.in_err-all_chunks.ensures.refused [] _ _ (before_last g (goal.at.returns-in_err-all_chunks-clause-refused g c).After-deref_mut-2) _ (omega arith))
+
+pub returns-clause-read : goal.returns-clause-read
+returns-clause-read g c =
+    let at = (goal.at.returns-clause-read g c).After-deref_mut-2 in
+    let out = c.all_chunks.new.out in
+    let start = g.R.Chunks.ahead c.args.reader.now in
+    let now = g.R.Chunks.ahead c.all_chunks.new.self in
+    let back = lent_back c.grow-2.new.out.len out c.grow-2.new.out.items (omega (arith, c.all_chunks.auto.out, c.deref_mut-2.ensures.len)) in
+    let pixels = first_streams (c.in_ok-all_chunks.ensures.read [] _ _ (before_last g at)) in
+    on_ok_of c.marker.result (λ took. subst (λ z. ReadsImage g.row.F g.row.N (c.args.size / g.row.N) start (g.R.Chunks.ahead c.marker.new.self) z) (sym back) (marker_taken pixels took)) c.marker.ensures.read
 
 pub returns-clause-refused : goal.returns-clause-refused
 returns-clause-refused g c =
-    after_refused g.R.Chunks.in_memory g.row.F g.row.N
-    (c.args.size / g.row.N) _ _ _ _ c.marker.result c.in_ok-chunks_to_vec.ensures.read c.marker.ensures.refused
+    let at = (goal.at.returns-clause-refused g c).After-deref_mut-2 in
+    after_refused g.R.Chunks.in_memory g.row.F g.row.N (c.args.size / g.row.N) _ _ _ _ c.marker.result (first_streams (c.in_ok-all_chunks.ensures.read [] _ _ (before_last g at))) c.marker.ensures.refused
+
+pub returns-in_err-now-clause-grown : goal.returns-in_err-now-clause-grown
+returns-in_err-now-clause-grown g c =
+    let at = (goal.at.returns-in_err-now-clause-grown g c).After-deref_mut in
+    at_most _ c.loop-out.now.at _ _ (omega (arith, c.loop-out.invariant.filled, c.grow.ensures.len, c.len-in-loop-out.ensures)) (written_most _ _ c.requires.channels (before g at))
+
+pub returns-clause-grown : goal.returns-clause-grown
+returns-clause-grown g c =
+    let at = (goal.at.returns-clause-grown g c).After-deref_mut-2 in
+    at_most _ c.loop-out.now.at _ _ (omega (arith, c.loop-out.invariant.filled, c.loop-out-test.false, c.len.ensures, c.grow-2.ensures.len)) (written_most _ _ c.requires.channels (before_last g at))
+
+pub returns-in_err-all_chunks-clause-grown : goal.returns-in_err-all_chunks-clause-grown
+returns-in_err-all_chunks-clause-grown g c =
+    let at = (goal.at.returns-in_err-all_chunks-clause-grown g c).After-deref_mut-2 in
+    at_most _ c.loop-out.now.at _ _ (omega (arith, c.loop-out.invariant.filled, c.loop-out-test.false, c.len.ensures, c.grow-2.ensures.len)) (written_most _ _ c.requires.channels (before_last g at))

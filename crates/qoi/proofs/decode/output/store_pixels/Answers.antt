@@ -1,11 +1,10 @@
 -- More copies at each turn: those of a vector, or one.
 use Rattle.std.proofs.Common.{◌≡◌, ◌+◌, ◌*◌, arith}
-use Rattle.qoi.specs.inner.Hashed.{pixel_of_lanes}
 use Rattle.qoi.proofs.decoding.Vectors.{written_none, written_one, written_copies}
 use Rattle.qoi.proofs.decode.output.store_pixels.Goals as goal
 
 pub loop-done-init : goal.loop-done-init
-loop-done-init g c = (omega arith, written_none g.row.F g.row.N c.args.out.now c.args.at (pixel_of_lanes c.args.px))
+loop-done-init g c = (omega arith, written_none g.row.F g.row.N c.args.out.now c.args.at c.args.px)
 
 pub loop-done-preserved-then-out-next-ge-VECTOR : goal.loop-done-preserved-then-out-next-ge-VECTOR
 loop-done-preserved-then-out-next-ge-VECTOR g c =

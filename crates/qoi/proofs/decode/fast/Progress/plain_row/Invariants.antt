@@ -1,10 +1,10 @@
 -- Chunks were taken, and their pixels written and seen.
 use Rattle.std.proofs.Common.{◌+◌, ◌-◌}
-use Rattle.qoi.specs.inner.Filling.{fast, FastChunks}
+use Rattle.qoi.specs.inner.Filling.{FastChunks}
 use Rattle.qoi.proofs.decode.fast.Progress.plain_row.Given as goal
 
 abbrev pub invariant-loop-now : goal.invariant-loop-now
-invariant-loop-now g l = FastChunks g.row.F g.row.N l.bytes (fast l.fn.self l.initial.table l.initial.out) (fast l.now l.table l.out)
+invariant-loop-now g l = FastChunks l.bytes l.fn.self l.initial.table l.initial.out l.now l.table l.out
 
 abbrev pub decreases-loop-now : goal.decreases-loop-now
 decreases-loop-now g l = l.far + 1 - l.now.taken

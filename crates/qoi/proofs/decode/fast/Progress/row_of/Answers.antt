@@ -7,7 +7,7 @@ pub loop-row-preserved : goal.loop-row-preserved
 loop-row-preserved g c =
     let more = c.chunks_of-row.ensures in (
       step_more c.loop-row.invariant.0 more.step (omega (arith, more.step.taken, c.loop-row-test.true, c.if-row-far.true, c.requires.input))
-          (omega (arith, more.step.written, c.loop-row-test.true, c.if-row-top.true, c.requires.room, c.chunks_of-row.auto.out)),
+          (omega (arith, more.step.written, c.loop-row-test.true, c.if-row-top.true, c.requires.room)),
       more.alpha,
     )
 

@@ -12,22 +12,21 @@ use Rattle.qoi.proofs.decode.hashed.Hashed.after_full.Goals as goal
 pub invariant_of-result : goal.invariant_of-result
 invariant_of-result c = elim (cases_lt c.args.b1 255) [
   | inl less ↦ let is : c.args.b1 ≡ 254 = omega (arith, less, c.requires) in
-      (after_rgb c.self.inside.0 _ c.four_lanes.result _ c.read.inside.0 (c.full_kept_mask.ensures.rgb is) (c.read_mask.ensures.rgb is) c.read.invariant
+      (after_rgb c.self.inside.0 _ c.four_lanes.result _ c.read.inside.0 (c.kept_by.ensures.rgb is) (c.read_by.ensures.rgb is) c.read.invariant
       (ap pixel_of_lanes c.read.view_is ∙ c.of_lanes-read.ensures)).is_hashed
   | inr more ↦ let is : c.args.b1 ≡ 255 = omega (arith, more, c.requires) in
-      subst IsHashed (sym (after_rgba c.self.inside.0 _ c.read.inside.0 (c.full_kept_mask.ensures.rgba is) c.read.invariant)) c.read.invariant
+      subst IsHashed (sym (after_rgba c.self.inside.0 _ c.read.inside.0 (c.kept_by.ensures.rgba is) c.read.invariant)) c.read.invariant
 ]
 
-pub returns-clause-rgb : goal.returns-clause-rgb
-returns-clause-rgb c is =
-    let read : pixel_of_lanes c.four_lanes.result ≡ pixel (slice_index c.args.bytes.now 1) (slice_index c.args.bytes.now 2) (slice_index c.args.bytes.now 3) (slice_index c.args.bytes.now 4) = search rules in
-    let with = after_rgb c.self.inside.0 _ c.four_lanes.result _ c.read.inside.0 (c.full_kept_mask.ensures.rgb is) (c.read_mask.ensures.rgb is) c.read.invariant
-    (ap pixel_of_lanes c.read.view_is ∙ c.of_lanes-read.ensures) in
-    with.pixel_is ∙ same_pixel _ _ (ap (λ p. p.r) read) (ap (λ p. p.g) read) (ap (λ p. p.b) read) (ap (λ s. (pixel_of_lanes s).a) c.self.view_is)
-
-pub returns-clause-rgba : goal.returns-clause-rgba
-returns-clause-rgba c is =
-    let lanes : pixel_of_lanes c.read.inside.0 ≡ pixel_of_lanes c.four_lanes.result =
-    ap pixel_of_lanes c.read.view_is ∙ c.of_lanes-read.ensures ∙ ap pixel_of_lanes (omega (arith, c.four_lanes.type_inv, ap (λ m. bit_and c.four_lanes.result m) (c.read_mask.ensures.rgba is), and_mask c.four_lanes.result 64)) in
-    let read : pixel_of_lanes c.four_lanes.result ≡ pixel (slice_index c.args.bytes.now 1) (slice_index c.args.bytes.now 2) (slice_index c.args.bytes.now 3) (slice_index c.args.bytes.now 4) = search rules in
-    ap pixel_of_lanes (after_rgba c.self.inside.0 _ c.read.inside.0 (c.full_kept_mask.ensures.rgba is) c.read.invariant) ∙ lanes ∙ read
+pub returns : goal.returns
+returns c =
+    let four = c.four_lanes.result in
+    let read : pixel_of_lanes four ≡ pixel (slice_index c.args.bytes.now 1) (slice_index c.args.bytes.now 2) (slice_index c.args.bytes.now 3) (slice_index c.args.bytes.now 4) = search rules in
+    let lanes = ap pixel_of_lanes c.read.view_is ∙ c.of_lanes-read.ensures in
+    record {
+      rgb = λ is.
+          (after_rgb c.self.inside.0 _ four _ c.read.inside.0 (c.kept_by.ensures.rgb is) (c.read_by.ensures.rgb is) c.read.invariant lanes).pixel_is
+          ∙ same_pixel _ _ (ap (λ p. p.r) read) (ap (λ p. p.g) read) (ap (λ p. p.b) read) (ap (λ s. (pixel_of_lanes s).a) c.self.view_is);
+      rgba = λ is. ap pixel_of_lanes (after_rgba c.self.inside.0 _ c.read.inside.0 (c.kept_by.ensures.rgba is) c.read.invariant) ∙ lanes
+          ∙ ap pixel_of_lanes (omega (arith, c.four_lanes.type_inv, ap (λ m. bit_and four m) (c.read_by.ensures.rgba is), and_mask four 64)) ∙ read;
+    }

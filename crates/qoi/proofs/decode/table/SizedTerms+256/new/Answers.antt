@@ -1,17 +1,9 @@
 -- The numbers of index positions are 0, those of transparent black.
-use Rattle.std.proofs.Common.{◌≡◌, arith, refl, sym, ap, subst, ◌∙◌, length}
+use Rattle.std.proofs.Common.{◌≡◌, arith, sym, ap, subst, ◌∙◌, length}
 use Rattle.std.specs.List.{slice_index}
-use Rattle.qoi.specs.Qoi.{hash, blank}
 use Rattle.qoi.specs.inner.Hashed.{pixel_of_lanes, IsHashed, IsAdded}
+use Rattle.qoi.proofs.format.HashedPixels.{blank_is}
 use Rattle.qoi.proofs.decode.table.SizedTerms+256.new.Goals as goal
-
-blank_is_hashed : IsHashed 0
-unfolding hash
-blank_is_hashed = refl
-
-blank_is : pixel_of_lanes 0 ≡ blank
-unfolding blank
-blank_is = refl
 
 pub invariant_of-result : goal.invariant_of-result
 invariant_of-result c =
@@ -20,10 +12,10 @@ invariant_of-result c =
       size,
       omega arith,
       record {
-        places = λ i l. subst IsHashed (sym (ap (λ z. slice_index z i) same ∙ c.all_added.ensures.places i l)) blank_is_hashed;
+        places = λ i l. subst IsHashed (sym (ap (λ z. slice_index z i) same ∙ c.all_added.ensures.places i l)) blank_is.1;
         others = λ i low l. subst (λ z. IsAdded i (slice_index z i)) (sym same) (c.all_added.ensures.others i low (omega (arith, l, size)));
       },
     )
 
 pub returns : goal.returns
-returns c i l = ap (λ z. pixel_of_lanes (slice_index z i)) c.copy_from_slice.ensures.after ∙ ap pixel_of_lanes (c.all_added.ensures.places i l) ∙ blank_is
+returns c i l = ap (λ z. pixel_of_lanes (slice_index z i)) c.copy_from_slice.ensures.after ∙ ap pixel_of_lanes (c.all_added.ensures.places i l) ∙ blank_is.0

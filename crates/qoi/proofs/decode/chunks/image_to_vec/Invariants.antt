@@ -2,7 +2,7 @@
 use Rattle.std.proofs.Common.{◌≡◌, ◌-◌, ◌%◌, ◌+◌, ◌≤◌, vec_len, vec_capacity}
 use Rattle.std.specs.Io.KnownBytes.{Consumes}
 use Rattle.qoi.proofs.decoding.Grown.{Growing}
-use Rattle.qoi.proofs.decode.chunks.chunks_to_vec.Given as goal
+use Rattle.qoi.proofs.decode.chunks.image_to_vec.Given as goal
 
 abbrev pub invariant-loop-out : goal.invariant-loop-out
 invariant-loop-out g l = record {
