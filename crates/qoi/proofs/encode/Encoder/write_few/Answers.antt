@@ -4,7 +4,6 @@ use Rattle.std.proofs.lemmas.List.{length-take-le}
 use Rattle.std.proofs.lemmas.Result.{err_from_is_err_and}
 use Rattle.qoi.specs.Encoded.{IsFileOf, image_file}
 use Rattle.qoi.specs.EncoderState.{EncoderState}
-use Rattle.qoi.specs.writers.Writes.{WroteBeginning}
 use Rattle.qoi.proofs.FileOf.{file_of_image}
 use Rattle.qoi.proofs.encode.Encoder.write_few.Given.{Over}
 use Rattle.qoi.proofs.encode.Encoder.write_few.Goals.{After-front}

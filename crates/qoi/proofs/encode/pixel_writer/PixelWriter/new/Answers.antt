@@ -1,5 +1,5 @@
 -- Before the first raw byte.
-use Rattle.std.proofs.Common.{[], ◌++◌, ◌≡◌, ◌+◌, length, refl, sym, ap, ◌∙◌, subst, arith, append-nil}
+use Rattle.std.proofs.Common.{[], ◌++◌, ◌≡◌, length, refl, sym, ap, ◌∙◌, subst, arith, append-nil}
 use Rattle.std.specs.Io.KnownBytes.{Appends}
 use Rattle.qoi.specs.declared.header.Header.{Header}
 use Rattle.qoi.specs.Qoi.{header_bytes, IsValid}

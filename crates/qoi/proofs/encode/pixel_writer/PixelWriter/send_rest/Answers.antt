@@ -1,5 +1,5 @@
 -- All raw bytes came, and the rest of the file, or a beginning of it, is sent.
-use Rattle.std.proofs.Common.{◌≡◌, ◌++◌, [], length, refl, sym, ap, ◌∙◌, subst, arith, append-nil, inr, rules}
+use Rattle.std.proofs.Common.{◌≡◌, ◌++◌, [], refl, sym, ap, ◌∙◌, subst, arith, append-nil}
 use Rattle.std.proofs.lemmas.Result.{IfErr-weaker, on_ok_weaker}
 use Rattle.std.proofs.KnownBytes.{Appends-trans}
 use Rattle.qoi.specs.EncoderState.{EncoderState}

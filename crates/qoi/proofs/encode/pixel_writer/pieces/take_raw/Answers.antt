@@ -1,5 +1,5 @@
 -- What came is written or held.
-use Rattle.std.proofs.Common.{rules, ◌++◌, [], length, refl, sym, ap, ◌∙◌, arith, subst, append-nil}
+use Rattle.std.proofs.Common.{rules, ◌++◌, [], refl, sym, ◌∙◌, arith, subst, append-nil}
 use Rattle.std.proofs.lemmas.Result.{err_from_is_err_and}
 use Rattle.std.proofs.KnownBytes.{Appends-trans}
 use Rattle.std.specs.Io.KnownBytes.{Appends}
