@@ -205,10 +205,6 @@ file_spans style h raw bytes f =
       reaches = style_reaches style image (pixel_count h) e.cs e.written (count h raw f.is_file.valid f.is_file.size);
     }
 
--- the file of the state that a contract sees is that of the encoder's own
-pub own_file : {seen own : EncoderState} {bytes : List ℕ} → seen ≡ own → IsFileOf seen.style seen.header seen.raw bytes → IsFileOf own.style own.header own.raw bytes
-own_file {bytes = bytes} is f = subst (λ (s : EncoderState). IsFileOf s.style s.header s.raw bytes) is f
-
 -- so in no style is the file shorter than in style Tight
 pub shortest_is_least : {own style : Style} (h : Header) (raw tight bytes : List ℕ) → own ≡ Tight → IsFileOf own h raw tight → IsFileOf style h raw bytes
     → length tight ≤ length bytes

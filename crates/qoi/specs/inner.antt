@@ -2,6 +2,7 @@
 pub mod BlockLoop
 pub mod Chunks
 pub mod CoderLoop
+pub mod CoderSteps
 pub mod CoderState
 pub mod Conversion
 pub mod Filling

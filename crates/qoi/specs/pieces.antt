@@ -4,5 +4,4 @@ pub mod InPlace
 pub mod PixelReader
 pub mod Mark
 pub mod RowIndex
-pub mod WriterPieces
 pub mod PixelWriter

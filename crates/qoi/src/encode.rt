@@ -52,80 +52,6 @@ const LARGE_IMAGE: usize = 4096;
 // An image of fewer raw bytes goes to memory through a piece of 128 bytes.
 const TINY_IMAGE: usize = 128;
 
-// Writes the file of an image that has no block, and returns how many bytes it has. It is apart from
-// `encode_image`, which would clear its room too.
-fn encode_few<W: Writer>(
-    writer: &mut W,
-    style: Style,
-    header: &Header,
-    data: &[u8],
-) -> Result<usize>
-    requires valid { IsValid header.now }
-    requires image { length «data».now ≡ image_byte_count header.now }
-    requires few { length «data».now < FEW_BYTES }
-    requires room { max_file_len header.now ≤ W.room writer.old }
-    ensures written { IfOk result
-        (WroteImage W.wrote style header.now «data».now writer.old writer.new) }
-    ensures refused { IfErr result (λ e. W.IsFault e
-        × BeganImage W.wrote style header.now «data».now writer.old writer.new) }
-{
-    let mut bytes = [0; FEW_ROOM];
-    let mut piece = Piece::<FEW_ROOM>::with_header(&mut bytes, header);
-    let n = fill_few(&mut piece, style, header, data);
-    writer.write_many(piece.front(n))?;
-    Ok(n)
-}
-
-// Writes the file of an image, and returns how many bytes it has. If the image has a block, they go
-// through a piece with this room.
-fn encode_image<W: Writer, const ROOM: usize>(
-    writer: &mut W,
-    style: Style,
-    header: &Header,
-    data: &[u8],
-) -> Result<usize>
-    requires piece { (2 * SPARE ≤ ROOM) × (ROOM ≤ FULL_ROOM) }
-    requires valid { IsValid header.now }
-    requires image { length «data».now ≡ image_byte_count header.now }
-    requires room { max_file_len header.now ≤ W.room writer.old }
-    ensures written { IfOk result
-        (WroteImage W.wrote style header.now «data».now writer.old writer.new) }
-    ensures refused { IfErr result (λ e. W.IsFault e
-        × BeganImage W.wrote style header.now «data».now writer.old writer.new) }
-{
-    if data.len() < FEW_BYTES {
-        return encode_few(writer, style, header, data);
-    }
-    let room = writer.capacity();
-    encode_file::<W, ROOM>(writer, style, header, data)?;
-    Ok(room - writer.capacity())
-}
-
-// Writes the file of an image to memory, and returns how many bytes it has.
-#[inline(always)]
-fn encode_to_memory<W: Writer>(
-    writer: &mut W,
-    style: Style,
-    header: &Header,
-    data: &[u8],
-) -> Result<usize>
-    requires valid { IsValid header.now }
-    requires image { length «data».now ≡ image_byte_count header.now }
-    requires room { max_file_len header.now ≤ W.room writer.old }
-    ensures written { IfOk result
-        (WroteImage W.wrote style header.now «data».now writer.old writer.new) }
-    ensures refused { IfErr result (λ e. W.IsFault e
-        × BeganImage W.wrote style header.now «data».now writer.old writer.new) }
-{
-    if data.len() < TINY_IMAGE {
-        return encode_image::<W, TINY_ROOM>(writer, style, header, data);
-    }
-    if data.len() < LARGE_IMAGE {
-        return encode_image::<W, SMALL_ROOM>(writer, style, header, data);
-    }
-    encode_image::<W, FULL_ROOM>(writer, style, header, data)
-}
-
 // The channels that an image of this size has in these raw bytes. Only a refusal takes a division.
 fn channels_found(data: &[u8], header: &Header) -> Result<Channels>
     requires { IsValid header.now }
@@ -241,14 +167,15 @@ pub struct Encoder<'a> {
 impl<'a> Model for Encoder<'a> {
     ghost use Rattle.std.specs.Prelude.{◌≡◌, length};
     ghost use Rattle.qoi.specs.EncoderState.{EncoderState};
-    ghost use Rattle.qoi.specs.Qoi.{IsValid};
+    ghost use Rattle.qoi.specs.Qoi.{IsValid, AreBytes};
     ghost use Rattle.qoi.specs.Raw.{image_byte_count};
 
     ghost Value = { EncoderState };
 
     ghost view = { λ e. record { raw = e.«data».now; header = e.header; style = e.style } };
 
-    ghost invariant = { λ e. IsValid e.header × (length e.«data».now ≡ image_byte_count e.header) };
+    ghost invariant = { λ e. IsValid e.header × (length e.«data».now ≡ image_byte_count e.header)
+        × AreBytes e.«data».now };
 }
 
 impl<'a> Encoder<'a> {
@@ -333,6 +260,54 @@ impl<'a> Encoder<'a> {
         self.header.encode_max_len()
     }
 
+    // Writes the file of an image that has no block, and returns how many bytes it has. It is apart
+    // from `write_file`, which would clear its room too.
+    fn write_few<W: Writer>(&self, writer: &mut W) -> Result<usize>
+        requires few { length self.now.raw < FEW_BYTES }
+        requires room { max_file_len self.now.header ≤ W.room writer.old }
+        ensures written { IfOk result (WroteImage W.wrote self.now writer.old writer.new) }
+        ensures refused { IfErr result (λ e. W.IsFault e
+            × BeganImage W.wrote self.now writer.old writer.new) }
+    {
+        let mut bytes = [0; FEW_ROOM];
+        let mut piece = Piece::<FEW_ROOM>::with_header(&mut bytes, &self.header);
+        let n = fill_few(&mut piece, self);
+        writer.write_many(piece.front(n))?;
+        Ok(n)
+    }
+
+    // Writes the file of the image, and returns how many bytes it has. If the image has a block, they
+    // go through a piece with this room.
+    fn write_file<W: Writer, const ROOM: usize>(&self, writer: &mut W) -> Result<usize>
+        requires piece { (2 * SPARE ≤ ROOM) × (ROOM ≤ FULL_ROOM) }
+        requires room { max_file_len self.now.header ≤ W.room writer.old }
+        ensures written { IfOk result (WroteImage W.wrote self.now writer.old writer.new) }
+        ensures refused { IfErr result (λ e. W.IsFault e
+            × BeganImage W.wrote self.now writer.old writer.new) }
+    {
+        if self.data.len() < FEW_BYTES {
+            return self.write_few(writer);
+        }
+        encode_file::<W, ROOM>(writer, self)
+    }
+
+    // `write_file` to memory.
+    #[inline(always)]
+    fn write_to_memory<W: Writer>(&self, writer: &mut W) -> Result<usize>
+        requires room { max_file_len self.now.header ≤ W.room writer.old }
+        ensures written { IfOk result (WroteImage W.wrote self.now writer.old writer.new) }
+        ensures refused { IfErr result (λ e. W.IsFault e
+            × BeganImage W.wrote self.now writer.old writer.new) }
+    {
+        if self.data.len() < TINY_IMAGE {
+            return self.write_file::<W, TINY_ROOM>(writer);
+        }
+        if self.data.len() < LARGE_IMAGE {
+            return self.write_file::<W, SMALL_ROOM>(writer);
+        }
+        self.write_file::<W, FULL_ROOM>(writer)
+    }
+
     /// Encodes the image into the front of the buffer, and returns how many bytes the file has;
     /// later bytes stay as they are.
     ///
@@ -359,9 +334,9 @@ impl<'a> Encoder<'a> {
         }
         let mut writer = BytesMut::new(buf);
         if self.data.len() < FEW_BYTES {
-            return encode_few(&mut writer, self.style, &self.header, self.data);
+            return self.write_few(&mut writer);
         }
-        encode_to_memory(&mut writer, self.style, &self.header, self.data)
+        self.write_to_memory(&mut writer)
     }
 
     /// Encodes the image into a new vector, which holds only the file.
@@ -377,7 +352,7 @@ impl<'a> Encoder<'a> {
     {
         let mut file = Vec::with_capacity(alloc, self.required_buf_len())?;
         let mut writer = VecMut::new(&mut file);
-        encode_to_memory(&mut writer, self.style, &self.header, self.data)?;
+        self.write_to_memory(&mut writer)?;
         file.shrink_to_fit();
         Ok(file)
     }
@@ -398,7 +373,7 @@ impl<'a> Encoder<'a> {
             × SendsPart self.now (W.contents writer.old) (W.contents writer.new)) }
     {
         let mut writer = GenericWriter::new(writer);
-        let n = encode_image::<_, FULL_ROOM>(&mut writer, self.style, &self.header, self.data)?;
+        let n = self.write_file::<_, FULL_ROOM>(&mut writer)?;
         Ok(n)
     }
 }

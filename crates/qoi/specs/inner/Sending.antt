@@ -1,70 +1,91 @@
 -- The bytes ahead of a coder that go through a piece to a writer. `wrote a bytes b` says that the
 -- writer a became b by writing the bytes.
-use Rattle.std.specs.Prelude.{◌≡◌, ℕ, ◌+◌, ◌*◌, ◌%◌, ◌<◌, ◌≤◌, ◌⊎◌, List, ◌++◌, length}
+use Rattle.std.specs.Prelude.{◌≡◌, ℕ, ◌+◌, ◌*◌, ◌%◌, ◌<◌, ◌≤◌, ◌⊎◌, List, [], ◌++◌, length, Option, None}
+use Rattle.std.specs.Io.KnownBytes.{Appends}
 use Rattle.qoi.specs.declared.encode.pending.Pending.{Pending}
-use Rattle.qoi.specs.declared.encode.piece.TheConstants.{FULL_ROOM}
-use Rattle.qoi.specs.declared.header.Header.{Header}
+use Rattle.qoi.specs.declared.encode.piece.TheConstants.{SPARE, FULL_ROOM}
+use Rattle.qoi.specs.declared.types.Channels.{Channels}
 use Rattle.qoi.specs.declared.types.Style.{Style}
-use Rattle.qoi.specs.Encoded.{IsFileOf}
-use Rattle.qoi.specs.Qoi.{channels_number, marker_size, end_marker}
+use Rattle.qoi.specs.Encoded.{IsFileOf, image_file}
+use Rattle.qoi.specs.EncoderState.{EncoderState}
+use Rattle.qoi.specs.Qoi.{channels_number, marker_size, end_marker, start}
 use Rattle.qoi.specs.Raw.{pixels_of}
 use Rattle.qoi.specs.writers.Writes.{WroteBut, WroteBeginning}
-use Rattle.qoi.specs.inner.CoderLoop.{CoderBetween}
-
--- From one state to another, whatever raw bytes follow: of the bytes that were ahead the first ones
--- were written, and the others are ahead.
-pub record GoesOn {W : Type 0} (wrote : W → List ℕ → W → Type 0) (n : ℕ) (style : Style) (a : W) (p : Pending) (kept raw : List ℕ)
-    (b : W) (p' : Pending) (kept' raw' : List ℕ) : Type 0 where
-  pub on : (ahead more : List ℕ) → CoderBetween style ahead (pixels_of n (raw ++ more)) p.table p.last kept
-      → (later : List ℕ) × WroteBut wrote a ahead later b × CoderBetween style later (pixels_of n (raw' ++ more)) p'.table p'.last kept'
-
--- From such a state to a fault: a beginning of those bytes was written.
-pub record BreaksOff {W : Type 0} (wrote : W → List ℕ → W → Type 0) (n : ℕ) (style : Style) (a : W) (p : Pending) (kept raw : List ℕ) (b : W) : Type 0 where
-  pub off : (ahead more : List ℕ) → CoderBetween style ahead (pixels_of n (raw ++ more)) p.table p.last kept → WroteBeginning wrote a ahead b
-
--- From such a state to the end, if no raw bytes follow: all that was ahead was written, and the end
--- marker.
-pub record Ends {W : Type 0} (wrote : W → List ℕ → W → Type 0) (n : ℕ) (style : Style) (a : W) (p : Pending) (kept raw : List ℕ) (b : W) : Type 0 where
-  pub all : (ahead : List ℕ) → CoderBetween style ahead (pixels_of n raw) p.table p.last kept → wrote a (ahead ++ end_marker) b
-
--- Or a beginning of that was.
-pub record EndsEarly {W : Type 0} (wrote : W → List ℕ → W → Type 0) (n : ℕ) (style : Style) (a : W) (p : Pending) (kept raw : List ℕ) (b : W) : Type 0 where
-  pub part : (ahead : List ℕ) → CoderBetween style ahead (pixels_of n raw) p.table p.last kept → WroteBeginning wrote a (ahead ++ end_marker) b
-
--- A writer that can take `free` bytes has room: for what is ahead and the end marker, or for a full
--- piece at each raw byte and one more.
-pub record HasRoom (free size n : ℕ) (style : Style) (p : Pending) (kept raw : List ℕ) : Type 0 where
-  pub enough : ((ahead : List ℕ) × CoderBetween style ahead (pixels_of n raw) p.table p.last kept × (length ahead + marker_size ≤ free))
-      ⊎ ((size ≤ FULL_ROOM) × (FULL_ROOM * (length raw + 1) ≤ free))
+use Rattle.qoi.specs.inner.CoderLoop.{CoderAfter, CoderBetween}
 
 -- how many bytes a pixel of the image has
 abbrev pub pixel_size : Pending → ℕ
 pixel_size p = channels_number p.channels
 
--- From one state to another the channels and the style stay, of n bytes for each pixel, and in three
--- channels the last pixel is opaque.
-pub record StaysIn (n : ℕ) (p p' : Pending) : Type 0 where
-  pub channels_is : p'.channels ≡ p.channels
-  pub style_is : p'.style ≡ p.style
-  pub opaque : n ≡ 3 → p'.last.px.a ≡ 255
+-- in three channels the last pixel is opaque
+abbrev pub EndsOpaque : Pending → Type 0
+EndsOpaque p = pixel_size p ≡ 3 → p.last.px.a ≡ 255
 
--- whole pixels are left of others, fewer than a block has
-pub record AreLeft (n : ℕ) (raw left : List ℕ) : Type 0 where
-  pub few : length left < 16 * n
-  pub within : length left ≤ length raw
-  pub whole : length left % n ≡ 0
+-- nothing came yet of an image with these channels, in this style
+pub record IsNew (channels : Channels) (style : Style) (p : Pending) : Type 0 where
+  pub channels_is : p.channels ≡ channels
+  pub style_is : p.style ≡ style
+  pub px_is : p.last.px ≡ start
+  pub none : p.last.repeats ≡ 0
+  pub state : CoderAfter style [] None p.table p.last
 
--- Whole pixels were written but for those that are left, and the writer has room for what is ahead.
-pub record WroteWhole {W : Type 0} (wrote : W → List ℕ → W → Type 0) (room : W → ℕ) (size n : ℕ) (style : Style) (a : W) (p : Pending) (kept raw : List ℕ)
+-- from one state to another the channels and the style stay
+abbrev pub StaysIn : (p p' : Pending) → Type 0
+StaysIn p p' = (p'.channels ≡ p.channels) × (p'.style ≡ p.style)
+
+-- between two pixels: what hasn't gone to a writer yet, `ahead`, is what is kept, what is pending,
+-- and the chunks of these raw bytes
+abbrev pub Between : (ahead : List ℕ) → Pending → (kept raw : List ℕ) → Type 0
+Between ahead p kept raw = CoderBetween p.style ahead (pixels_of (pixel_size p) raw) p.table p.last kept
+
+-- From one state to another, whatever raw bytes follow: of the bytes that were ahead the first ones
+-- were written, and the others are ahead. As many raw bytes as before go past the last whole pixel.
+pub record GoesOn {W : Type 0} (wrote : W → List ℕ → W → Type 0) (a : W) (p : Pending) (kept raw : List ℕ) (b : W) (p' : Pending) (kept' raw' : List ℕ) : Type 0 where
+  pub opaque : EndsOpaque p'
+  pub part : length raw' % pixel_size p' ≡ length raw % pixel_size p
+  pub on : (ahead more : List ℕ) → Between ahead p kept (raw ++ more)
+      → (later : List ℕ) × WroteBut wrote a ahead later b × Between later p' kept' (raw' ++ more)
+
+-- From such a state to a fault: a beginning of those bytes was written.
+pub record BreaksOff {W : Type 0} (wrote : W → List ℕ → W → Type 0) (a : W) (p : Pending) (kept raw : List ℕ) (b : W) : Type 0 where
+  pub off : (ahead more : List ℕ) → Between ahead p kept (raw ++ more) → WroteBeginning wrote a ahead b
+
+-- From such a state to the end, if no raw bytes follow: all that was ahead was written, and the end
+-- marker. If `wrote` is `WroteBeginning` of another relation, a beginning of that was.
+pub record Ends {W : Type 0} (wrote : W → List ℕ → W → Type 0) (a : W) (p : Pending) (kept raw : List ℕ) (b : W) : Type 0 where
+  pub all : (ahead : List ℕ) → Between ahead p kept raw → wrote a (ahead ++ end_marker) b
+
+-- Whole pixels can be written through a piece of this size. A writer that can take `free` bytes has
+-- room: for what is ahead and the end marker, or for a full piece at each raw byte and one more.
+pub record IsReady (free size : ℕ) (p : Pending) (kept raw : List ℕ) : Type 0 where
+  pub whole : length raw % pixel_size p ≡ 0
+  pub opaque : EndsOpaque p
+  pub large : 2 * SPARE ≤ size
+  pub enough : ((ahead : List ℕ) × Between ahead p kept raw × (length ahead + marker_size ≤ free))
+      ⊎ ((size ≤ FULL_ROOM) × (FULL_ROOM * (length raw + 1) ≤ free))
+
+-- Whole pixels were written but for those that are left, fewer than a block has, which can be, too.
+pub record WroteWhole {W : Type 0} (wrote : W → List ℕ → W → Type 0) (room : W → ℕ) (size : ℕ) (a : W) (p : Pending) (kept raw : List ℕ)
     (b : W) (p' : Pending) (kept' left : List ℕ) : Type 0 where
-  pub left_are : AreLeft n raw left
-  pub has_room : HasRoom (room b) size n style p' kept' left
-  pub written : GoesOn wrote n style a p kept raw b p' kept' left
+  pub few : length left < 16 * pixel_size p'
+  pub within : length left ≤ length raw
+  pub ready : IsReady (room b) size p' kept' left
+  pub written : GoesOn wrote a p kept raw b p' kept' left
 
--- the file of an image in a style was written, from its header and raw bytes; it has n bytes
-abbrev pub WroteImage : {W : Type 0} → (W → List ℕ → W → Type 0) → Style → Header → List ℕ → W → W → ℕ → Type 0
-WroteImage wrote style h raw a b n = (bytes : List ℕ) × IsFileOf style h raw bytes × (n ≡ length bytes) × wrote a bytes b
+-- Between two pixels of an image: of its file all was written but what is ahead, and the end marker.
+pub record ImageBetween {W : Type 0} (wrote : W → List ℕ → W → Type 0) (e : EncoderState) (a b : W) (p : Pending) (kept raw : List ℕ) : Type 0 where
+  pub ahead : List ℕ
+  pub went : WroteBut wrote a (image_file e.style e.header e.raw) (ahead ++ end_marker) b
+  pub between : Between ahead p kept raw
+
+-- the file of an image was written, which has n bytes
+abbrev pub WroteImage : {W : Type 0} → (W → List ℕ → W → Type 0) → EncoderState → W → W → ℕ → Type 0
+WroteImage wrote e a b n = (bytes : List ℕ) × IsFileOf e.style e.header e.raw bytes × (n ≡ length bytes) × wrote a bytes b
 
 -- a beginning of it was
-abbrev pub BeganImage : {W : Type 0} → (W → List ℕ → W → Type 0) → Style → Header → List ℕ → W → W → Type 0
-BeganImage wrote style h raw a b = (bytes : List ℕ) × IsFileOf style h raw bytes × WroteBeginning wrote a bytes b
+abbrev pub BeganImage : {W : Type 0} → (W → List ℕ → W → Type 0) → EncoderState → W → W → Type 0
+BeganImage wrote e a b = (bytes : List ℕ) × IsFileOf e.style e.header e.raw bytes × WroteBeginning wrote a bytes b
+
+-- the bytes were appended to those that are known, as a writer's relation
+abbrev pub appended : Option (List ℕ) → List ℕ → Option (List ℕ) → Type 0
+appended a bytes b = Appends a b bytes

@@ -5,12 +5,12 @@ use Rattle.qoi.specs.declared.error.Error.TheVariants.{InvalidImageLength}
 use Rattle.qoi.specs.declared.header.Header.{Header}
 use Rattle.qoi.specs.declared.types.Style.{Style}
 use Rattle.qoi.specs.declared.encode.pending.Pending.{Pending}
-use Rattle.qoi.specs.Qoi.{AreBytes, channels_number}
-use Rattle.qoi.specs.Raw.{pixels_of, image_byte_count}
+use Rattle.qoi.specs.Qoi.{AreBytes}
+use Rattle.qoi.specs.Raw.{image_byte_count}
 use Rattle.qoi.specs.EncoderState.{EncoderState}
 use Rattle.qoi.specs.Errors.{IsIoError}
 use Rattle.qoi.specs.Sent.{SendsPart}
-use Rattle.qoi.specs.pieces.WriterPieces.{ImageBetween}
+use Rattle.qoi.specs.inner.Sending.{appended, ImageBetween}
 
 -- the writer as it stands, header and style of the file, how many raw bytes haven't come, whether the
 -- writer reported a fault, the raw bytes that are held, and what stands between two blocks
@@ -40,8 +40,7 @@ pub record TakesSoFar {W : Type 0} (contents : W → Option (List ℕ)) (e : Enc
   pub size : length e.raw + p.left ≡ image_byte_count e.header
   pub are : AreBytes e.raw
   pub writes : (more : List ℕ) → length more ≡ p.left → AreBytes more
-      → ImageBetween (and_raw e more) before (contents p.writer)
-      (pixels_of (channels_number p.header.channels) (p.held ++ more)) p.pending []
+      → ImageBetween appended (and_raw e more) before (contents p.writer) p.pending [] (p.held ++ more)
 
 -- The same, as HasGiven of a pixel reader: the prover passes it on whole.
 unfoldable pub HasTaken : {W : Type 0} → (W → Option (List ℕ)) → EncoderState → Option (List ℕ) → WriterState W → Type 0

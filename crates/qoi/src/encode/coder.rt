@@ -50,6 +50,7 @@ pub(super) struct Coder<const N: usize> {
 }
 
 impl<const N: usize> Coder<N> {
+    ghost use Rattle.qoi.specs.inner.CoderSteps.{CoderPasses, CoderEnds};
     ghost use Rattle.qoi.specs.inner.Pixels.{pixels_in};
 
     /// The coder in this style, after this pixel.
@@ -199,11 +200,8 @@ impl<const N: usize> Coder<N> {
         ensures style { self.new.style ≡ self.old.style }
         ensures same { (self.new.last.px ≡ self.old.last.px)
             × (self.new.last.begun ≡ self.old.last.begun) }
-        ensures written { (ahead : List ℕ) (more : List RgbaPixel)
-            → CoderBetween self.old.style ahead (pixels_in raw.entry ++ more)
-            table.old self.old.last (kept_bytes piece.old)
-            → CoderBetween self.new.style ahead (drop result (pixels_in raw.entry) ++ more)
-            table.new self.new.last (kept_bytes piece.new) }
+        ensures written { CoderPasses self.old table.old piece.old (pixels_in raw.entry)
+            self.new table.new piece.new (drop result (pixels_in raw.entry)) }
     {
         let carried = self.last.repeats;
         if carried == 0 && !raw.begin_with(self.last.px) {
@@ -248,11 +246,8 @@ impl<const N: usize> Coder<N> {
             ≡ Some self.new.last.px }
         ensures rest { pixels_in result
             ≡ drop (group.entry.ahead + 1) (pixels_in group.entry.raw) }
-        ensures written { (all : List ℕ) (more : List RgbaPixel)
-            → CoderBetween self.old.style all (pixels_in group.entry.raw ++ more)
-            table.old self.old.last (kept_bytes piece.old)
-            → CoderBetween self.new.style all (pixels_in result ++ more)
-            table.new self.new.last (kept_bytes piece.new) }
+        ensures written { CoderPasses self.old table.old piece.old (pixels_in group.entry.raw)
+            self.new table.new piece.new (pixels_in result) }
     {
         let count = self.last.repeats + group.ahead;
         piece.append_run(count, self.single_repeat_byte(count));
@@ -281,11 +276,8 @@ impl<const N: usize> Coder<N> {
         ensures none { pixels_in result ≢ [] → self.new.last.repeats ≡ 0 }
         ensures style { self.new.style ≡ self.old.style }
         ensures begun { self.old.last.begun ≡ true → self.new.last.begun ≡ true }
-        ensures written { (ahead : List ℕ) (more : List RgbaPixel)
-            → CoderBetween self.old.style ahead (pixels_in raw.entry ++ more)
-            table.old self.old.last (kept_bytes piece.old)
-            → CoderBetween self.new.style ahead (pixels_in result ++ more)
-            table.new self.new.last (kept_bytes piece.new) }
+        ensures written { CoderPasses self.old table.old piece.old (pixels_in raw.entry)
+            self.new table.new piece.new (pixels_in result) }
     {
         let count = self.write_runs(table, piece, raw);
         let after = raw.skip(count);
@@ -306,9 +298,7 @@ impl<const N: usize> Coder<N> {
     )
         requires few { length (pixels_in raw) < 16 }
         requires not_full { piece.old.end < ROOM - SPARE }
-        ensures written { (ahead : List ℕ)
-            → CoderBetween self.old.style ahead (pixels_in raw.entry) table.old self.old.last
-            (kept_bytes piece.old) → ahead ≡ kept_bytes piece.new }
+        ensures { CoderEnds self.old table.old piece.old (pixels_in raw.entry) piece.new }
     {
         self.write_each(table, piece, raw);
     }
@@ -324,9 +314,7 @@ impl<const N: usize> Coder<N> {
     )
         requires few { length (pixels_in raw) < 16 }
         requires not_full { piece.old.end < ROOM - SPARE }
-        ensures written { (ahead : List ℕ)
-            → CoderBetween self.old.style ahead (pixels_in raw.entry) table.old self.old.last
-            (kept_bytes piece.old) → ahead ≡ kept_bytes piece.new }
+        ensures { CoderEnds self.old table.old piece.old (pixels_in raw.entry) piece.new }
     {
         let mut rest = raw;
         while !rest.is_empty() {
@@ -339,9 +327,7 @@ impl<const N: usize> Coder<N> {
     #[inline(always)]
     pub(super) fn write_last<const ROOM: usize>(&self, piece: &mut Piece<ROOM>)
         requires { piece.old.end < ROOM - SPARE }
-        ensures { (ahead : List ℕ) (table : List RgbaPixel)
-            → CoderBetween self.now.style ahead [] table self.now.last (kept_bytes piece.old)
-            → ahead ≡ kept_bytes piece.new }
+        ensures { (table : List RgbaPixel) → CoderEnds self.now table piece.old [] piece.new }
     {
         piece.append_run(self.last.repeats, QOI_OP_RUN);
     }
@@ -358,11 +344,8 @@ impl<const N: usize> Coder<N> {
         requires room { piece.old.end + (RUNS_AT_ONCE + 1 + chunk_max + marker_size) ≤ ROOM }
         ensures style { self.new.style ≡ self.old.style }
         ensures less { length (pixels_in result) < length (pixels_in raw.entry) }
-        ensures written { (ahead : List ℕ) (more : List RgbaPixel)
-            → CoderBetween self.old.style ahead (pixels_in raw.entry ++ more)
-            table.old self.old.last (kept_bytes piece.old)
-            → CoderBetween self.new.style ahead (pixels_in result ++ more)
-            table.new self.new.last (kept_bytes piece.new) }
+        ensures written { CoderPasses self.old table.old piece.old (pixels_in raw.entry)
+            self.new table.new piece.new (pixels_in result) }
     {
         self.write_next(table, piece, raw)
     }

@@ -1,8 +1,4 @@
 //! What is known of an image's chunks between two calls that write some of them.
-ghost use Rattle.std.specs.Prelude.{◌≡◌, [], None};
-ghost use Rattle.qoi.specs.Qoi.{start};
-ghost use Rattle.qoi.specs.declared.types.Style.{Style};
-ghost use Rattle.qoi.specs.inner.CoderLoop.{CoderAfter};
 
 use crate::encode::last_pixel::LastPixel;
 use crate::encode::table::PixelTable;
@@ -20,13 +16,12 @@ pub(super) struct Pending {
 }
 
 impl Pending {
+    ghost use Rattle.qoi.specs.inner.Sending.{IsNew};
+
     /// Before the first pixel of an image.
     #[inline(always)]
     pub(super) fn new(channels: Channels, style: Style) -> Pending
-        ensures channels { result.channels ≡ channels }
-        ensures style { result.style ≡ style }
-        ensures last { (result.last.px ≡ start) × (result.last.repeats ≡ 0) }
-        ensures state { (style : Style) → CoderAfter style [] None result.table result.last }
+        ensures { IsNew channels style result }
     {
         Pending {
             channels,

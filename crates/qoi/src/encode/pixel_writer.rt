@@ -48,8 +48,9 @@ pub struct PixelWriter<W> {
 
 impl<W> Model for PixelWriter<W> {
     ghost use Rattle.std.specs.Prelude.{◌≡◌, ◌+◌, ◌%◌, ◌≤◌, length, false};
-    ghost use Rattle.qoi.specs.Qoi.{channels_number, IsValid};
+    ghost use Rattle.qoi.specs.Qoi.{IsValid};
     ghost use Rattle.qoi.specs.Raw.{image_byte_count};
+    ghost use Rattle.qoi.specs.inner.Sending.{pixel_size, EndsOpaque};
     ghost use Rattle.qoi.specs.pieces.PixelWriter.{WriterState};
 
     ghost Value = { WriterState W };
@@ -65,10 +66,8 @@ impl<W> Model for PixelWriter<W> {
     } };
 
     ghost invariant = { λ p. IsValid p.header × (p.left ≤ image_byte_count p.header)
-        × (p.kept.value.came.pending.channels ≡ p.header.channels)
-        × (channels_number p.header.channels ≡ 3 → p.kept.value.came.pending.last.px.a ≡ 255)
-        × (p.failed ≡ false
-        → (length p.kept.value.came.held + p.left) % channels_number p.header.channels ≡ 0) };
+        × (p.failed ≡ false → EndsOpaque p.kept.value.came.pending
+        × ((length p.kept.value.came.held + p.left) % pixel_size p.kept.value.came.pending ≡ 0)) };
 }
 
 impl<W: Write + Drop> PixelWriter<W> {

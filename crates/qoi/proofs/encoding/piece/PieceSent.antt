@@ -1,12 +1,12 @@
 -- Kept bytes that are sent to a writer: a full piece, and then those after it.
-use Rattle.std.proofs.Common.{◌≡◌, ℕ, ◌+◌, ◌-◌, ◌≤◌, List, [], ◌++◌, length, take, drop, Result, Ok, Err, OnOk, IfErr, sym, ap, ◌∙◌, subst, append-nil, take-append-drop, arith}
+use Rattle.std.proofs.Common.{◌≡◌, ℕ, ◌+◌, ◌-◌, ◌≤◌, List, ◌++◌, length, take, drop, sym, ap, ◌∙◌, subst, take-append-drop, arith}
 use Rattle.std.specs.List.{copy_within}
 use Rattle.std.proofs.lemmas.List.{drop-take, length-drop, length-take-le, take-append-le, take-take}
 use Rattle.std.proofs.lemmas.List.Edits.{paste_all}
 use Rattle.qoi.specs.declared.encode.piece.Piece.{Piece}
 use Rattle.qoi.specs.inner.Piece.{kept_bytes}
-use Rattle.qoi.specs.writers.Writes.{WriterLaws, WroteBut, WroteBeginning}
-use Rattle.qoi.proofs.encoding.piece.WriterProgress.{wrote_none, wrote_next, wrote_part, wrote_all}
+use Rattle.qoi.specs.writers.Writes.{WroteBut, WroteBeginning}
+use Rattle.qoi.proofs.encoding.piece.WriterProgress.{begins}
 
 -- as many bytes are kept as the piece says
 pub kept_length : {size : ℕ} (s : Piece size) → length (kept_bytes s) ≡ s.end
@@ -21,7 +21,7 @@ moved_front xs piece room end size full within =
     ∙ take-append-le (end - piece) (drop piece xs) (drop (0 + (room - piece)) xs) (omega arith)
     ∙ sym (drop-take piece (end - piece) xs) ∙ ap (λ n. drop piece (take n xs)) (omega arith)
 
-module _ {W : Type 0} {wrote : W → List ℕ → W → Type 0} {room : W → ℕ} (laws : WriterLaws wrote room) where
+module _ {W : Type 0} {wrote : W → List ℕ → W → Type 0} where
   -- the kept bytes were sent as far as a full piece
   pub sent_but : {size : ℕ} (a b next : W) (old new now : Piece size) (piece : ℕ) → now ≡ new → next ≡ b
       → wrote a (take piece (kept_bytes old)) b → kept_bytes new ≡ drop piece (kept_bytes old) → WroteBut wrote a (kept_bytes old) (kept_bytes now) next
@@ -32,14 +32,8 @@ module _ {W : Type 0} {wrote : W → List ℕ → W → Type 0} {room : W → �
   }
 
   -- a beginning of the first ones is one of all
-  pub part_of_all : (a b : W) (n : ℕ) (all : List ℕ) → WroteBeginning wrote a (take n all) b → WroteBeginning wrote a all b
-  part_of_all a b n all some = wrote_part laws a a b all all (take n all) (drop n all) (wrote_none laws a all) (sym (take-append-drop n all)) some
-
-  -- none of them was sent
-  pub none_but : {size : ℕ} (a next : W) (old now : Piece size) → now ≡ old → next ≡ a → WroteBut wrote a (kept_bytes old) (kept_bytes now) next
-  none_but a next old now is same =
-      subst (λ s. WroteBut wrote a (kept_bytes old) (kept_bytes s) next) (sym is)
-      (subst (λ w. WroteBut wrote a (kept_bytes old) (kept_bytes old) w) (sym same) (wrote_none laws a (kept_bytes old)))
+  pub part_of_all : {a b : W} (n : ℕ) (all : List ℕ) → WroteBeginning wrote a (take n all) b → WroteBeginning wrote a all b
+  part_of_all n all = begins (drop n all) (sym (take-append-drop n all))
 
   -- a full piece was sent, and the bytes after it stand at the front
   pub front_sent : (a b : W) (old new : List ℕ) (piece size end : ℕ) → length old ≡ size → piece ≤ end → end ≤ size → wrote a (take piece old) b
@@ -50,16 +44,3 @@ module _ {W : Type 0} {wrote : W → List ℕ → W → Type 0} {room : W → �
         ∙ (λ i. take-take piece end old full i ++ sym (ap (take (end - piece)) moved ∙ moved_front old piece size end long full within) i);
     went = went;
   }
-
-  -- then the rest was sent
-  pub rest_sent : {T E : Type 0} (r : Result T E) (a b next : W) (all rest : List ℕ) → WroteBut wrote a all rest b → OnOk r (wrote b rest next)
-      → OnOk r (wrote a all next)
-  rest_sent (Ok x) a b next all rest w went =
-      wrote_all laws a next all (wrote_next laws a b next all rest rest [] w (sym (append-nil rest)) went)
-  rest_sent (Err e) a b next all rest w went = tt
-
-  -- or a beginning of it
-  pub rest_refused : {T E : Type 0} (r : Result T E) (IsFault : E → Type 0) (a b next : W) (all rest : List ℕ) → WroteBut wrote a all rest b
-      → IfErr r (λ e. IsFault e × WroteBeginning wrote b rest next) → IfErr r (λ e. IsFault e × WroteBeginning wrote a all next)
-  rest_refused (Ok x) IsFault a b next all rest w some = tt
-  rest_refused (Err e) IsFault a b next all rest w some = (some.0, wrote_part laws a b next all rest rest [] w (sym (append-nil rest)) some.1)

@@ -1,41 +1,37 @@
 -- A writer that writes the next part of what is left.
-use Rattle.std.proofs.Common.{◌≡◌, ℕ, ◌≤◌, List, [], ◌++◌, length, refl, sym, ap, ◌∙◌, subst, append_assoc, append-nil, length-append, arith}
-use Rattle.qoi.specs.writers.Writes.{WriterLaws, WroteBut, WroteBeginning}
+use Rattle.std.proofs.Common.{◌≡◌, ℕ, List, [], ◌++◌, refl, sym, ap, ◌∙◌, subst, append_assoc}
+use Rattle.qoi.specs.writers.Writes.{WroteBut, WroteBeginning}
 
-module _ {W : Type 0} {wrote : W → List ℕ → W → Type 0} {room : W → ℕ} (laws : WriterLaws wrote room) where
+-- two writings compose, the second by a relation of its own
+abbrev pub Follows : {W : Type 0} → (W → List ℕ → W → Type 0) → (W → List ℕ → W → Type 0) → Type 0
+Follows {W} wrote later = (a b c : W) (xs ys : List ℕ) → wrote a xs b → later b ys c → later a (xs ++ ys) c
+
+module _ {W : Type 0} {wrote : W → List ℕ → W → Type 0} where
   -- nothing was written yet
-  pub wrote_none : (start : W) (all : List ℕ) → WroteBut wrote start all all start
-  wrote_none start all = record { front = []; split = refl; went = laws.nothing start }
+  pub none_but : {a : W} {all : List ℕ} → wrote a [] a → WroteBut wrote a all all a
+  none_but nothing = record { front = []; split = refl; went = nothing }
 
-  -- the next part was written
-  pub wrote_next : (start now next : W) (all rest piece more : List ℕ) → WroteBut wrote start all rest now → rest ≡ piece ++ more → wrote now piece next
-      → WroteBut wrote start all more next
-  wrote_next start now next all rest piece more w e went = record {
-    front = w.front ++ piece;
-    split = w.split ∙ ap (λ z. w.front ++ z) e ∙ sym (append_assoc w.front piece more);
-    went = laws.both start now next w.front piece w.went went;
-  }
+  -- and others follow
+  pub but_more : {a b : W} {all rest : List ℕ} (ys : List ℕ) → WroteBut wrote a all rest b → WroteBut wrote a (all ++ ys) (rest ++ ys) b
+  but_more {rest = rest} ys w = record { front = w.front; split = ap (λ z. z ++ ys) w.split ∙ append_assoc w.front rest ys; went = w.went }
 
-  -- a beginning of the next part was written
-  pub wrote_part : (start now next : W) (all rest piece more : List ℕ) → WroteBut wrote start all rest now → rest ≡ piece ++ more
-      → WroteBeginning wrote now piece next → WroteBeginning wrote start all next
-  wrote_part start now next all rest piece more w e some =
-      let part = some.1 in (
-        some.0 ++ more,
-        record {
-          front = w.front ++ part.front;
-          split = w.split ∙ ap (λ z. w.front ++ z) (e ∙ ap (λ z. z ++ more) part.split ∙ append_assoc part.front some.0 more)
-              ∙ sym (append_assoc w.front part.front (some.0 ++ more));
-          went = laws.both start now next w.front part.front w.went part.went;
-        },
-      )
+  -- a beginning of the first of these bytes was written
+  pub begins : {a b : W} {all front : List ℕ} (later : List ℕ) → all ≡ front ++ later → WroteBeginning wrote a front b → WroteBeginning wrote a all b
+  begins {a} {b} later is some = (some.0 ++ later, subst (λ z. WroteBut wrote a z (some.0 ++ later) b) (sym is) (but_more later some.1))
 
-  -- all was written if nothing is left
-  pub wrote_all : (start now : W) (all : List ℕ) → WroteBut wrote start all [] now → wrote start all now
-  wrote_all start now all w = subst (λ z. wrote start z now) (sym (w.split ∙ append-nil w.front)) w.went
+  -- all that was left was written
+  pub but_all : {later : W → List ℕ → W → Type 0} {a b c : W} {all rest : List ℕ} → Follows wrote later → WroteBut wrote a all rest b → later b rest c → later a all c
+  but_all {later} {a} {b} {c} {rest = rest} follows w went = subst (λ z. later a z c) (sym w.split) (follows a b c w.front rest w.went went)
 
-  -- what is left has room
-  pub left_fits : (start now : W) (all rest : List ℕ) → WroteBut wrote start all rest now → length all ≤ room start → length rest ≤ room now
-  left_fits start now all rest w fits =
-      let counted = laws.counts start now w.front w.went in
-      omega (arith, fits, ap length w.split, length-append w.front rest, counted)
+  module _ (both : Follows wrote wrote) where
+    -- the next bytes were written
+    pub but_on : {a b c : W} {all rest more : List ℕ} → WroteBut wrote a all rest b → WroteBut wrote b rest more c → WroteBut wrote a all more c
+    but_on {a} {b} {c} {more = more} w v = record {
+      front = w.front ++ v.front;
+      split = w.split ∙ ap (λ z. w.front ++ z) v.split ∙ sym (append_assoc w.front v.front more);
+      went = both a b c w.front v.front w.went v.went;
+    }
+
+    -- a beginning of bytes follows
+    pub begins_after : Follows wrote (WroteBeginning wrote)
+    begins_after a b c xs ys went some = (some.0, but_on (record { front = xs; split = refl; went = went }) some.1)

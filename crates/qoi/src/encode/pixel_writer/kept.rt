@@ -1,8 +1,6 @@
 //! What is kept of an image between two calls that take raw bytes of it.
-ghost use Rattle.std.specs.Prelude.{◌≡◌, ◌⊎◌, ◌+◌, ◌*◌, ◌<◌, ◌≤◌, [], ◌++◌, length, None, IsTrue, IsFalse};
-ghost use Rattle.qoi.specs.Qoi.{start};
-ghost use Rattle.qoi.specs.declared.types.Style.{Style};
-ghost use Rattle.qoi.specs.inner.CoderLoop.{CoderAfter};
+ghost use Rattle.std.specs.Prelude.{◌≡◌, ◌⊎◌, ◌+◌, ◌*◌, ◌<◌, ◌≤◌, [], ◌++◌, length, IsTrue, IsFalse};
+ghost use Rattle.qoi.specs.inner.Sending.{IsNew};
 
 use crate::encode::pending::Pending;
 use crate::encode::piece::FULL_ROOM;
@@ -24,12 +22,7 @@ impl Kept {
     /// What is kept before the first raw byte.
     pub(super) fn new(channels: Channels, style: Style) -> Kept
         ensures held { result.came.held ≡ [] }
-        ensures channels { result.came.pending.channels ≡ channels }
-        ensures style { result.came.pending.style ≡ style }
-        ensures last { (result.came.pending.last.px ≡ start)
-            × (result.came.pending.last.repeats ≡ 0) }
-        ensures state { (style : Style)
-            → CoderAfter style [] None result.came.pending.table result.came.pending.last }
+        ensures pending { IsNew channels style result.came.pending }
     {
         Kept {
             came: Came {

@@ -1,14 +1,14 @@
 //! The chunks of an image whose raw bytes come piece by piece, through the encoder's `Piece` to a
 //! writer (QOI specification 1.0, "Data").
 ghost use Rattle.std.specs.Io.KnownBytes.{Appends};
-ghost use Rattle.std.specs.Prelude.{◌≡◌, ◌+◌, ◌-◌, ◌*◌, ◌%◌, ◌<◌, ◌≤◌, [], ◌++◌, length, IfOk, IfErr, OnOk};
+ghost use Rattle.std.specs.Prelude.{◌≡◌, ◌⊎◌, ◌+◌, ◌*◌, ◌%◌, ◌<◌, ◌≤◌, [], ◌++◌, length, IfOk, IfErr, OnOk};
 ghost use Rattle.qoi.specs.Errors.{IsIoError};
 ghost use Rattle.qoi.specs.Qoi.{pixels_max};
-ghost use Rattle.qoi.specs.pieces.WriterPieces.{appended};
 ghost use Rattle.qoi.specs.declared.encode.piece.TheConstants.{FULL_ROOM};
-ghost use Rattle.qoi.specs.writers.Writes.{AppendsBeginning};
+ghost use Rattle.qoi.specs.declared.encode.pixel_writer.kept.TheConstants.{HELD_MOST};
+ghost use Rattle.qoi.specs.writers.Writes.{AppendsBeginning, WroteBeginning};
 ghost use Rattle.qoi.specs.inner.Piece.{kept_bytes};
-ghost use Rattle.qoi.specs.inner.Sending.{WroteWhole, StaysIn, pixel_size, GoesOn, BreaksOff, Ends, EndsEarly, HasRoom};
+ghost use Rattle.qoi.specs.inner.Sending.{appended, pixel_size, EndsOpaque, StaysIn, IsReady, WroteWhole, GoesOn, BreaksOff, Ends};
 
 use crate::encode::chunks::{write_end, write_whole};
 use crate::encode::pending::Pending;
@@ -40,18 +40,13 @@ fn send_whole<'a, 'p, W: Writer>(
     piece: OpenPiece<'p, FULL_ROOM>,
     data: &'a [u8],
 ) -> Result<(&'a [u8], OpenPiece<'p, FULL_ROOM>)>
-    requires whole { length «data».now % pixel_size pending.old ≡ 0 }
-    requires opaque { pixel_size pending.old ≡ 3 → pending.old.last.px.a ≡ 255 }
-    requires room { HasRoom (W.room writer.old) FULL_ROOM (pixel_size pending.old)
-        pending.old.style pending.old (kept_bytes piece.piece) «data».now }
-    ensures stays { StaysIn (pixel_size pending.old) pending.old pending.new }
+    requires { IsReady (W.room writer.old) FULL_ROOM pending.old (kept_bytes piece.piece) «data».now }
+    ensures stays { StaysIn pending.old pending.new }
     ensures written { IfOk result (λ r. WroteWhole W.wrote W.room FULL_ROOM
-        (pixel_size pending.old) pending.old.style
         writer.old pending.old (kept_bytes piece.entry.piece) «data».entry.now
         writer.new pending.new (kept_bytes r.1.piece) r.0.now) }
-    ensures refused { IfErr result (λ e. W.IsFault e × BreaksOff W.wrote
-        (pixel_size pending.old) pending.old.style
-        writer.old pending.old (kept_bytes piece.entry.piece) «data».entry.now writer.new) }
+    ensures refused { IfErr result (λ e. W.IsFault e × BreaksOff W.wrote writer.old pending.old
+        (kept_bytes piece.entry.piece) «data».entry.now writer.new) }
 {
     write_whole(writer, pending, piece, data)
 }
@@ -65,25 +60,19 @@ fn write_more<'a, 'p, W: Writer>(
     piece: OpenPiece<'p, FULL_ROOM>,
     raw: &'a [u8],
 ) -> Result<(&'a [u8], OpenPiece<'p, FULL_ROOM>)>
-    requires opaque { pixel_size came.old.pending ≡ 3 → came.old.pending.last.px.a ≡ 255 }
-    requires enough { (16 * pixel_size came.old.pending - length came.old.held
-        % (16 * pixel_size came.old.pending)) % (16 * pixel_size came.old.pending)
-        ≤ length raw.now }
-    requires block { length came.old.held ≡ 0 → 16 * pixel_size came.old.pending ≤ length raw.now }
+    requires opaque { EndsOpaque came.old.pending }
+    requires many { (HELD_MOST < 2 * length raw.now)
+        ⊎ (HELD_MOST < length came.old.held + length raw.now) }
     requires room { FULL_ROOM * (length came.old.held + length raw.now + 1) ≤ W.room writer.old }
-    ensures stays { StaysIn (pixel_size came.old.pending) came.old.pending came.new.pending }
+    ensures stays { StaysIn came.old.pending came.new.pending }
     ensures less { IfOk result (λ r. length came.new.held + length r.0.now
         < length came.old.held + length raw.entry.now) }
-    ensures count { IfOk result (λ r. (length came.new.held + length r.0.now)
-        % pixel_size came.old.pending
-        ≡ (length came.old.held + length raw.entry.now) % pixel_size came.old.pending) }
     ensures written { IfOk result (λ r. GoesOn W.wrote
-        (pixel_size came.old.pending) came.old.pending.style
         writer.old came.old.pending (kept_bytes piece.entry.piece) (came.old.held ++ raw.entry.now)
         writer.new came.new.pending (kept_bytes r.1.piece) (came.new.held ++ r.0.now)) }
-    ensures refused { IfErr result (λ e. W.IsFault e × BreaksOff W.wrote
-        (pixel_size came.old.pending) came.old.pending.style writer.old came.old.pending
-        (kept_bytes piece.entry.piece) (came.old.held ++ raw.entry.now) writer.new) }
+    ensures refused { IfErr result (λ e. W.IsFault e × BreaksOff W.wrote writer.old
+        came.old.pending (kept_bytes piece.entry.piece) (came.old.held ++ raw.entry.now)
+        writer.new) }
 {
     let n = usize::from(came.pending.channels.as_u8());
     if came.held.len() == 0 {
@@ -104,21 +93,14 @@ fn write_more<'a, 'p, W: Writer>(
 // Encodes what was held, then raw bytes until `Held` takes the rest, and sends the piece.
 #[inline(never)]
 fn take_raw<W: Write>(writer: &mut W, kept: &mut Kept, raw: &[u8]) -> Result<()>
-    requires opaque { pixel_size kept.old.came.pending ≡ 3
-        → kept.old.came.pending.last.px.a ≡ 255 }
+    requires opaque { EndsOpaque kept.old.came.pending }
     requires most { length kept.old.came.held + length raw.now ≤ 5 * pixels_max }
-    ensures stays { StaysIn (pixel_size kept.old.came.pending)
-        kept.old.came.pending kept.new.came.pending }
-    ensures count { OnOk result (length kept.new.came.held % pixel_size kept.old.came.pending
-        ≡ (length kept.old.came.held + length raw.now) % pixel_size kept.old.came.pending) }
+    ensures stays { StaysIn kept.old.came.pending kept.new.came.pending }
     ensures written { OnOk result (GoesOn appended
-        (pixel_size kept.old.came.pending) kept.old.came.pending.style
         (W.contents writer.old) kept.old.came.pending [] (kept.old.came.held ++ raw.now)
         (W.contents writer.new) kept.new.came.pending [] kept.new.came.held) }
-    ensures refused { IfErr result (λ e. IsIoError e × BreaksOff appended
-        (pixel_size kept.old.came.pending) kept.old.came.pending.style
-        (W.contents writer.old) kept.old.came.pending [] (kept.old.came.held ++ raw.now)
-        (W.contents writer.new)) }
+    ensures refused { IfErr result (λ e. IsIoError e × BreaksOff appended (W.contents writer.old)
+        kept.old.came.pending [] (kept.old.came.held ++ raw.now) (W.contents writer.new)) }
 {
     let came = &mut kept.came;
     let mut piece = Piece::<FULL_ROOM>::new(&mut kept.piece_bytes).open();
@@ -135,21 +117,14 @@ fn take_raw<W: Write>(writer: &mut W, kept: &mut Kept, raw: &[u8]) -> Result<()>
 /// Takes raw bytes of an image: holds them if `Held::takes` says so, else encodes them (`take_raw`).
 #[inline(always)]
 pub(super) fn take_any<W: Write>(writer: &mut W, kept: &mut Kept, raw: &[u8]) -> Result<()>
-    requires opaque { pixel_size kept.old.came.pending ≡ 3
-        → kept.old.came.pending.last.px.a ≡ 255 }
+    requires opaque { EndsOpaque kept.old.came.pending }
     requires most { length raw.now ≤ 4 * pixels_max }
-    ensures stays { StaysIn (pixel_size kept.old.came.pending)
-        kept.old.came.pending kept.new.came.pending }
-    ensures count { OnOk result (length kept.new.came.held % pixel_size kept.old.came.pending
-        ≡ (length kept.old.came.held + length raw.now) % pixel_size kept.old.came.pending) }
+    ensures stays { StaysIn kept.old.came.pending kept.new.came.pending }
     ensures written { OnOk result (GoesOn appended
-        (pixel_size kept.old.came.pending) kept.old.came.pending.style
         (W.contents writer.old) kept.old.came.pending [] (kept.old.came.held ++ raw.now)
         (W.contents writer.new) kept.new.came.pending [] kept.new.came.held) }
-    ensures refused { IfErr result (λ e. IsIoError e × BreaksOff appended
-        (pixel_size kept.old.came.pending) kept.old.came.pending.style
-        (W.contents writer.old) kept.old.came.pending [] (kept.old.came.held ++ raw.now)
-        (W.contents writer.new)) }
+    ensures refused { IfErr result (λ e. IsIoError e × BreaksOff appended (W.contents writer.old)
+        kept.old.came.pending [] (kept.old.came.held ++ raw.now) (W.contents writer.new)) }
 {
     if kept.came.held.takes(raw.len()) {
         kept.came.held.push(raw);
@@ -160,18 +135,11 @@ pub(super) fn take_any<W: Write>(writer: &mut W, kept: &mut Kept, raw: &[u8]) ->
 
 /// Writes an image's last raw bytes, which were held, and the end marker.
 pub(super) fn write_held<W: Write>(writer: &mut W, kept: &mut Kept) -> Result<()>
-    requires opaque { pixel_size kept.old.came.pending ≡ 3
-        → kept.old.came.pending.last.px.a ≡ 255 }
+    requires opaque { EndsOpaque kept.old.came.pending }
     requires whole { length kept.old.came.held % pixel_size kept.old.came.pending ≡ 0 }
-    ensures stays { StaysIn (pixel_size kept.old.came.pending)
-        kept.old.came.pending kept.new.came.pending }
-    ensures held { kept.new.came.held ≡ kept.old.came.held }
-    ensures written { OnOk result (Ends appended
-        (pixel_size kept.old.came.pending) kept.old.came.pending.style
-        (W.contents writer.old) kept.old.came.pending [] kept.old.came.held
-        (W.contents writer.new)) }
-    ensures refused { IfErr result (λ e. IsIoError e × EndsEarly appended
-        (pixel_size kept.old.came.pending) kept.old.came.pending.style
+    ensures written { OnOk result (Ends appended (W.contents writer.old)
+        kept.old.came.pending [] kept.old.came.held (W.contents writer.new)) }
+    ensures refused { IfErr result (λ e. IsIoError e × Ends (WroteBeginning appended)
         (W.contents writer.old) kept.old.came.pending [] kept.old.came.held
         (W.contents writer.new)) }
 {

@@ -1,79 +1,90 @@
 -- A piece at a time.
-use Rattle.std.proofs.Common.{◌≡◌, ◌-◌, ◌<◌, inl, inr, length, sym, ap, ◌∙◌, arith, subst}
+use Rattle.std.proofs.Common.{◌≡◌, ℕ, List, ◌++◌, ◌-◌, ◌%◌, ◌<◌, inl, inr, length, sym, ap, ◌∙◌, arith, subst}
 use Rattle.std.proofs.lemmas.Bool.{true≢false, cases_lt}
 use Rattle.std.proofs.lemmas.Result.{err_from_is_err_and}
 use Rattle.qoi.specs.declared.encode.pending.Pending.{Pending}
+use Rattle.qoi.specs.declared.types.Style.{Style}
+use Rattle.qoi.specs.Qoi.{channels_number}
 use Rattle.qoi.specs.Raw.{pixels_of}
 use Rattle.qoi.specs.writers.Writes.{WroteBut}
 use Rattle.qoi.specs.inner.CoderLoop.{CoderBetween}
 use Rattle.qoi.specs.inner.CoderState.{style_of}
 use Rattle.qoi.specs.inner.Piece.{kept_bytes}
 use Rattle.qoi.specs.inner.Pixels.{pixels_in}
-use Rattle.qoi.specs.inner.Sending.{GoesOn, HasRoom}
-use Rattle.qoi.proofs.encoding.piece.BytesAhead.{CoderGoes, then_on, then_breaks, sent_on, sent_part, stays, room_kept, room_left}
+use Rattle.qoi.specs.inner.Sending.{GoesOn, IsReady}
+use Rattle.qoi.proofs.decoding.ImageSize.{channels_are}
+use Rattle.qoi.proofs.encoding.piece.BytesAhead.{CoderGoes, then_on, then_breaks, sent_on, sent_part, stays, room_kept, still_ready}
 use Rattle.qoi.proofs.encoding.piece.ImagePieces.{bytes_in, few_bytes, fewer_bytes, whole_ahead}
-use Rattle.qoi.proofs.encoding.piece.PieceSent.{kept_length, sent_but, none_but}
+use Rattle.qoi.proofs.encoding.piece.PieceSent.{kept_length, sent_but}
+use Rattle.qoi.proofs.encoding.piece.WriterProgress.{none_but}
 use Rattle.qoi.proofs.encode.chunks.write_blocks.Given.{Over}
 use Rattle.qoi.proofs.encode.chunks.write_blocks.Goals.{After-has_block, After-write_some-filled, then-is_full+in_ok-send, else-is_full}
 use Rattle.qoi.proofs.encode.chunks.write_blocks.Goals as goal
 
+pub new-rest-requires : goal.new-rest-requires
+new-rest-requires g c =
+    (omega arith, (channels_are c.args.pending.now.channels g.row.N (sym c.requires.channels), ap (λ n. length c.args.data.now % n) (sym c.requires.channels) ∙ c.requires.ready.whole))
+
 pub loop-table-init : goal.loop-table-init
 loop-table-init g c =
-    let n = g.row.N in
     let p : Pending = c.args.pending.now in
-    let style = style_of g.row.STYLE in
     let kept = kept_bytes c.args.piece.piece in
     let raw = c.args.data.now in
     record {
-      opaque = c.requires.opaque;
       left = omega (arith, ap length c.new-rest.ensures);
-      room = subst (λ x. HasRoom (g.W.Writer.room c.args.writer.now) g.row.ROOM n style p kept x) (sym c.new-rest.ensures) c.requires.room;
-      written = subst (λ x. GoesOn g.W.Writer.wrote n style c.args.writer.now p kept raw c.args.writer.now p kept x) (sym c.new-rest.ensures) (stays (g.met.W.Writer.laws.nothing c.args.writer.now));
+      ready = subst (λ x. IsReady (g.W.Writer.room c.args.writer.now) g.row.ROOM p kept x) (sym c.new-rest.ensures) c.requires.ready;
+      written = subst (λ x. GoesOn g.W.Writer.wrote c.args.writer.now p kept raw c.args.writer.now p kept x) (sym c.new-rest.ensures)
+          (stays (g.met.W.Writer.laws.nothing c.args.writer.now) c.requires.ready.opaque);
     }
 
 -- some is written
 goes : (g : Over) (c : After-write_some-filled g)
-    → CoderGoes g.row.N (style_of g.row.STYLE) (record c.args.pending.now { table = c.loop-table.table; last = c.loop-table.last }) (kept_bytes c.loop-table.piece.piece) c.loop-table.rest.bytes.now
+    → CoderGoes (record c.args.pending.now { table = c.loop-table.table; last = c.loop-table.last }) (kept_bytes c.loop-table.piece.piece) c.loop-table.rest.bytes.now
     (record c.args.pending.now { table = c.write_some-filled.new.table; last = c.write_some-filled.new.last }) (kept_bytes c.write_some-filled.result.1) c.write_some-filled.result.0.bytes.now
-goes g c = record {
-  on = λ ahead more s.
-      (let n = g.row.N in
-      let rest = c.loop-table.rest in
-      let after = c.write_some-filled.result.0 in
-      subst (λ ps. CoderBetween (style_of g.row.STYLE) ahead ps c.write_some-filled.new.table c.write_some-filled.new.last (kept_bytes c.write_some-filled.result.1))
-      (sym (whole_ahead n after.bytes.now more after.channels after.whole))
-      (c.write_some-filled.ensures.written ahead (pixels_of n more)
-      (subst (λ ps. CoderBetween (style_of g.row.STYLE) ahead ps c.loop-table.table c.loop-table.last (kept_bytes c.loop-table.piece.piece))
-      (whole_ahead n rest.bytes.now more rest.channels rest.whole) s)));
-}
+goes g c =
+    let old = c.loop-table in
+    let rest = old.rest in
+    let new = c.write_some-filled in
+    let after = new.result.0 in
+    let Goes = λ (n : ℕ) (style : Style). (ahead more : List ℕ) → CoderBetween style ahead (pixels_of n (rest.bytes.now ++ more)) old.table old.last (kept_bytes old.piece.piece)
+    → CoderBetween style ahead (pixels_of n (after.bytes.now ++ more)) new.new.table new.new.last (kept_bytes new.result.1) in
+    let n = g.row.N in
+    let here : Goes n (style_of g.row.STYLE) = λ ahead more s.
+    subst (λ ps. CoderBetween (style_of g.row.STYLE) ahead ps new.new.table new.new.last (kept_bytes new.result.1)) (sym (whole_ahead n after.bytes.now more after.channels after.whole))
+    (new.ensures.written ahead (pixels_of n more)
+    (subst (λ ps. CoderBetween (style_of g.row.STYLE) ahead ps old.table old.last (kept_bytes old.piece.piece)) (whole_ahead n rest.bytes.now more rest.channels rest.whole) s)) in
+    record { on = subst (λ n. Goes n c.args.pending.now.style) (sym c.requires.channels) (subst (Goes n) (sym c.requires.style) here) }
 
 pub send-requires : goal.send-requires
 send-requires g c =
     let full = c.is_full.ensures.full c.if-is_full.true in
     let filled = c.write_some-filled.result.1 in
-    (omega arith, (full, (omega (arith, full, kept_length filled, room_kept c.loop-table.invariant.room (goes g (goal.at.send-requires g c).After-write_some-filled) (omega (arith, kept_length filled, filled.within))), c.requires.large)))
+    (omega arith, (full, (omega (arith, full, kept_length filled, room_kept c.loop-table.invariant.ready (goes g (goal.at.send-requires g c).After-write_some-filled) (omega (arith, kept_length filled, filled.within))), c.requires.ready.large)))
 
 pub loop-table-preserved : goal.loop-table-preserved
 loop-table-preserved g c =
     let laws = g.met.W.Writer.laws in
+    let wrote = g.W.Writer.wrote in
     let a = c.loop-table.writer in
     let old = c.write_some-filled.result.1 in
     let step = goes g (goal.at.loop-table-preserved g c).After-write_some-filled in
-    let kept : kept_bytes c.open-piece.result.piece ≡ kept_bytes c.if-is_full.filled = c.open-piece.ensures in
-    let but : WroteBut g.W.Writer.wrote a (kept_bytes old) (kept_bytes c.if-is_full.filled) c.if-is_full.writer = elim c.if-is_full.branch [
+    let but : WroteBut wrote a (kept_bytes old) (kept_bytes c.if-is_full.filled) c.if-is_full.writer = elim c.if-is_full.branch [
       | then-is_full+in_ok-send w ↦
-          sent_but laws a w.send.new.writer c.if-is_full.writer old w.send.new.self c.if-is_full.filled (g.row.ROOM - _) w.filled-is w.writer-is
+          sent_but a w.send.new.writer c.if-is_full.writer old w.send.new.self c.if-is_full.filled (g.row.ROOM - _) w.filled-is w.writer-is
           w.in_ok-send.ensures.written w.in_ok-send.ensures.kept
-      | else-is_full w ↦ none_but laws a c.if-is_full.writer old c.if-is_full.filled w.filled-is w.writer-is
+      | else-is_full w ↦ subst (λ s. WroteBut wrote a (kept_bytes old) (kept_bytes s) c.if-is_full.writer) (sym w.filled-is)
+          (subst (WroteBut wrote a (kept_bytes old) (kept_bytes old)) (sym w.writer-is) (none_but (laws.nothing a)))
     ] in
-    let now = subst (λ z. WroteBut g.W.Writer.wrote a (kept_bytes old) z c.if-is_full.writer) (sym kept) but in
+    let now = subst (λ z. WroteBut wrote a (kept_bytes old) z c.if-is_full.writer) (sym c.open-piece.ensures) but in
     let after = c.write_some-filled.result.0 in
     let fewer = fewer_bytes after c.loop-table.rest c.write_some-filled.ensures.less in
+    let whole = ap (λ n. length after.bytes.now % n) c.requires.channels ∙ after.whole in
+    let opaque = λ (three : channels_number c.args.pending.now.channels ≡ 3). c.write_some-filled.ensures.opaque (sym c.requires.channels ∙ three) in
     record {
-      opaque = c.write_some-filled.ensures.opaque;
       left = omega (arith, fewer, c.loop-table.invariant.left);
-      room = room_left c.loop-table.invariant.room now.front step (omega (arith, kept_length old, old.within)) now.split (laws.counts a c.if-is_full.writer now.front now.went) fewer;
-      written = then_on laws.both c.loop-table.invariant.written (sent_on step now);
+      ready = still_ready c.loop-table.invariant.ready now.front step (omega (arith, kept_length old, old.within)) now.split
+          (laws.counts a c.if-is_full.writer now.front now.went) fewer opaque whole;
+      written = then_on laws.both c.loop-table.invariant.written (sent_on step opaque (whole ∙ sym c.loop-table.invariant.ready.whole) now);
     }
 
 pub returns-in_err-send-clause-refused : goal.returns-in_err-send-clause-refused
@@ -91,11 +102,8 @@ returns-clause-written g c =
       | inr many ↦ absurd (true≢false (sym (c.has_block.ensures.1 many) ∙ c.loop-table-test.false))
     ] in
     record {
-      left_are = record {
-        few = omega (arith, bytes_in raw, few_bytes g.row.N (length (pixels_in raw)) raw.channels few);
-        within = c.loop-table.invariant.left;
-        whole = raw.whole;
-      };
-      has_room = c.loop-table.invariant.room;
+      few = omega (arith, bytes_in raw, few_bytes g.row.N (length (pixels_in raw)) raw.channels few, c.requires.channels);
+      within = c.loop-table.invariant.left;
+      ready = c.loop-table.invariant.ready;
       written = c.loop-table.invariant.written;
     }

@@ -30,9 +30,7 @@ loop-rest-preserved g c =
     }
 
 pub returns : goal.returns
-returns g c = record {
-  written = λ ahead b.
-      (let none : pixels_in c.loop-rest.rest ≡ [] = c.is_empty.ensures.0 c.loop-rest-test.false in
-      let end = subst (λ ps. CoderBetween c.loop-rest.self.style ahead ps c.loop-rest.table c.loop-rest.self.last (kept_bytes c.loop-rest.piece)) none (c.loop-rest.invariant.written ahead b) in
-      last_run end.to_write ∙ sym (c.append_run.ensures.kept (Run 1) refl));
-}
+returns g c = λ ahead b.
+    (let none : pixels_in c.loop-rest.rest ≡ [] = c.is_empty.ensures.0 c.loop-rest-test.false in
+    let end = subst (λ ps. CoderBetween c.loop-rest.self.style ahead ps c.loop-rest.table c.loop-rest.self.last (kept_bytes c.loop-rest.piece)) none (c.loop-rest.invariant.written ahead b) in
+    last_run end.to_write ∙ sym (c.append_run.ensures.kept (Run 1) refl))

@@ -1,5 +1,12 @@
 -- The coder starts.
+use Rattle.std.proofs.Common.{refl}
 use Rattle.qoi.proofs.encode.pending.Pending.new.Goals as goal
 
-pub returns-clause-state : goal.returns-clause-state
-returns-clause-state c = λ style. c.start.ensures.state style c.new.result c.new.ensures
+pub returns : goal.returns
+returns c = record {
+  channels_is = refl;
+  style_is = refl;
+  px_is = c.start.ensures.px;
+  none = c.start.ensures.none;
+  state = c.start.ensures.state c.args.style c.new.result c.new.ensures;
+}

@@ -16,7 +16,7 @@ returns-in_err-send_front-clause-refused g c =
     let full = g.row.ROOM - SPARE in
     rw (p.1, p.2) (
       r.0,
-      part_of_all g.met.W.Writer.laws c.args.writer.now c.send_front.new.writer full (kept_bytes s)
+      part_of_all full (kept_bytes s)
           (subst (λ z. WroteBeginning g.W.Writer.wrote c.args.writer.now z c.send_front.new.writer) (sym (take-take full s.end s.bytes.now c.requires.full)) r.1),
     )
 

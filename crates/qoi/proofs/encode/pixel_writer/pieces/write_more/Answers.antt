@@ -1,11 +1,8 @@
 -- Whole pixels are written: of what is held, or of what came.
-use Rattle.std.proofs.Common.{◌≡◌, ◌*◌, ◌+◌, ◌%◌, ◌-◌, ◌++◌, length, length-append, refl, sym, ap, ◌∙◌, arith, append_assoc, take-append-drop}
+use Rattle.std.proofs.Common.{◌≡◌, ◌++◌, sym, ap, ◌∙◌, arith, append_assoc, take-append-drop}
 use Rattle.std.proofs.lemmas.Result.{err_from_is_err_and}
-use Rattle.qoi.specs.Qoi.{channels_number}
-use Rattle.qoi.proofs.format.WholePixels.{by_channels}
-use Rattle.qoi.proofs.decoding.ImageSize.{channels_are}
 use Rattle.qoi.proofs.encoding.piece.BytesAhead.{goes_within, breaks_within}
-use Rattle.qoi.proofs.encoding.piece.ImagePieces.{none_held, whole_blocks}
+use Rattle.qoi.proofs.encoding.piece.ImagePieces.{none_held}
 use Rattle.qoi.proofs.encode.pixel_writer.pieces.write_more.Given.{Over}
 use Rattle.qoi.proofs.encode.pixel_writer.pieces.write_more.Goals.{After-send_whole, After-send_whole-2}
 use Rattle.qoi.proofs.encode.pixel_writer.pieces.write_more.Goals as goal
@@ -35,7 +32,7 @@ pub returns-then-len-eq0-clause-written : goal.returns-then-len-eq0-clause-writt
 returns-then-len-eq0-clause-written g c =
     let part = c.split_at.result.1.now in
     let left = c.in_ok-left.left.now in
-    goes_within part c.in_ok-left.ensures.written.written (came g (goal.at.returns-then-len-eq0-clause-written g c).After-send_whole)
+    goes_within part c.send_whole.ensures.stays.0 c.in_ok-left.ensures.written.written (came g (goal.at.returns-then-len-eq0-clause-written g c).After-send_whole)
     (ap (λ z. z ++ part) (c.push.ensures ∙ ap (λ z. z ++ left) (none_held c.args.came.now.held (omega (arith, c.len.ensures.count, c.if-len-eq0.true)))))
 
 pub returns-in_err-left-2-clause-refused : goal.returns-in_err-left-2-clause-refused
@@ -47,22 +44,5 @@ returns-in_err-left-2-clause-refused g c =
 pub returns-clause-written : goal.returns-clause-written
 returns-clause-written g c =
     let rest = c.split_at-2.result.1.now in
-    goes_within rest c.in_ok-left-2.ensures.written.written (held g (goal.at.returns-clause-written g c).After-send_whole-2)
+    goes_within rest c.send_whole-2.ensures.stays.0 c.in_ok-left-2.ensures.written.written (held g (goal.at.returns-clause-written g c).After-send_whole-2)
     (ap (λ z. z ++ rest) (c.replace.ensures ∙ c.copy_after-count.ensures.front))
-
-pub returns-clause-count : goal.returns-clause-count
-returns-clause-count g c =
-    let k = channels_number c.args.came.now.pending.channels in
-    let is = channels_are c.args.came.now.pending.channels k refl in
-    let split = c.split_at-2.ensures in
-    let h = length c.args.came.now.held in
-    let left = length c.in_ok-left-2.left.now in
-    let front = length c.split_at-2.result.0.now in
-    let rest = length c.split_at-2.result.1.now in
-    let n_is : c.from-n.result ≡ k = omega (arith, c.from-n.ensures, c.as_u8.ensures) in
-    let blocks = whole_blocks k h front is (split.front_len ∙ (λ i. (16 * n_is i - c.len-2.ensures.count i % (16 * n_is i)) % (16 * n_is i))) in
-    let same = by_channels (λ m. left % m ≡ 0 → (h + front) % m ≡ 0 → (left + rest) % m ≡ (h + (front + rest)) % m) is
-    (λ a b. omega (arith, a, b)) (λ a b. omega (arith, a, b)) in
-    let all : length c.args.raw.now ≡ front + rest = ap length (sym (take-append-drop _ c.args.raw.now) ∙ (λ i. sym split.front i ++ sym split.back i)) ∙ length-append c.split_at-2.result.0.now c.split_at-2.result.1.now in
-    ap (λ x. (length x + rest) % k) (c.replace.ensures ∙ c.copy_after-count.ensures.front) ∙ same c.in_ok-left-2.ensures.written.left_are.whole blocks
-    ∙ ap (λ x. (h + x) % k) (sym all)
