@@ -24,6 +24,11 @@ pub fn assert_given(rt: &impl Abort, given: Result<Vec<u8>>, bytes: &[u8]) {
     assert_bytes(rt, &given.expect(rt, "refused"), bytes);
 }
 
+/// Compares a part of a buffer that a call gives.
+pub fn assert_part(rt: &impl Abort, given: Result<&[u8]>, bytes: &[u8]) {
+    assert_bytes(rt, given.expect(rt, "refused"), bytes);
+}
+
 /// Compares the image that a decoder decodes into a vector.
 pub fn assert_decoded<R: Reader>(
     rt: &impl Abort,
