@@ -4,10 +4,8 @@ pub mod decodings;
 pub mod examples;
 pub mod generator;
 pub mod images;
-pub mod lists;
 pub mod made;
 pub mod plain;
-pub mod reference;
 
 use qoi::{Decoder, Error, Header, Reader, Result};
 use std::alloc::Global;
