@@ -2,12 +2,13 @@
 //! as the program sees it.
 
 mod fakes;
-mod large;
 mod library;
 mod refusals;
 mod uneven_reads;
 
-use crate::tests::fakes::{Bad, End, NONE, ONE_RGB_PIXEL, PIXEL, Sink, Source, take_memory};
+use crate::tests::fakes::{
+    Bad, End, FAULTS, NONE, ONE_RGB_PIXEL, PIXEL, Sink, Source, take_memory,
+};
 use crate::tests::library::support::examples::{
     BLACK_AS_PLACE, PLACE_RGBA, REPEAT, REPEAT_AS_PLACE, Written, files,
 };
@@ -104,13 +105,8 @@ fn the_program(rt: HostRuntime) {
     let file = ONE_RGB_PIXEL;
     assert_writes(&rt, alloc, &["info"], &file, LINE);
     assert_writes(&rt, alloc, &["dec"], &file, &PIXEL);
-    assert_writes(
-        &rt,
-        alloc,
-        &["dec", "rgba"],
-        &file,
-        &[0x0b, 0x79, 0xe7, 0xff],
-    );
+    let four = [0x0b, 0x79, 0xe7, 0xff];
+    assert_writes(&rt, alloc, &["dec", "rgba"], &file, &four);
     let place = PLACE_RGBA.image(&rt, alloc, Style::Reference);
     let three = [101, 102, 103, 1, 2, 3, 101, 102, 103];
     assert_writes(&rt, alloc, &["dec", "rgb"], &place.file, &three);
@@ -177,21 +173,17 @@ static STYLED: [Styled; 5] = [
     Styled { words: &["enc", "3", "1", "linear", "tight"], example: BLACK_AS_PLACE, space: 1 },
 ];
 
-// The image is encoded, and comes back.
-fn assert_styled(rt: &impl Abort, alloc: Global, styled: &Styled) {
-    let mut image = styled.example.image(rt, alloc, Style::Reference);
-    if let Some(space) = image.file.get_mut(13) {
-        *space = styled.space;
-    }
-    assert_writes(rt, alloc, styled.words, &image.raw, &image.file);
-    assert_writes(rt, alloc, &["dec"], &image.file, &image.raw);
-}
-
 // The file of each style, with its color space, and its way back.
 #[test]
 fn styles(rt: HostRuntime) {
+    let alloc = rt.alloc();
     for styled in &STYLED {
-        assert_styled(&rt, rt.alloc(), styled);
+        let mut image = styled.example.image(&rt, alloc, Style::Reference);
+        if let Some(space) = image.file.get_mut(13) {
+            *space = styled.space;
+        }
+        assert_writes(&rt, alloc, styled.words, &image.raw, &image.file);
+        assert_writes(&rt, alloc, &["dec"], &image.file, &image.raw);
     }
 }
 
@@ -205,11 +197,6 @@ fn beginnings(rt: HostRuntime) {
             assert_refuses(&rt, rt.alloc(), &["dec"], &image.file[..size], 1, line);
         }
     }
-}
-
-// The line of an i/o error.
-fn assert_line(rt: &impl Abort, line: &[u8]) {
-    assert!(rt; line.starts_with(b"qoi_tool: i/o error: ") && line.ends_with(b"\n"));
 }
 
 // Tests that the answer is a fault of this kind, and that its report is a line with status 1. If
@@ -231,7 +218,8 @@ fn assert_io(
     }
     let mut err = made::sink(rt, alloc, usize::MAX, NONE);
     assert_eq!(rt; report(&fault, &mut err), 1);
-    assert_line(rt, &err.got);
+    let line = err.got.as_slice();
+    assert!(rt; line.starts_with(b"qoi_tool: i/o error: ") && line.ends_with(b"\n"));
 }
 
 // The line of a header, and a cut header. The reader gives at most so many bytes a call.
@@ -259,38 +247,27 @@ fn header_lines(rt: HostRuntime) {
     assert_writes(&rt, alloc, &["info"], header, line);
 }
 
-// The program decodes from a reader that gives a byte a call, and fails at this one.
-fn assert_reader_stops(rt: &impl Abort, alloc: Global, bad: Bad, kind: ErrorKind) {
+// The program decodes from a reader that gives a byte a call, and fails at this one. Call 27 finds
+// the end, so a later one never comes.
+fn assert_reads(rt: &impl Abort, alloc: Global, bad: Bad, kind: ErrorKind) {
     let mut input = Source::new(&ONE_RGB_PIXEL, 1, bad);
     let mut output = made::sink(rt, alloc, usize::MAX, NONE);
     let answer = dec(alloc, &mut input, &mut output);
+    assert_number(rt, input.calls, bad.call.min(27));
+    if bad.call > 27 {
+        assert!(rt; answer.is_ok());
+        return;
+    }
     assert_io(rt, alloc, answer, kind, bad.call);
-    assert_number(rt, input.calls, bad.call);
     assert!(rt; output.got.is_empty());
-}
-
-// The bad call never comes: call 27 finds the end.
-fn assert_reader_ends(rt: &impl Abort, alloc: Global, end: End) {
-    let mut input = Source::new(&ONE_RGB_PIXEL, 1, Bad { call: 28, end });
-    let mut output = made::sink(rt, alloc, usize::MAX, NONE);
-    assert!(rt; dec(alloc, &mut input, &mut output).is_ok());
-    assert_number(rt, input.calls, 27);
 }
 
 #[test]
 fn failing_reader(rt: HostRuntime) {
-    let alloc = rt.alloc();
-    let ends = [
-        (End::Fault, ErrorKind::BrokenPipe),
-        (End::Interruption, ErrorKind::Interrupted),
-        (End::Late, ErrorKind::TimedOut),
-        (End::Named, ErrorKind::Other),
-    ];
-    for (end, kind) in ends {
-        for call in 1..28usize {
-            assert_reader_stops(&rt, alloc, Bad { call, end }, kind);
+    for (end, kind) in FAULTS {
+        for call in 1..29usize {
+            assert_reads(&rt, rt.alloc(), Bad { call, end }, kind);
         }
-        assert_reader_ends(&rt, alloc, end);
     }
 }
 
@@ -298,13 +275,8 @@ fn failing_reader(rt: HostRuntime) {
 #[test]
 fn own_words(rt: HostRuntime) {
     let alloc = rt.alloc();
-    let (bad, line) = (
-        Bad {
-            call: 1,
-            end: End::Named,
-        },
-        "qoi_tool: i/o error: x\n",
-    );
+    let end = End::Named;
+    let (bad, line) = (Bad { call: 1, end }, "qoi_tool: i/o error: x\n");
     let commands: [&[&str]; 3] = [&["dec"], &["dec", "rgba"], &["info"]];
     for words in commands {
         let mut input = Source::new(&ONE_RGB_PIXEL, usize::MAX, bad);
@@ -318,39 +290,27 @@ fn own_words(rt: HostRuntime) {
     }
 }
 
-// The program decodes to a writer that takes a byte a call, and fails after so many bytes.
-fn assert_writer_stops(rt: &impl Abort, alloc: Global, end: End, written: usize, kind: ErrorKind) {
-    let call = written.saturating_add(1);
+// The program decodes to a writer that takes a byte a call, and fails at this one. Three calls take
+// all, so a later one never comes.
+fn assert_sends(rt: &impl Abort, alloc: Global, bad: Bad, kind: ErrorKind) {
     let mut input = Source::new(&ONE_RGB_PIXEL, usize::MAX, NONE);
-    let mut output = made::sink(rt, alloc, 1, Bad { call, end });
+    let mut output = made::sink(rt, alloc, 1, bad);
     let answer = dec(alloc, &mut input, &mut output);
-    assert_io(rt, alloc, answer, kind, call);
-    assert_bytes(rt, &output.got, &PIXEL[..written.min(3)]);
-}
-
-// The bad call never comes: three calls take all.
-fn assert_writer_ends(rt: &impl Abort, alloc: Global, end: End) {
-    let mut input = Source::new(&ONE_RGB_PIXEL, usize::MAX, NONE);
-    let mut output = made::sink(rt, alloc, 1, Bad { call: 4, end });
-    assert!(rt; dec(alloc, &mut input, &mut output).is_ok());
-    assert_bytes(rt, &output.got, &PIXEL);
+    assert_bytes(rt, &output.got, &PIXEL[..bad.call.saturating_sub(1).min(3)]);
+    if bad.call > 3 {
+        assert!(rt; answer.is_ok());
+        return;
+    }
+    assert_io(rt, alloc, answer, kind, bad.call);
 }
 
 #[test]
 fn failing_writer(rt: HostRuntime) {
-    let alloc = rt.alloc();
-    let ends = [
-        (End::Fault, ErrorKind::BrokenPipe),
-        (End::Interruption, ErrorKind::Interrupted),
-        (End::Late, ErrorKind::TimedOut),
-        (End::Named, ErrorKind::Other),
-        (End::NoByte, ErrorKind::WriteZero),
-    ];
-    for (end, kind) in ends {
-        for written in 0..3usize {
-            assert_writer_stops(&rt, alloc, end, written, kind);
+    let no_byte = [(End::NoByte, ErrorKind::WriteZero)];
+    for (end, kind) in FAULTS.into_iter().chain(no_byte) {
+        for call in 1..5usize {
+            assert_sends(&rt, rt.alloc(), Bad { call, end }, kind);
         }
-        assert_writer_ends(&rt, alloc, end);
     }
 }
 

@@ -15,6 +15,13 @@ pub const ONE_RGB_PIXEL: [u8; 26] = [
     0, 1,
 ];
 
+/// The example `two_files_in_one_slice`: the same file, then the chunk 0x55, a difference from the
+/// start pixel, and an end marker.
+pub const TWO_FILES: [u8; 35] = [
+    0x71, 0x6f, 0x69, 0x66, 0, 0, 0, 1, 0, 0, 0, 1, 3, 0, 0xfe, 0x0b, 0x79, 0xe7, 0, 0, 0, 0, 0, 0,
+    0, 1, 0x55, 0, 0, 0, 0, 0, 0, 0, 1,
+];
+
 /// How a bad call ends.
 #[derive(Clone, Copy)]
 pub enum End {
@@ -29,6 +36,14 @@ pub enum End {
     /// No byte, and no error.
     NoByte,
 }
+
+/// Ways for a bad call to fail, and the kind of the error.
+pub const FAULTS: [(End, ErrorKind); 4] = [
+    (End::Fault, ErrorKind::BrokenPipe),
+    (End::Interruption, ErrorKind::Interrupted),
+    (End::Late, ErrorKind::TimedOut),
+    (End::Named, ErrorKind::Other),
+];
 
 /// Which call is the bad one, counted from 1 (0: none), and how it ends.
 #[derive(Clone, Copy)]
@@ -188,6 +203,14 @@ impl Write for Sink {
         self.calls = self.calls.saturating_add(1);
         Ok(())
     }
+}
+
+/// Takes all memory but for one block of `spare` bytes, or for none if that is 0.
+pub fn take_but(alloc: Global, spare: usize) -> Result<Vec<Vec<u8>>, AllocError> {
+    let block: Vec<u8> = Vec::with_capacity(alloc, spare)?;
+    let held = take_memory(alloc, 2)?;
+    drop(block);
+    Ok(held)
 }
 
 /// Takes memory in blocks of 2 to the power of 39 bytes until one is refused, then in blocks of

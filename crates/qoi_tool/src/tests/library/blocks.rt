@@ -40,56 +40,24 @@ fn assert_row(rt: &impl Abort, alloc: Global, channels: Channels, style: Style, 
     made::image(rt, alloc, header, style, pixels).check(rt, alloc);
 }
 
-// The next 1 to 70 pixels: one of four is a repeat, and of the others each is one of the three.
-fn draw(rt: &impl Abort, alloc: Global, numbers: &mut Numbers, letters: [Rgba; 3]) -> Vec<Rgba> {
-    let [mut px, _, _] = letters;
-    let mut pixels = Vec::new(alloc);
-    for _ in 0..1 + numbers.below(70) {
-        if let Some(drawn) = letters.get(numbers.below(4) as usize) {
-            px = *drawn;
-        }
-        pixels.push(px).expect(rt, "refused");
-    }
-    pixels
-}
-
-// Draws 6,000 images in each style, as many from each alphabet.
-#[test]
-fn drawn_rows(rt: HostRuntime) {
-    let mut numbers = Numbers::new(0x4_1a9e5);
-    for style in STYLES {
-        for alphabet in ALPHABETS {
-            for _ in 0..1000 {
-                let pixels = draw(&rt, rt.alloc(), &mut numbers, alphabet.pixels);
-                assert_row(&rt, rt.alloc(), alphabet.channels, style, &pixels);
-            }
-        }
-    }
-}
-
 // Fresh pixels, up to fifteen, and sixteen more, which are fresh where the pattern has a bit, and
-// else repeat. Each fresh one is one of the two that the one before isn't.
+// else repeat.
 fn patterned(
     rt: &impl Abort,
     alloc: Global,
     numbers: &mut Numbers,
     letters: [Rgba; 3],
-    pattern: u32,
-    ahead: u32,
+    (pattern, ahead): (u32, u32),
 ) -> Vec<Rgba> {
-    let [mut px, _, _] = letters;
-    let mut letter = 0;
-    let mut pixels = Vec::new(alloc);
+    let mut groups = Groups::new(alloc, letters);
     for lane in 0..ahead % 16 + 16 {
         if lane < ahead % 16 || (pattern >> (lane - ahead % 16)) % 2 == 1 {
-            letter = (letter % 3 + 1 + numbers.below(2)) % 3;
+            groups.add(rt, numbers, 0);
+        } else {
+            groups.repeat(rt);
         }
-        if let Some(drawn) = letters.get(letter as usize) {
-            px = *drawn;
-        }
-        pixels.push(px).expect(rt, "refused");
     }
-    pixels
+    groups.pixels
 }
 
 // All 65,536 patterns of fresh pixels and repeats in sixteen lanes, each in one of the styles, with
@@ -101,14 +69,8 @@ fn patterns(rt: HostRuntime) {
         let style = STYLES[numbers.below(3) as usize];
         let alphabet = ALPHABETS[numbers.below(6) as usize];
         let ahead = numbers.below(16);
-        let pixels = patterned(
-            &rt,
-            rt.alloc(),
-            &mut numbers,
-            alphabet.pixels,
-            pattern,
-            ahead,
-        );
+        let lanes = (pattern, ahead);
+        let pixels = patterned(&rt, rt.alloc(), &mut numbers, alphabet.pixels, lanes);
         assert_row(&rt, rt.alloc(), alphabet.channels, style, &pixels);
     }
 }

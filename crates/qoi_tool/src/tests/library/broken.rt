@@ -4,17 +4,16 @@ use crate::tests::library::support::decodings::{CUT, Decoding, after};
 use crate::tests::library::support::examples::files;
 use crate::tests::library::support::images::{Image, row};
 use crate::tests::library::support::{assert_bytes, assert_fails, assert_refused, made};
-use qoi::{Channels, Decoder, Reader, decode_header, decode_to_buf};
+use qoi::{Channels, Decoder, Reader, Style, decode_header, decode_to_buf};
 use std::alloc::Global;
 use std::io::ErrorKind;
 use std::process::Abort;
 
-// These bytes, taken as a file of the image, in its own channels.
-fn decoding<'a>(image: &Image, bytes: &'a [u8]) -> Decoding<'a> {
+// These bytes, taken as a file of the image.
+fn decoding<'a>(image: &'a Image, bytes: &'a [u8]) -> Decoding<'a> {
     Decoding {
         bytes,
-        header: image.header,
-        channels: image.header.channels,
+        ..image.decoding()
     }
 }
 
@@ -48,11 +47,10 @@ fn beginnings(rt: HostRuntime) {
 fn changed_markers(rt: HostRuntime) {
     for image in &files(&rt, rt.alloc()) {
         for back in 1..9usize {
-            let mut changed = made::bytes(&rt, rt.alloc(), &image.file);
+            let mut changed = made::joined(&rt, rt.alloc(), &image.file, &[0x78]);
             if let Some(byte) = changed.get_mut(image.file.len().saturating_sub(back)) {
                 *byte = byte.wrapping_add(1);
             }
-            changed.push(0x78).expect(&rt, "refused");
             decoding(image, &changed).check_wrong(&rt, rt.alloc(), &[0x78]);
         }
     }
@@ -64,8 +62,7 @@ fn followed(rt: HostRuntime) {
     let all: [&[u8]; 3] = [&[], &[0x78], &[0, 0, 0, 0, 0, 0, 0, 1, 0x78]];
     for image in &files(&rt, rt.alloc()) {
         for rest in all {
-            let mut bytes = made::bytes(&rt, rt.alloc(), &image.file);
-            made::append(&rt, &mut bytes, rest);
+            let bytes = made::joined(&rt, rt.alloc(), &image.file, rest);
             decoding(image, &bytes).check(&rt, rt.alloc(), &image.raw, rest);
         }
     }
@@ -126,25 +123,25 @@ fn largest_image(rt: HostRuntime) {
     assert_too_small(&rt, rt.alloc(), bytes, &mut [], text);
 }
 
+// A black row, and a file of these chunks.
+fn black_row(rt: &impl Abort, alloc: Global, width: u32, chunks: &[u8]) -> Image {
+    let header = row(width, Channels::Rgb);
+    Image {
+        header,
+        style: Style::Reference,
+        raw: made::filled(rt, alloc, 0, 3 * width as usize),
+        file: made::file(rt, alloc, header, chunks),
+    }
+}
+
 // The last run's surplus pixels are dropped; a chunk after it stands where the marker should.
 #[test]
 fn last_run(rt: HostRuntime) {
+    let alloc = rt.alloc();
+    let image = black_row(&rt, alloc, 100, &[0xfd, 0xfd]);
+    image.decoding().check(&rt, alloc, &image.raw, &[]);
     for (width, chunks) in [(1, &[0xc0, 0xc0][..]), (100, &[0xfd, 0xfd, 0xfd])] {
-        let header = row(width, Channels::Rgb);
-        let more = made::file(&rt, rt.alloc(), header, chunks);
-        let decoding = Decoding {
-            bytes: &more,
-            header,
-            channels: Channels::Rgb,
-        };
-        decoding.check_wrong(&rt, rt.alloc(), &[1]);
+        let image = black_row(&rt, alloc, width, chunks);
+        image.decoding().check_wrong(&rt, alloc, &[1]);
     }
-    let header = row(100, Channels::Rgb);
-    let file = made::file(&rt, rt.alloc(), header, &[0xfd, 0xfd]);
-    let decoding = Decoding {
-        bytes: &file,
-        header,
-        channels: Channels::Rgb,
-    };
-    decoding.check(&rt, rt.alloc(), &[0; 300], &[]);
 }

@@ -8,7 +8,7 @@ use crate::tests::library::support::{
 };
 use qoi::{Channels, Decoder, Error, Style};
 use std::alloc::Global;
-use std::io::{BufRead, BufReader, Cursor, ErrorKind};
+use std::io::{BufRead, Cursor, ErrorKind};
 use std::process::Abort;
 
 // A chunk of each kind: RGB, a run of 1, a difference of 1, a luma of 6, RGBA, and the index
@@ -66,18 +66,11 @@ fn assert_two_files<R: BufRead + Drop>(rt: &impl Abort, alloc: Global, reader: R
     assert_bytes(rt, &rest, &[0x78, 0x79]);
 }
 
-// A file twice, and two bytes.
-fn twice(rt: &impl Abort, alloc: Global, file: &[u8]) -> Vec<u8> {
-    let mut bytes = Vec::from_slice(alloc, file).expect(rt, "refused");
-    made::append(rt, &mut bytes, file);
-    made::append(rt, &mut bytes, &[0x78, 0x79]);
-    bytes
-}
-
 // A file twice and two bytes, from memory; from buffers of 0 to 47 bytes, which are filled at once
 // or by 1 to 7 bytes; and from readers that show 1 to 7 bytes at a time.
 fn assert_each_buffer(rt: &impl Abort, alloc: Global, file: &[u8], image: &[u8]) {
-    let bytes = twice(rt, alloc, file);
+    let mut bytes = made::joined(rt, alloc, file, file);
+    made::append(rt, &mut bytes, &[0x78, 0x79]);
     assert_two_files(rt, alloc, bytes.as_slice(), image);
     assert_two_files(rt, alloc, Cursor::new(bytes.as_slice()), image);
     for most in 1..=7usize {
@@ -85,11 +78,11 @@ fn assert_each_buffer(rt: &impl Abort, alloc: Global, file: &[u8], image: &[u8])
         assert_two_files(rt, alloc, Shown::new(source, NONE), image);
     }
     for capacity in 0..48usize {
-        let reader = BufReader::with_capacity(alloc, capacity, bytes.as_slice());
-        assert_two_files(rt, alloc, reader.expect(rt, "refused"), image);
+        let reader = made::buffer(rt, alloc, capacity, bytes.as_slice());
+        assert_two_files(rt, alloc, reader, image);
         let source = Source::new(&bytes, 1 + capacity % 7, NONE);
-        let reader = BufReader::with_capacity(alloc, capacity, source);
-        assert_two_files(rt, alloc, reader.expect(rt, "refused"), image);
+        let reader = made::buffer(rt, alloc, capacity, source);
+        assert_two_files(rt, alloc, reader, image);
     }
 }
 
@@ -120,8 +113,7 @@ fn drawn_images(rt: HostRuntime) {
 #[test]
 fn rest_of_the_buffer(rt: HostRuntime) {
     let alloc = rt.alloc();
-    let mut bytes = file(&rt, alloc);
-    made::append(&rt, &mut bytes, &[0x78, 0x79]);
+    let bytes = made::joined(&rt, alloc, &file(&rt, alloc), &[0x78, 0x79]);
     let source = Source::new(&bytes, 100, NONE);
     let reader = made::buffer(&rt, alloc, 100, source);
     let mut decoder = made::buffered(&rt, reader);
@@ -147,51 +139,41 @@ fn refusal_of(alloc: Global, reader: &mut Shown<'_>) -> Option<Error> {
     }
 }
 
-// Each call of `fill_buf` in turn is bad, and no call comes after a fault. Whole chunks were taken.
+// Each call in turn is bad, those of `read` or else those of `fill_buf`, and no call comes after a
+// fault. Before the first each call gave a byte at least, before the second whole chunks were taken.
 // Returns how many calls there are if none is bad.
-fn assert_bad_fills(
+fn assert_bad_calls(
     rt: &impl Abort,
     alloc: Global,
     file: &[u8],
-    most: usize,
-    end: End,
-    kind: ErrorKind,
+    (most, of_read): (usize, bool),
+    (end, kind): (End, ErrorKind),
 ) -> usize {
     for call in 1..100usize {
-        let mut reader = Shown::new(Source::new(file, most, NONE), Bad { call, end });
+        let bad = Bad { call, end };
+        let (read, fill) = if of_read { (bad, NONE) } else { (NONE, bad) };
+        let mut reader = Shown::new(Source::new(file, most, read), fill);
         let refusal = refusal_of(alloc, &mut reader);
         let taken = file.len().saturating_sub(reader.source.left.len());
-        if reader.fills < call {
+        let calls = if of_read {
+            reader.source.calls
+        } else {
+            reader.fills
+        };
+        if calls < call {
             assert!(rt; refusal.is_none() && taken == file.len());
-            return reader.fills;
+            return calls;
         }
         assert_fails(rt, refusal, kind);
-        assert!(rt; reader.fills == call && !reader.goes_on);
-        assert!(rt; taken > 14 && is_whole(taken));
-    }
-    0
-}
-
-// The same of the calls of `read`. Each of those before gave a byte at least.
-fn assert_bad_reads(
-    rt: &impl Abort,
-    alloc: Global,
-    file: &[u8],
-    most: usize,
-    end: End,
-    kind: ErrorKind,
-) -> usize {
-    for call in 1..100usize {
-        let mut reader = Shown::new(Source::new(file, most, Bad { call, end }), NONE);
-        let refusal = refusal_of(alloc, &mut reader);
-        let taken = file.len().saturating_sub(reader.source.left.len());
-        if reader.source.calls < call {
-            assert!(rt; refusal.is_none() && taken == file.len());
-            return reader.source.calls;
-        }
-        assert_fails(rt, refusal, kind);
-        assert!(rt; reader.source.calls == call && !reader.goes_on);
-        assert!(rt; taken < file.len() && taken >= call - 1 && (most > 1 || taken < call));
+        assert!(rt; calls == call && !reader.goes_on);
+        let each_gave = taken < file.len() && taken >= call - 1 && (most > 1 || taken < call);
+        assert!(rt;
+            if of_read {
+                each_gave
+            } else {
+                taken > 14 && is_whole(taken)
+            }
+        );
     }
     0
 }
@@ -202,11 +184,11 @@ fn assert_bad_reads(
 fn each_bad_call(rt: HostRuntime) {
     let alloc = rt.alloc();
     let file = file(&rt, alloc);
-    for (end, kind) in BAD_ENDS {
+    for bad in BAD_ENDS {
         for most in [1, 2, 3, 4, 5, 6, 7, 14, 20, 33, 100] {
-            let fills = assert_bad_fills(&rt, alloc, &file, most, end, kind);
+            let fills = assert_bad_calls(&rt, alloc, &file, (most, false), bad);
             assert!(rt; fills > 1);
-            let reads = assert_bad_reads(&rt, alloc, &file, most, end, kind);
+            let reads = assert_bad_calls(&rt, alloc, &file, (most, true), bad);
             assert!(rt;
                 if most == 1 {
                     reads == file.len()

@@ -1,9 +1,9 @@
 //! A caller for each way of using the library, proved by the contracts of its public calls alone.
-ghost use Rattle.std.specs.Prelude.{◌≡◌, ℕ, ◌+◌, ◌*◌, ◌≤◌, ◌++◌, List, Option, Some, Ok, IfOk, OnOk, IfErr, IsErrOf, length, map, drop, false};
-ghost use Rattle.std.specs.Io.KnownBytes.{Appends, Consumes};
+ghost use Rattle.std.specs.Prelude.{◌≡◌, ℕ, ◌+◌, ◌*◌, ◌≤◌, ◌++◌, List, Option, Some, Ok, IfOk, IfErr, IsErrOf, length, map, drop};
+ghost use Rattle.std.specs.Io.KnownBytes.{Consumes};
 ghost use Rattle.qoi.specs.declared.header.Header.{Header};
 ghost use Rattle.qoi.specs.declared.types.Style.TheVariants.{Reference, Tight};
-ghost use Rattle.qoi.specs.Qoi.{channels_number, header_bytes, header_of, pixel_count, header_size, IsValid, file};
+ghost use Rattle.qoi.specs.Qoi.{channels_number, header_bytes, pixel_count, header_size, IsValid, file};
 ghost use Rattle.qoi.specs.Encoded.{IsFileOf, IsShortest, Spans, OpensBlack, image_pixels};
 ghost use Rattle.qoi.specs.Raw.{without_fourth};
 ghost use Rattle.qoi_tool.specs.Files.{AreFiles};
@@ -12,41 +12,13 @@ ghost use Rattle.qoi.specs.writers.Writes.{AppendsBeginning};
 ghost use Rattle.qoi.specs.declared.chunk.Chunk.{Chunk};
 ghost use Rattle.qoi.specs.Decoding.{DecodesFile, ReadsImage, TakesHeader};
 ghost use Rattle.qoi.specs.Verdicts.{AreCut};
-ghost use Rattle.qoi.specs.Images.{file_image};
 
 use qoi::{
     Channels, Decoder, Encoder, Error, Header, Style, decode_to_buf, decode_to_vec, encode_to_buf,
     encode_to_vec,
 };
 use std::alloc::Global;
-use std::io::{BufRead, Read, Write};
-
-/// Buffer to buffer. The file of an image at the front of a buffer, and its length.
-pub fn pack(buf: &mut [u8], raw: &[u8], width: u32, height: u32) -> Result<usize, Error>
-    ensures { IfOk result (λ n. (h : Header) × (bytes : List ℕ) × IsFileOf Reference h raw.now bytes
-        × (n ≡ length bytes) × (buf.new ≡ bytes ++ drop n buf.old)) }
-{
-    let encoder = Encoder::new(raw, width, height)?;
-    let required = encoder.required_buf_len();
-    if buf.len() < required {
-        return Err(Error::OutputBufferTooSmall {
-            size: buf.len(),
-            required,
-        });
-    }
-    let size = encoder.encode_to_buf(buf)?;
-    Ok(size)
-}
-
-/// Stream out. The file of an image goes to a writer.
-pub fn send<W: Write>(raw: &[u8], width: u32, height: u32, out: &mut W) -> Result<usize, Error>
-    ensures { OnOk result ((h : Header) × (bytes : List ℕ) × IsFileOf Reference h raw.now bytes
-        × Appends (W.contents out.old) (W.contents out.new) bytes) }
-{
-    let encoder = Encoder::new(raw, width, height)?;
-    let size = encoder.encode_to_stream(out)?;
-    Ok(size)
-}
+use std::io::{Read, Write};
 
 /// Stream in. The raw bytes of the image that stands ahead of a reader, and the reader after it.
 pub fn receive<R: Read + Drop>(alloc: Global, reader: R) -> Result<(Vec<u8>, R), Error>
@@ -58,34 +30,6 @@ pub fn receive<R: Read + Drop>(alloc: Global, reader: R) -> Result<(Vec<u8>, R),
     let mut decoder = Decoder::from_stream(reader)?;
     let raw = decoder.decode_to_vec(alloc)?;
     Ok((raw, decoder.into_reader()))
-}
-
-/// The same from the reader's buffer.
-pub fn receive_buffered<R: BufRead + Drop>(alloc: Global, reader: R) -> Result<(Vec<u8>, R), Error>
-    ensures { IfOk result (λ x. (h : Header) × (middle : Option (List ℕ))
-        × TakesHeader (R.remaining reader) middle h
-        × ReadsImage (channels_number h.channels) (channels_number h.channels) (pixel_count h)
-        middle (R.remaining x.1) x.0.items) }
-{
-    let mut decoder = Decoder::from_buf_read(reader)?;
-    let raw = decoder.decode_to_vec(alloc)?;
-    Ok((raw, decoder.into_reader()))
-}
-
-/// A writer and a vector. What went to the writer is what the vector holds.
-pub fn send_and_keep<W: Write>(
-    alloc: Global,
-    raw: &[u8],
-    width: u32,
-    height: u32,
-    out: &mut W,
-) -> Result<Vec<u8>, Error>
-    ensures { IfOk result (λ file. Appends (W.contents out.old) (W.contents out.new) file.items) }
-{
-    let encoder = Encoder::new(raw, width, height)?;
-    let file = encoder.encode_to_vec(alloc)?;
-    encoder.encode_to_stream(out)?;
-    Ok(file)
 }
 
 /// Lengths of vectors. A decoded image has the bytes that its header says, and at least one pixel.
@@ -113,35 +57,6 @@ pub fn encoded_part<'a>(
 {
     let size = encode_to_buf(buf, raw, width, height)?;
     Ok(&buf[..size])
-}
-
-/// The part of a buffer that a file in style `Tight` was encoded into.
-pub fn tight_part<'a>(
-    buf: &'a mut [u8],
-    raw: &[u8],
-    width: u32,
-    height: u32,
-) -> Result<&'a [u8], Error>
-    ensures { IfOk result (λ file. (h : Header) × IsFileOf Tight h raw.now file.now) }
-{
-    let encoder = Encoder::new(raw, width, height)?.with_style(Style::Tight);
-    let size = encoder.encode_to_buf(buf)?;
-    Ok(&buf[..size])
-}
-
-/// A buffer and a vector, by the free calls. The front of the buffer is what the vector holds.
-pub fn pack_and_keep(
-    alloc: Global,
-    buf: &mut [u8],
-    raw: &[u8],
-    width: u32,
-    height: u32,
-) -> Result<Vec<u8>, Error>
-    ensures { IfOk result (λ file. buf.new ≡ file.items ++ drop (length file.items) buf.old) }
-{
-    let file = encode_to_vec(alloc, raw, width, height)?;
-    encode_to_buf(buf, raw, width, height)?;
-    Ok(file)
 }
 
 /// A buffer and a vector, by the methods, in any style.
@@ -179,21 +94,6 @@ pub fn keep_and_try<W: Write>(
     Ok((file, sent))
 }
 
-/// Styles. In `Places` the file is as long as in `Reference`.
-pub fn as_long(
-    alloc: Global,
-    raw: &[u8],
-    width: u32,
-    height: u32,
-) -> Result<(Vec<u8>, Vec<u8>), Error> {
-    let reference = encode_to_vec(alloc, raw, width, height)?;
-    let encoder = Encoder::new(raw, width, height)?.with_style(Style::Places);
-    let places = encoder.encode_to_vec(alloc)?;
-    let same = places.len() == reference.len();
-    prove!(same);
-    Ok((reference, places))
-}
-
 /// Styles. In `Tight` the file is no longer than in any other.
 pub fn no_longer(
     alloc: Global,
@@ -228,12 +128,6 @@ pub fn lengths<W: Write>(
     let no_longer = tight <= reference;
     prove!(no_longer);
     Ok((reference, places, tight))
-}
-
-/// Lengths of files. A file has a header: its fourteenth byte is there.
-pub fn space_byte(alloc: Global, raw: &[u8], width: u32, height: u32) -> Result<u8, Error> {
-    let file = Encoder::new(raw, width, height)?.encode_to_vec(alloc)?;
-    Ok(file[13])
 }
 
 /// Shortness. A file is at most four bytes longer than that of any regular list of the image, and
@@ -313,23 +207,6 @@ pub fn two_frames<R: Read + Drop>(alloc: Global, reader: R) -> Result<(Vec<u8>, 
     Ok((image, other))
 }
 
-/// The same from the reader's buffer.
-pub fn two_frames_buffered<R: BufRead + Drop>(
-    alloc: Global,
-    reader: R,
-) -> Result<(Vec<u8>, Vec<u8>), Error>
-    ensures { (style other : Style) (h k : Header) (raw last one two : List ℕ)
-        → IsFileOf style h raw one → IsFileOf other k last two
-        → R.remaining reader ≡ Some (one ++ two)
-        → IfOk result (λ x. (x.0.items ≡ raw) × (x.1.items ≡ last)) }
-{
-    let mut first = Decoder::from_buf_read(reader)?;
-    let image = first.decode_to_vec(alloc)?;
-    let mut second = Decoder::from_buf_read(first.into_reader())?;
-    let other = second.decode_to_vec(alloc)?;
-    Ok((image, other))
-}
-
 /// Memory. The raw bytes of a file are at most 248 for each of its bytes.
 pub fn bounded_bytes(alloc: Global, file: &[u8]) -> Result<Vec<u8>, Error>
     ensures { IfOk result (λ raw. length raw.items ≤ 248 * length file.now) }
@@ -345,21 +222,6 @@ pub fn at_most(alloc: Global, file: &[u8], most: usize) -> Result<Vec<u8>, Error
         × DecodesFile file.now h rest raw.items) }
 {
     let mut decoder = Decoder::new(file)?;
-    if decoder.required_buf_len() > most {
-        return Err(Error::OutOfMemory);
-    }
-    let raw = decoder.decode_to_vec(alloc)?;
-    Ok(raw)
-}
-
-/// Memory that is bounded first, from a reader. The image of the file that stands ahead, if the
-/// reader's bytes are known; and it has at most so many bytes.
-pub fn at_most_from<R: Read + Drop>(alloc: Global, reader: R, most: usize) -> Result<Vec<u8>, Error>
-    ensures image { (bytes : List ℕ) → R.remaining reader ≡ Some bytes
-        → IfOk result (λ raw. raw.items ≡ file_image bytes) }
-    ensures bounded { IfOk result (λ raw. length raw.items ≤ most) }
-{
-    let mut decoder = Decoder::from_stream(reader)?;
     if decoder.required_buf_len() > most {
         return Err(Error::OutOfMemory);
     }

@@ -2,24 +2,17 @@
 //! a test is proved in more than twice the time if it has twice the facts.
 use crate::tests::fakes::{Bad, End, ONE_RGB_PIXEL, PIXEL, Sink};
 use crate::tests::library::callers::{
-    all_images, as_long, at_most, at_most_from, both_channels, both_images, bounded_bytes,
-    decoded_part, encoded_part, first_byte, header_ahead, keep_and_try, lengths, more_needed,
-    near_shortest, no_longer, pack, pack_and_keep, pack_and_keep_in, receive, receive_buffered,
-    send, send_and_keep, shortest, space_byte, tight_part, two_frames, two_frames_buffered,
+    all_images, at_most, both_channels, both_images, bounded_bytes, decoded_part, encoded_part,
+    first_byte, header_ahead, keep_and_try, lengths, more_needed, near_shortest, no_longer,
+    pack_and_keep_in, receive, shortest, two_frames,
 };
 use crate::tests::library::support::images::{file_of, row};
 use crate::tests::library::support::{
-    assert_both, assert_bytes, assert_count, assert_cut, assert_fails, assert_given, assert_header,
-    assert_no_memory, assert_number,
+    assert_both, assert_bytes, assert_cut, assert_fails, assert_given, assert_header,
+    assert_no_memory, assert_number, assert_part,
 };
-use qoi::{Channels, Error, Header, Result, Style};
+use qoi::{Channels, Error, Header, Style};
 use std::io::ErrorKind;
-use std::process::Abort;
-
-// Compares a part of a buffer that a caller gives.
-fn assert_part(rt: &impl Abort, given: Result<&[u8]>, bytes: &[u8]) {
-    assert_bytes(rt, given.expect(rt, "refused"), bytes);
-}
 
 // The file twice.
 fn files() -> [u8; 52] {
@@ -41,15 +34,6 @@ fn vectors(rt: HostRuntime) {
     let alloc = rt.alloc();
     assert_given(&rt, near_shortest(alloc, &PIXEL, 1, 1), &ONE_RGB_PIXEL);
     assert_given(&rt, shortest(alloc, &PIXEL, 1, 1), &ONE_RGB_PIXEL);
-    assert!(rt; matches!(space_byte(alloc, &PIXEL, 1, 1), Ok(0)));
-}
-
-#[test]
-fn buffers(rt: HostRuntime) {
-    let mut buf = [0xaa; 27];
-    assert!(rt; matches!(pack(&mut buf, &PIXEL, 1, 1), Ok(26)));
-    assert_bytes(&rt, &buf[..26], &ONE_RGB_PIXEL);
-    assert_bytes(&rt, &buf[26..], &[0xaa]);
 }
 
 #[test]
@@ -57,38 +41,14 @@ fn parts_of_buffers(rt: HostRuntime) {
     let mut buf = [0xaa; 27];
     assert_part(&rt, decoded_part(&mut buf, &ONE_RGB_PIXEL), &PIXEL);
     assert_part(&rt, encoded_part(&mut buf, &PIXEL, 1, 1), &ONE_RGB_PIXEL);
-    assert_part(&rt, tight_part(&mut buf, &PIXEL, 1, 1), &ONE_RGB_PIXEL);
 }
 
 #[test]
 fn buffers_and_vectors(rt: HostRuntime) {
     let mut buf = [0xaa; 27];
-    let file = pack_and_keep(rt.alloc(), &mut buf, &PIXEL, 1, 1);
-    assert_given(&rt, file, &ONE_RGB_PIXEL);
-    assert!(rt; buf.starts_with(&ONE_RGB_PIXEL));
-}
-
-#[test]
-fn buffers_and_vectors_in_a_style(rt: HostRuntime) {
-    let mut buf = [0xaa; 27];
     let file = pack_and_keep_in(rt.alloc(), &mut buf, &PIXEL, 1, 1, Style::Tight);
     assert_given(&rt, file, &ONE_RGB_PIXEL);
     assert!(rt; buf.starts_with(&ONE_RGB_PIXEL));
-}
-
-#[test]
-fn writers(rt: HostRuntime) {
-    let mut sent = Vec::new(rt.alloc());
-    assert_count(&rt, send(&PIXEL, 1, 1, &mut sent), 26);
-    assert_bytes(&rt, &sent, &ONE_RGB_PIXEL);
-}
-
-#[test]
-fn writers_and_vectors(rt: HostRuntime) {
-    let mut sent = Vec::new(rt.alloc());
-    let file = send_and_keep(rt.alloc(), &PIXEL, 1, 1, &mut sent);
-    assert_given(&rt, file, &ONE_RGB_PIXEL);
-    assert_bytes(&rt, &sent, &ONE_RGB_PIXEL);
 }
 
 #[test]
@@ -118,8 +78,6 @@ fn readers_of_images(rt: HostRuntime) {
     let pixel = PIXEL.as_slice();
     let received = receive(rt.alloc(), ONE_RGB_PIXEL.as_slice());
     assert!(rt; matches!(&received, Ok((raw, left)) if raw.as_slice() == pixel && left.is_empty()));
-    let received = receive_buffered(rt.alloc(), ONE_RGB_PIXEL.as_slice());
-    assert!(rt; matches!(&received, Ok((raw, left)) if raw.as_slice() == pixel && left.is_empty()));
 }
 
 // Opaque black that comes back is spelled out by three more bytes than an index position, which
@@ -133,7 +91,6 @@ fn styles(rt: HostRuntime) {
     let named = [0xc0, 0xfe, 0x65, 0x66, 0x67, 0x35];
     let spelled = file_of(&rt, alloc, row(3, Channels::Rgb), &spelled);
     let named = file_of(&rt, alloc, row(3, Channels::Rgb), &named);
-    assert_both(&rt, as_long(alloc, &BLACK, 3, 1), &spelled, &spelled);
     let other = no_longer(alloc, &BLACK, 3, 1, Style::Places);
     assert_both(&rt, other, &spelled, &named);
 }
@@ -157,12 +114,6 @@ fn frames_come_back(rt: HostRuntime) {
 }
 
 #[test]
-fn buffered_frames_come_back(rt: HostRuntime) {
-    let frames = two_frames_buffered(rt.alloc(), files().as_slice());
-    assert_both(&rt, frames, &PIXEL, &PIXEL);
-}
-
-#[test]
 fn files_until_one_is_refused(rt: HostRuntime) {
     let images = all_images(rt.alloc(), &files()).expect(&rt, "refused");
     assert_number(&rt, images.len(), 2);
@@ -181,13 +132,6 @@ fn channels_and_bounds(rt: HostRuntime) {
     let alloc = rt.alloc();
     assert_given(&rt, at_most(alloc, &ONE_RGB_PIXEL, 3), &PIXEL);
     assert_no_memory(&rt, at_most(alloc, &ONE_RGB_PIXEL, 2));
-    assert_given(
-        &rt,
-        at_most_from(alloc, ONE_RGB_PIXEL.as_slice(), 3),
-        &PIXEL,
-    );
-    let small = at_most_from(alloc, ONE_RGB_PIXEL.as_slice(), 2);
-    assert_no_memory(&rt, small);
     let both = both_channels(alloc, &ONE_RGB_PIXEL);
     assert_both(&rt, both, &PIXEL, &[0x0b, 0x79, 0xe7, 255]);
     let cut = more_needed(alloc, &ONE_RGB_PIXEL[..25]);

@@ -13,14 +13,11 @@ fn assert_encodes(
     (first, rest): (&[u8], &[u8]),
     (chunks, last): (&[u8], &[u8]),
 ) {
-    let mut raw = made::bytes(rt, alloc, first);
-    made::append(rt, &mut raw, rest);
-    let mut all = made::bytes(rt, alloc, chunks);
-    made::append(rt, &mut all, last);
+    let all = made::joined(rt, alloc, chunks, last);
     let image = Image {
         header,
         style: Style::Reference,
-        raw,
+        raw: made::joined(rt, alloc, first, rest),
         file: made::file(rt, alloc, header, &all),
     };
     image.check(rt, alloc);

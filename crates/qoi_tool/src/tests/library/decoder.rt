@@ -1,11 +1,9 @@
 //! Files that are decoded, by example.
-use crate::tests::fakes::{ONE_RGB_PIXEL, PIXEL};
-use crate::tests::library::support::decodings::{CUT, Decoding};
+use crate::tests::fakes::ONE_RGB_PIXEL;
+use crate::tests::library::support::decodings::Decoding;
 use crate::tests::library::support::examples::{Given, given_table};
 use crate::tests::library::support::images::row;
-use crate::tests::library::support::{
-    assert_bytes, assert_decoded, assert_number, assert_refused, made,
-};
+use crate::tests::library::support::{assert_bytes, assert_number, made};
 use qoi::{Channels, Header};
 use std::alloc::Global;
 use std::process::Abort;
@@ -41,8 +39,7 @@ fn given_examples(rt: HostRuntime) {
 
 #[test]
 fn cut_and_followed(rt: HostRuntime) {
-    let mut file = made::bytes(&rt, rt.alloc(), &ONE_RGB_PIXEL);
-    made::append(&rt, &mut file, &[0x78, 0x79]);
+    let file = made::joined(&rt, rt.alloc(), &ONE_RGB_PIXEL, &[0x78, 0x79]);
     let mut decoder = made::slice(&rt, &file);
     let mut buf = [0xaa; 5];
     assert_number(&rt, made::decoded(&rt, &mut decoder, &mut buf), 3);
@@ -54,23 +51,6 @@ fn cut_and_followed(rt: HostRuntime) {
         channels: Channels::Rgb,
     };
     cut.check_cut(&rt, rt.alloc());
-}
-
-// The second image is the chunk 0x55 alone, a difference from the start pixel.
-#[test]
-fn two_files_in_one_slice(rt: HostRuntime) {
-    let alloc = rt.alloc();
-    let second = [0x55, 0, 0, 0, 0, 0, 0, 0, 1];
-    let mut bytes = made::bytes(&rt, alloc, &ONE_RGB_PIXEL);
-    made::append(&rt, &mut bytes, &second);
-    let mut decoder = made::slice(&rt, &bytes);
-    assert_decoded(&rt, alloc, &mut decoder, &PIXEL);
-    assert_bytes(&rt, decoder.data(), &second);
-    assert_decoded(&rt, alloc, &mut decoder, &[0xff, 0xff, 0xff]);
-    assert_bytes(&rt, decoder.data(), &[]);
-    let third = decoder.decode_to_vec(alloc).err();
-    assert_refused(&rt, alloc, third, CUT);
-    assert_bytes(&rt, decoder.data(), &[]);
 }
 
 // One index chunk for each pixel.

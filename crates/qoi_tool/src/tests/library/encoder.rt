@@ -78,11 +78,8 @@ fn black_into(buf: &mut [u8]) -> Result<usize> {
 fn one_black_pixel(rt: HostRuntime) {
     let mut buf = [0xaa; 26];
     assert_count(&rt, black_into(&mut buf), 23);
-    assert_bytes(
-        &rt,
-        &buf[14..],
-        &[0xc0, 0, 0, 0, 0, 0, 0, 0, 1, 0xaa, 0xaa, 0xaa],
-    );
+    let end = [0xc0, 0, 0, 0, 0, 0, 0, 0, 1, 0xaa, 0xaa, 0xaa];
+    assert_bytes(&rt, &buf[14..], &end);
     let mut buf = [0xaa; 25];
     let text = "output buffer size too small: 25 (required: 26)";
     assert_refused(&rt, rt.alloc(), black_into(&mut buf).err(), text);
@@ -112,13 +109,11 @@ fn assert_reds(rt: &impl Abort, alloc: Global, but: u8, chunks: &[u8]) {
 #[test]
 fn all_positions_seen(rt: HostRuntime) {
     // Each is 1 more than the one before it; no position is left, and black is spelled out.
-    let mut chunks = made::bytes(&rt, rt.alloc(), &[0xff, 1, 0, 0, 0]);
-    made::append(&rt, &mut chunks, &[0x7a; 63]);
+    let mut chunks = made::joined(&rt, rt.alloc(), &[0xff, 1, 0, 0, 0], &[0x7a; 63]);
     made::append(&rt, &mut chunks, &[0xfe, 0, 0, 0]);
     assert_reds(&rt, rt.alloc(), 0, &chunks);
     // Red 22 is 2 more than red 20; position 63, that of red 21, is left.
-    let mut chunks = made::bytes(&rt, rt.alloc(), &[0xff, 1, 0, 0, 0]);
-    made::append(&rt, &mut chunks, &[0x7a; 19]);
+    let mut chunks = made::joined(&rt, rt.alloc(), &[0xff, 1, 0, 0, 0], &[0x7a; 19]);
     made::append(&rt, &mut chunks, &[0xa0, 0xa8]);
     made::append(&rt, &mut chunks, &[0x7a; 42]);
     chunks.push(0x3f).expect(&rt, "refused");

@@ -1,12 +1,12 @@
 //! Functions of one's own, each with a contract, that are put together: files and images are
 //! functions of each other's bytes. None has a proof file.
-ghost use Rattle.std.specs.Prelude.{◌≡◌, ◌*◌, ◌≤◌, ◌<◌, ℕ, List, length, Some, Ok, IfOk, IfErr};
+ghost use Rattle.std.specs.Prelude.{◌≡◌, ◌*◌, ◌<◌, ℕ, List, length, Some, Ok, IfOk, IfErr};
 ghost use Rattle.std.specs.Io.KnownBytes.{Appends};
 ghost use Rattle.qoi.specs.declared.error.Error.{Error};
 ghost use Rattle.qoi.specs.declared.header.Header.{Header};
 ghost use Rattle.qoi.specs.declared.types.Channels.{Channels};
 ghost use Rattle.qoi.specs.declared.types.Style.TheVariants.{Reference};
-ghost use Rattle.qoi.specs.Qoi.{IsValid, pixels_max};
+ghost use Rattle.qoi.specs.Qoi.{IsValid};
 ghost use Rattle.qoi.specs.Raw.{image_byte_count};
 ghost use Rattle.qoi.specs.Images.{file_image};
 ghost use Rattle.qoi.specs.Encoded.{image_file, image_header};
@@ -46,27 +46,13 @@ pub fn saved_and_loaded(
     load(alloc, &file)
 }
 
-/// Saved twice by a function that says which file it is: the same file.
+/// Saved by a function that says which file it is.
 pub fn save_as(alloc: Global, raw: &[u8], width: u32, height: u32) -> Result<Vec<u8>, Error>
     ensures { IfOk result (λ file. (h : Header) × (image_header raw.now width height ≡ Ok h)
         × (file.items ≡ image_file Reference h raw.now)) }
 {
     let file = encode_to_vec(alloc, raw, width, height)?;
     Ok(file)
-}
-
-/// The same file, by two functions of one's own.
-pub fn saved_twice(
-    alloc: Global,
-    raw: &[u8],
-    width: u32,
-    height: u32,
-) -> Result<(Vec<u8>, Vec<u8>), Error>
-    ensures { IfOk result (λ x. x.0.items ≡ x.1.items) }
-{
-    let first = save_as(alloc, raw, width, height)?;
-    let second = save_as(alloc, raw, width, height)?;
-    Ok((first, second))
 }
 
 /// To a writer: what was appended, by an equation.
@@ -153,16 +139,7 @@ pub fn of_right_length(
     }
 }
 
-/// They are refused only if memory runs out: three bytes for each pixel.
-pub fn of_size(alloc: Global, raw: &[u8], width: u32, height: u32) -> Result<Vec<u8>, Error>
-    ensures { 1 ≤ width * height → width * height ≤ pixels_max
-        → length raw.now ≡ width * height * 3 → IfErr result (λ e. e ≡ Error.OutOfMemory) }
-{
-    let file = encode_to_vec(alloc, raw, width, height)?;
-    Ok(file)
-}
-
-/// So are as many as a valid header says.
+/// They are refused only if memory runs out.
 pub fn of_header(alloc: Global, raw: &[u8], header: &Header) -> Result<Vec<u8>, Error>
     ensures { IsValid header.now → length raw.now ≡ image_byte_count header.now
         → IfErr result (λ e. e ≡ Error.OutOfMemory) }
@@ -200,7 +177,6 @@ fn right_lengths_are_accepted(rt: HostRuntime) {
 #[test]
 fn valid_sizes_are_accepted(rt: HostRuntime) {
     let alloc = rt.alloc();
-    assert_given(&rt, of_size(alloc, &PIXEL, 1, 1), &ONE_RGB_PIXEL);
     let file = of_header(alloc, &PIXEL, &Header::default());
     assert_given(&rt, file, &ONE_RGB_PIXEL);
 }
@@ -210,8 +186,6 @@ fn saved_by_functions_of_our_own(rt: HostRuntime) {
     let alloc = rt.alloc();
     assert_given(&rt, saved_and_loaded(alloc, &PIXEL, 1, 1), &PIXEL);
     assert_given(&rt, saved_as_and_loaded(alloc, &PIXEL, 1, 1), &PIXEL);
-    let twice = saved_twice(alloc, &PIXEL, 1, 1);
-    assert_both(&rt, twice, &ONE_RGB_PIXEL, &ONE_RGB_PIXEL);
 }
 
 #[test]

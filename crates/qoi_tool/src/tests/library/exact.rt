@@ -1,7 +1,7 @@
 //! Exactly files are decoded: what each call's clauses come to, call by call. A success means that
 //! a file stands at the front of the bytes; a file that stands there is refused only if memory, the
 //! buffer or the reader fails; and cut or wrong bytes have the error of their verdict.
-ghost use Rattle.std.specs.Prelude.{◌≡◌, ◌+◌, ◌*◌, ◌≤◌, ◌⊎◌, ◌++◌, ℕ, List, length, take, drop, Option, Some, Ok, IfOk, IfErr, IsErrAnd, IsErrOf, IsOk, IsOkAnd, IsOkUnless, IsTrue, MatchResult};
+ghost use Rattle.std.specs.Prelude.{◌≡◌, ◌+◌, ◌*◌, ◌≤◌, ◌⊎◌, ◌++◌, ℕ, List, length, take, drop, Some, Ok, IfOk, IfErr, IsErrAnd, IsErrOf, IsOk, IsOkUnless, IsTrue, MatchResult};
 ghost use Rattle.qoi.specs.declared.header.Header.{Header};
 ghost use Rattle.qoi.specs.declared.chunk.Chunk.{Chunk};
 ghost use Rattle.qoi.specs.declared.types.Style.{Style};
@@ -15,7 +15,9 @@ ghost use Rattle.qoi.specs.Encoded.{IsFileOf};
 ghost use Rattle.qoi.specs.Errors.{IsErrorOfCut, IsErrorOfWrong, IsIoError, IsReaderFault};
 
 use crate::tests::fakes::{ONE_RGB_PIXEL, PIXEL};
-use crate::tests::library::support::{assert_bytes, assert_given, assert_number, made};
+use crate::tests::library::support::{
+    assert_bytes, assert_count, assert_given, assert_header, made,
+};
 use qoi::laws::reading::files_are_read;
 use qoi::{Decoder, Error, Header, Reader, decode_to_buf, decode_to_vec};
 use std::alloc::Global;
@@ -107,18 +109,6 @@ pub fn buffer_ahead<R: Reader>(buf: &mut [u8], decoder: &mut Decoder<R>) -> Resu
     decoder.decode_to_buf(buf)
 }
 
-/// A slice's decoder, from its header on: a file is refused only if memory runs out.
-pub fn vector_of_slice(alloc: Global, data: &[u8]) -> Result<(Header, Vec<u8>), Error>
-    ensures { (h : Header) (cs : List Chunk) (rest : List ℕ) → IsFile h cs
-        → «data».now ≡ file h cs ++ rest
-        → MatchResult result (λ x. x.0 ≡ h) (λ e. e ≡ Error.OutOfMemory) }
-{
-    files_are_read();
-    let mut decoder = Decoder::new(data)?;
-    let raw = decoder.decode_to_vec(alloc)?;
-    Ok((*decoder.header(), raw))
-}
-
 /// A stream's decoder, from its header on: a file is refused only if memory runs out or the reader
 /// fails.
 pub fn vector_of_stream<R: Read + Drop>(
@@ -142,15 +132,8 @@ fn by_each_call(rt: HostRuntime) {
     let (_, raw) = vector_of_file(alloc, &ONE_RGB_PIXEL).expect(&rt, "refused");
     assert_bytes(&rt, &raw, &PIXEL);
     let mut buf = [0xaa; 4];
-    assert_number(
-        &rt,
-        buffer_of_file(&mut buf, &ONE_RGB_PIXEL)
-            .expect(&rt, "refused")
-            .n_bytes(),
-        3,
-    );
-    let (_, raw) = vector_of_slice(alloc, &ONE_RGB_PIXEL).expect(&rt, "refused");
-    assert_bytes(&rt, &raw, &PIXEL);
+    let header = buffer_of_file(&mut buf, &ONE_RGB_PIXEL);
+    assert_header(&rt, &header.expect(&rt, "refused"), &Header::default());
     let (_, raw) = vector_of_stream(alloc, ONE_RGB_PIXEL.as_slice()).expect(&rt, "refused");
     assert_bytes(&rt, &raw, &PIXEL);
 }
@@ -162,9 +145,5 @@ fn of_any_reader(rt: HostRuntime) {
     assert_given(&rt, vector_ahead(alloc, &mut slice), &PIXEL);
     let mut stream = made::stream(&rt, ONE_RGB_PIXEL.as_slice());
     let mut buf = [0xaa; 4];
-    assert_number(
-        &rt,
-        buffer_ahead(&mut buf, &mut stream).expect(&rt, "refused"),
-        3,
-    );
+    assert_count(&rt, buffer_ahead(&mut buf, &mut stream), 3);
 }

@@ -1,28 +1,20 @@
 //! Allocations that are refused, and the calls that take no memory.
-use crate::tests::fakes::{ONE_RGB_PIXEL, PIXEL, take_memory};
+use crate::tests::fakes::{ONE_RGB_PIXEL, PIXEL, take_but, take_memory};
 use crate::tests::library::support::decodings::CUT;
 use crate::tests::library::support::images::row;
 use crate::tests::library::support::{
-    assert_bytes, assert_decoded, assert_given, assert_header, assert_no_memory, assert_number,
-    assert_refused, made,
+    assert_bytes, assert_count, assert_decoded, assert_given, assert_header, assert_no_memory,
+    assert_number, assert_refused, made,
 };
 use qoi::{
     Channels, ColorSpace, Decoder, Header, Reader, Result, decode_header, decode_to_buf,
     decode_to_vec, encode_to_buf, encode_to_vec,
 };
-use std::alloc::{AllocError, Global};
+use std::alloc::Global;
 use std::io::Cursor;
 use std::process::Abort;
 
 const REFUSED: &str = "out of memory";
-
-// Takes all memory but for one block of `spare` bytes, or for none if that is 0.
-fn take_but(alloc: Global, spare: usize) -> std::result::Result<Vec<Vec<u8>>, AllocError> {
-    let block: Vec<u8> = Vec::with_capacity(alloc, spare)?;
-    let held = take_memory(alloc, 2)?;
-    drop(block);
-    Ok(held)
-}
 
 // Decodes while all memory is taken but for one block of `spare` bytes.
 fn starved<R: Reader>(alloc: Global, decoder: &mut Decoder<R>, spare: usize) -> Result<Vec<u8>> {
@@ -53,16 +45,11 @@ fn assert_allocations(rt: &impl Abort, alloc: Global, file: &[u8], header: &Head
     assert_one_allocation(rt, alloc, &mut made::buffered(rt, file), header, raw);
 }
 
+// A vector that grows by several steps is allocated once, too.
 #[test]
 fn each_allocation_of_decode_to_vec(rt: HostRuntime) {
     let alloc = rt.alloc();
     assert_allocations(&rt, alloc, &ONE_RGB_PIXEL, &Header::default(), &PIXEL);
-}
-
-// A vector that grows by several steps is allocated once.
-#[test]
-fn each_allocation_of_steps(rt: HostRuntime) {
-    let alloc = rt.alloc();
     let header = row(50_000, Channels::Rgb);
     let raw = made::filled(&rt, alloc, 9, 150_000);
     let file = made::encoded(&rt, alloc, &raw, 50_000, 1);
@@ -82,11 +69,8 @@ fn starved_file(alloc: Global, spare: usize) -> Result<Vec<u8>> {
 fn each_allocation_of_encode_to_vec(rt: HostRuntime) {
     let alloc = rt.alloc();
     assert_refused(&rt, alloc, starved_file(alloc, 0).err(), REFUSED);
-    assert_given(
-        &rt,
-        starved_file(alloc, ONE_RGB_PIXEL.len()),
-        &ONE_RGB_PIXEL,
-    );
+    let file = starved_file(alloc, ONE_RGB_PIXEL.len());
+    assert_given(&rt, file, &ONE_RGB_PIXEL);
 }
 
 // The header of an image of 20000 by 20000 pixels.
@@ -130,31 +114,31 @@ fn too_few_bytes(rt: HostRuntime) {
 // Encodes the pixel by the calls that take no memory.
 fn assert_encodes(rt: &impl Abort) {
     let mut file = [0xaa; 26];
-    let size = encode_to_buf(&mut file, &PIXEL, 1, 1).expect(rt, "refused");
-    assert_number(rt, size, 26);
+    assert_count(rt, encode_to_buf(&mut file, &PIXEL, 1, 1), 26);
     assert_bytes(rt, &file, &ONE_RGB_PIXEL);
     let mut file = [0xaa; 26];
     let encoder = made::encoder(rt, &PIXEL, 1, 1);
     let sent = encoder.encode_to_stream(&mut file.as_mut_slice());
-    assert_number(rt, sent.expect(rt, "refused"), 26);
+    assert_count(rt, sent, 26);
     assert_bytes(rt, &file, &ONE_RGB_PIXEL);
 }
 
-// Decodes the file of the pixel by the calls that take no memory.
-fn assert_decodes(rt: &impl Abort) {
+// Decodes the pixel into a buffer.
+fn assert_decodes<R: Reader>(rt: &impl Abort, decoder: &mut Decoder<R>) {
     let mut buf = [0xaa; 3];
-    let header = decode_to_buf(&mut buf, &ONE_RGB_PIXEL).expect(rt, "refused");
-    let own = decode_header(&ONE_RGB_PIXEL).expect(rt, "refused");
+    assert_number(rt, made::decoded(rt, decoder, &mut buf), 3);
+    assert_bytes(rt, &buf, &PIXEL);
+}
+
+// Decodes the file of the pixel by the calls that take no memory.
+fn assert_decodes_file(rt: &impl Abort, file: &[u8]) {
+    let mut buf = [0xaa; 3];
+    let header = decode_to_buf(&mut buf, file).expect(rt, "refused");
+    let own = decode_header(file).expect(rt, "refused");
     assert_header(rt, &own, &header);
     assert_bytes(rt, &buf, &PIXEL);
-    let mut buf = [0xaa; 3];
-    let mut stream = made::stream(rt, &ONE_RGB_PIXEL[..]);
-    assert_number(rt, made::decoded(rt, &mut stream, &mut buf), 3);
-    assert_bytes(rt, &buf, &PIXEL);
-    let mut buf = [0xaa; 3];
-    let mut buffered = made::buffered(rt, &ONE_RGB_PIXEL[..]);
-    assert_number(rt, made::decoded(rt, &mut buffered, &mut buf), 3);
-    assert_bytes(rt, &buf, &PIXEL);
+    assert_decodes(rt, &mut made::stream(rt, file));
+    assert_decodes(rt, &mut made::buffered(rt, file));
 }
 
 // The clone of a reader that owns its bytes takes memory.
@@ -171,7 +155,7 @@ fn calls_without_memory(rt: HostRuntime) {
     let mut decoder = made::stream(&rt, Cursor::new(file));
     let held = take_memory(alloc, 2).expect(&rt, "refused");
     assert_encodes(&rt);
-    assert_decodes(&rt);
+    assert_decodes_file(&rt, &ONE_RGB_PIXEL);
     assert_clone_is_refused(&rt, &decoder);
     drop(held);
     assert_decoded(&rt, alloc, &mut decoder, &PIXEL);

@@ -1,6 +1,7 @@
 //! Each kind of chunk after each other kind, at each of 64 offsets; lists of one kind that end
-//! anywhere; long runs near the end; each alpha after RGB chunks; index positions that are named as
-//! soon as a pixel was put there. The pixels are known from the rules by which the chunks are made.
+//! anywhere, are followed by other bytes, and are cut; long runs near the end; each alpha after RGB
+//! chunks; index positions that are named as soon as a pixel was put there. The pixels are known
+//! from the rules by which the chunks are made.
 use crate::tests::library::support::decodings::Decoding;
 use crate::tests::library::support::generator::{Rgba, START, place};
 use crate::tests::library::support::images::row;
@@ -35,6 +36,11 @@ fn seen(pixels: &[Rgba], i: usize) -> Rgba {
     }
     found
 }
+
+// What follows a file: bytes that begin with chunks.
+const REST: [u8; 20] = [
+    0xfd, 0xff, 1, 2, 3, 4, 0xfe, 5, 6, 7, 0x9f, 0x33, 0x6b, 0x35, 0xc0, 0, 0, 0, 0, 1,
+];
 
 // Chunks, and the pixels that they mean.
 #[derive(Drop)]
@@ -121,6 +127,13 @@ impl List {
         }
     }
 
+    // Adds `n` chunks of a kind.
+    pub fn add_many(&mut self, rt: &impl Abort, kind: Kind, n: u8) {
+        for i in 0..n {
+            self.add(rt, kind, i);
+        }
+    }
+
     // Adds a chunk of a kind, which is another for other `n`. An index position is that of one of
     // the eight pixels before.
     pub fn add(&mut self, rt: &impl Abort, kind: Kind, n: u8) {
@@ -159,24 +172,42 @@ impl List {
         }
     }
 
-    // The same from each kind of reader.
-    pub fn check_readers(&self, rt: &impl Abort, alloc: Global, own: Channels) {
+    // The same from each kind of reader. Up to twenty bytes follow the file, and it is refused
+    // without as many bytes and one more.
+    fn check_readers_in(&self, rt: &impl Abort, alloc: Global, own: Channels, more: usize) {
         let (header, file) = self.file(rt, alloc, own);
+        let rest = &REST[..more.min(20)];
+        let bytes = made::joined(rt, alloc, &file, rest);
+        let cut = file.len().saturating_sub(more.saturating_add(1)).max(14);
         for channels in [Channels::Rgb, Channels::Rgba] {
             let raw = made::seen(rt, alloc, &self.pixels, own, channels);
             let decoding = Decoding {
-                bytes: &file,
+                bytes: &bytes,
                 header,
                 channels,
             };
-            decoding.check(rt, alloc, &raw, &[]);
+            decoding.check(rt, alloc, &raw, rest);
+            let bytes = &bytes[..cut.min(bytes.len())];
+            Decoding { bytes, ..decoding }.check_cut(rt, alloc);
         }
     }
 
-    // Under both headers.
+    // From slices, under both headers.
     pub fn check(&self, rt: &impl Abort, alloc: Global) {
         self.check_in(rt, alloc, Channels::Rgb);
         self.check_in(rt, alloc, Channels::Rgba);
+    }
+
+    // From each kind of reader, under both headers.
+    pub fn check_readers(&self, rt: &impl Abort, alloc: Global, more: usize) {
+        self.check_readers_in(rt, alloc, Channels::Rgb, more);
+        self.check_readers_in(rt, alloc, Channels::Rgba, more);
+    }
+
+    // The image ends `less` pixels earlier.
+    fn end_earlier(&mut self, less: usize) {
+        let count = self.pixels.len().saturating_sub(less);
+        self.pixels.truncate(count);
     }
 }
 
@@ -209,16 +240,16 @@ fn each_kind_after_each(rt: HostRuntime) {
     }
 }
 
-// Six full chunks, then `n` of a kind, and one more.
+// Six full chunks, then `n` of a kind, and one more, of which the image needs a pixel. If that is a
+// run, some of its pixels are too many.
 fn of_one_kind(rt: &impl Abort, alloc: Global, kind: Kind, n: u8, end: Kind) -> List {
     let mut list = List::new(alloc);
-    for full in 0..6u8 {
-        list.add(rt, Kind::Rgba, full);
-    }
-    for i in 0..n {
-        list.add(rt, kind, i);
-    }
+    list.add_many(rt, Kind::Rgba, 6);
+    list.add_many(rt, kind, n);
     list.add(rt, end, n);
+    if let Kind::Run(count) = end {
+        list.end_earlier(usize::from(n % count.max(1)));
+    }
     list
 }
 
@@ -229,8 +260,7 @@ fn kinds_end_anywhere(rt: HostRuntime) {
         for end in [Kind::Place, Kind::Luma, Kind::Rgba, Kind::Run(62)] {
             for n in 0..40u8 {
                 let list = of_one_kind(&rt, alloc, kind, n, end);
-                list.check_readers(&rt, alloc, Channels::Rgb);
-                list.check_readers(&rt, alloc, Channels::Rgba);
+                list.check_readers(&rt, alloc, usize::from(n % 21));
             }
         }
     }
@@ -239,13 +269,9 @@ fn kinds_end_anywhere(rt: HostRuntime) {
 // Nine chunks of a byte, a run of `count` pixels, and `n` chunks of a byte.
 fn run_before(rt: &impl Abort, alloc: Global, count: u8, n: u8) -> List {
     let mut list = List::new(alloc);
-    for front in 0..9u8 {
-        list.add(rt, Kind::Diff, front);
-    }
+    list.add_many(rt, Kind::Diff, 9);
     list.add(rt, Kind::Run(count), 0);
-    for i in 0..n {
-        list.add(rt, Kind::Diff, i);
-    }
+    list.add_many(rt, Kind::Diff, n);
     list
 }
 
@@ -276,9 +302,7 @@ fn alpha_kept(rt: &impl Abort, alloc: Global, a: u8, n: u8) -> List {
     for kind in KINDS {
         list.add(rt, kind, a);
     }
-    for more in 0..30u8 {
-        list.add(rt, Kind::Diff, more);
-    }
+    list.add_many(rt, Kind::Diff, 30);
     list
 }
 
@@ -309,9 +333,7 @@ fn named_again(rt: &impl Abort, alloc: Global, kind: Kind, n: u8) -> List {
     for px in [[r, g, b, a], before, [r, g, b, a]] {
         list.name(rt, place(px));
     }
-    for more in 0..30u8 {
-        list.add(rt, Kind::Diff, more);
-    }
+    list.add_many(rt, Kind::Diff, 30);
     list
 }
 

@@ -1,51 +1,15 @@
 //! Callers that keep several files in one slice (a pack): the image of the file at an offset comes
 //! back, whatever follows it. `put_many` alone has a proof file: its loop's invariant.
-ghost use Rattle.std.specs.Prelude.{◌≡◌, ℕ, List, ◌++◌, drop, Some, IfOk, OnOk};
-ghost use Rattle.qoi.specs.declared.header.Header.{Header};
-ghost use Rattle.qoi.specs.declared.types.Style.{Style};
-ghost use Rattle.qoi.specs.Encoded.{IsFileOf};
+ghost use Rattle.std.specs.Prelude.{◌≡◌, ℕ, List, IfOk, OnOk};
 ghost use Rattle.qoi.specs.Images.{file_image};
 ghost use Rattle.qoi.specs.Tiles.{HasTile};
 
 use crate::tests::fakes::{ONE_RGB_PIXEL, PIXEL};
 use crate::tests::library::support::{assert_cut, assert_given, assert_number};
 use qoi::laws::reading::tiles_stay;
-use qoi::{Decoder, Encoder, Error, decode_to_vec, encode_to_vec};
+use qoi::{Decoder, Encoder, Error, decode_to_vec};
 use std::alloc::Global;
-use std::io::Read;
 use std::process::Abort;
-
-/// The file ahead of a reader, and what follows it.
-pub fn tile_ahead<R: Read + Drop>(alloc: Global, reader: R) -> Result<Vec<u8>, Error>
-    ensures { (style : Style) (h : Header) (raw bytes rest : List ℕ) → IsFileOf style h raw bytes
-        → R.remaining reader ≡ Some (bytes ++ rest) → IfOk result (λ tile. tile.items ≡ raw) }
-{
-    let mut decoder = Decoder::from_stream(reader)?;
-    let tile = decoder.decode_to_vec(alloc)?;
-    Ok(tile)
-}
-
-/// The file at an offset of a pack.
-pub fn tile_at(alloc: Global, pack: &[u8], offset: usize) -> Result<Vec<u8>, Error>
-    ensures { (style : Style) (h : Header) (raw bytes rest : List ℕ) → IsFileOf style h raw bytes
-        → drop offset pack.now ≡ bytes ++ rest → IfOk result (λ tile. tile.items ≡ raw) }
-{
-    if offset > pack.len() {
-        return Err(Error::UnexpectedBufferEnd);
-    }
-    let (_, tile) = decode_to_vec(alloc, &pack[offset..])?;
-    Ok(tile)
-}
-
-/// A byte is pushed after a file.
-pub fn byte_after(alloc: Global, raw: &[u8], width: u32, height: u32) -> Result<Vec<u8>, Error>
-    ensures { IfOk result (λ back. back.items ≡ raw.now) }
-{
-    let mut file = encode_to_vec(alloc, raw, width, height)?;
-    file.push(1)?;
-    let (_, back) = decode_to_vec(alloc, &file)?;
-    Ok(back)
-}
 
 /// A tile is put at the end of an atlas, and its offset returned; the tiles before it stay.
 pub fn put(atlas: &mut Vec<u8>, raw: &[u8], width: u32, height: u32) -> Result<usize, Error>
@@ -119,25 +83,6 @@ fn assert_tile(
 }
 
 #[test]
-fn of_a_file_and_more(rt: HostRuntime) {
-    let alloc = rt.alloc();
-    let mut file = [1; 27];
-    file[..26].copy_from_slice(&ONE_RGB_PIXEL);
-    assert_given(&rt, tile_ahead(alloc, file.as_slice()), &PIXEL);
-    assert_given(&rt, byte_after(alloc, &PIXEL, 1, 1), &PIXEL);
-}
-
-#[test]
-fn at_an_offset(rt: HostRuntime) {
-    let alloc = rt.alloc();
-    let mut pack = [4; 30];
-    pack[3..29].copy_from_slice(&ONE_RGB_PIXEL);
-    assert_given(&rt, tile_at(alloc, &pack, 3), &PIXEL);
-    let past = tile_at(alloc, &pack, 31);
-    assert_cut(&rt, past);
-}
-
-#[test]
 fn at_the_end_of_an_atlas(rt: HostRuntime) {
     let alloc = rt.alloc();
     let mut atlas = Vec::from_slice(alloc, &ONE_RGB_PIXEL).expect(&rt, "refused");
@@ -145,6 +90,8 @@ fn at_the_end_of_an_atlas(rt: HostRuntime) {
     assert_tile(&rt, alloc, &atlas, at, &OTHER);
     // A file of one pixel has 22 bytes and a chunk: here an RGB of four bytes, and a luma of two.
     assert_number(&rt, atlas.len(), 26 + 24);
+    let past = get(alloc, &atlas, 51);
+    assert_cut(&rt, past);
 }
 
 #[test]

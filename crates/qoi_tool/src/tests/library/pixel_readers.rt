@@ -1,7 +1,7 @@
 //! Images that are decoded piece by piece: in pieces of many lengths, from each kind of reader, in
 //! both numbers of channels; files that are cut, wrong end markers, readers that fail; and what can
 //! be done after a refusal and after an image.
-use crate::tests::fakes::{Bad, End, NONE, ONE_RGB_PIXEL, PIXEL, Source};
+use crate::tests::fakes::{Bad, End, NONE, PIXEL, Source, TWO_FILES};
 use crate::tests::library::support::decodings::{CUT, after};
 use crate::tests::library::support::generator::Numbers;
 use crate::tests::library::support::images::{Image, row};
@@ -82,13 +82,6 @@ fn assert_image<R: Reader + Drop>(
     pixels.into_decoder()
 }
 
-// A file, and the two bytes that follow it.
-fn followed(rt: &impl Abort, alloc: Global, file: &[u8]) -> Vec<u8> {
-    let mut bytes = made::bytes(rt, alloc, file);
-    made::append(rt, &mut bytes, &[0x78, 0x79]);
-    bytes
-}
-
 // The image of a file that two bytes follow, from memory, a stream and a buffer, in these channels.
 fn assert_pieces(
     rt: &impl Abort,
@@ -98,7 +91,7 @@ fn assert_pieces(
     raw: &[u8],
     lengths: Lengths,
 ) {
-    let bytes = followed(rt, alloc, file);
+    let bytes = made::joined(rt, alloc, file, &[0x78, 0x79]);
     let slice = assert_image(rt, alloc, made::slice(rt, &bytes), channels, raw, lengths);
     assert_bytes(rt, slice.data(), &[0x78, 0x79]);
     let source = Source::new(&bytes, lengths.most.max(1), NONE);
@@ -130,33 +123,24 @@ fn pieces_of_each_length(rt: HostRuntime) {
     }
 }
 
-// Parts of a pixel and of a run, about the room of any run, about what is kept, and the image.
+// Parts of a pixel and of a run, about the room of any run, as long as rows of icons, which are
+// decoded in place if the file's bytes stand in memory, about what is kept, and the image. A buffer
+// of as many bytes mostly ends within a piece.
 #[test]
 fn pieces_of_long_images(rt: HostRuntime) {
     let alloc = rt.alloc();
     for channels in [Channels::Rgb, Channels::Rgba] {
         for width in [1u32, 2, 85, 86, 256, 900, 6000] {
             let image = drawn_row(&rt, alloc, 0x10a6, width, channels);
-            for most in [255, 511, 512, 515, 3072, 4096, 20000, image.raw.len()] {
+            let size = image.raw.len();
+            for most in [
+                255, 511, 512, 515, 768, 1023, 1024, 1536, 3072, 4096, 20000, size,
+            ] {
                 for changing in [false, true] {
                     let lengths = Lengths { most, changing };
                     assert_pieces(&rt, alloc, &image.file, channels, &image.raw, lengths);
                 }
             }
-        }
-    }
-}
-
-// As long as rows of icons, which are decoded in place if the file's bytes stand in memory. A buffer
-// of as many bytes mostly ends within a piece.
-#[test]
-fn pieces_of_rows_of_icons(rt: HostRuntime) {
-    let alloc = rt.alloc();
-    for channels in [Channels::Rgb, Channels::Rgba] {
-        let image = drawn_row(&rt, alloc, 0x1c05, 6000, channels);
-        for most in [512, 768, 1023, 1024, 1536usize] {
-            let lengths = Lengths::of(most);
-            assert_pieces(&rt, alloc, &image.file, channels, &image.raw, lengths);
         }
     }
 }
@@ -249,7 +233,7 @@ fn cut_pieces(rt: HostRuntime) {
 
 // A file with one wrong byte, so many before its end.
 fn with_wrong_byte(rt: &impl Abort, alloc: Global, file: &[u8], before_end: usize) -> Vec<u8> {
-    let mut file = Vec::from_slice(alloc, file).expect(rt, "refused");
+    let mut file = made::bytes(rt, alloc, file);
     let at = file.len().saturating_sub(before_end);
     if let Some(byte) = file.get_mut(at) {
         *byte ^= 2;
@@ -257,24 +241,28 @@ fn with_wrong_byte(rt: &impl Abort, alloc: Global, file: &[u8], before_end: usiz
     file
 }
 
-// A piece is refused for the end marker.
-fn assert_wrong<R: Reader + Drop>(
+// Reads an image with a wrong marker in pieces of this size. When it is refused, so many bytes are
+// left, at least and at most.
+fn assert_wrong_in<R: Reader + Drop>(
     rt: &impl Abort,
     alloc: Global,
     decoder: Decoder<R>,
     buf: &mut [u8],
+    (least, most): (usize, usize),
 ) {
     let mut pixels = decoder.into_pixels();
     let (refusal, left) = refusal_of(&mut pixels, buf);
     assert!(rt; matches!(refusal, Some(Error::InvalidPadding)));
+    assert!(rt; least <= left && left <= most);
     assert_spent(rt, alloc, pixels, left);
 }
 
-// The same in pieces of this size, from a slice and from a stream.
-fn assert_wrong_by(rt: &impl Abort, alloc: Global, file: &[u8], size: usize) {
+// The same from each kind of reader.
+fn assert_wrong(rt: &impl Abort, alloc: Global, file: &[u8], size: usize, left: (usize, usize)) {
     let mut buf = made::filled(rt, alloc, 0, size);
-    assert_wrong(rt, alloc, made::slice(rt, file), &mut buf);
-    assert_wrong(rt, alloc, made::stream(rt, file), &mut buf);
+    assert_wrong_in(rt, alloc, made::slice(rt, file), &mut buf, left);
+    assert_wrong_in(rt, alloc, made::stream(rt, file), &mut buf, left);
+    assert_wrong_in(rt, alloc, made::buffered(rt, file), &mut buf, left);
 }
 
 // A wrong byte of the end marker is refused, with the last bytes at the latest.
@@ -285,41 +273,11 @@ fn wrong_markers(rt: HostRuntime) {
     for i in 1..=8usize {
         let file = with_wrong_byte(&rt, alloc, &image.file, i);
         for size in [1usize, 255, 1536, 6000] {
-            assert_wrong_by(&rt, alloc, &file, size);
+            assert_wrong(&rt, alloc, &file, size, (1, 6000));
         }
         let whole = made::slice(&rt, &file).into_pixels();
         assert_unmarked(&rt, whole.finish());
     }
-}
-
-// Reads an image with a wrong marker in pieces of this size. When it is refused, so many bytes are
-// left, at least and at most.
-fn assert_refused_at<R: Reader + Drop>(
-    rt: &impl Abort,
-    decoder: Decoder<R>,
-    buf: &mut [u8],
-    (least, most): (usize, usize),
-) {
-    let mut pixels = decoder.into_pixels();
-    let (refusal, left) = refusal_of(&mut pixels, buf);
-    assert!(rt; matches!(refusal, Some(Error::InvalidPadding)));
-    assert!(rt; least <= left && left <= most);
-}
-
-// A row of so many pixels, from each kind of reader.
-fn assert_row_refused(
-    rt: &impl Abort,
-    alloc: Global,
-    width: u32,
-    size: usize,
-    left: (usize, usize),
-) {
-    let image = drawn_row(rt, alloc, 0xa4ead, width, Channels::Rgb);
-    let file = with_wrong_byte(rt, alloc, &image.file, 1);
-    let mut buf = made::filled(rt, alloc, 0, size);
-    assert_refused_at(rt, made::slice(rt, &file), &mut buf, left);
-    assert_refused_at(rt, made::stream(rt, file.as_slice()), &mut buf, left);
-    assert_refused_at(rt, made::buffered(rt, file.as_slice()), &mut buf, left);
 }
 
 // Up to 3,072 bytes are decoded ahead of those that are read, and then the end marker. So an image
@@ -335,12 +293,14 @@ fn pieces_before_a_wrong_marker(rt: HostRuntime) {
         (1025, 1, (1, 3073)),
         (2000, 3, (3, 3075)),
     ] {
-        assert_row_refused(&rt, alloc, count, size, left);
+        let image = drawn_row(&rt, alloc, 0xa4ead, count, Channels::Rgb);
+        let file = with_wrong_byte(&rt, alloc, &image.file, 1);
+        assert_wrong(&rt, alloc, &file, size, left);
     }
     let image = drawn_row(&rt, alloc, 0xa4ead, 2000, Channels::Rgb);
     let file = with_wrong_byte(&rt, alloc, &image.file, 8);
     let last = (1392, 1392);
-    assert_refused_at(&rt, made::slice(&rt, &file), &mut [0; 1536], last);
+    assert_wrong_in(&rt, alloc, made::slice(&rt, &file), &mut [0; 1536], last);
 }
 
 // Reads pieces until the reader's fault, after which a read refuses. Returns the reader.
@@ -388,14 +348,9 @@ fn assert_pixel<'a>(
     pixels.into_decoder()
 }
 
-// A file of one pixel, then a difference from the start pixel and an end marker: two images.
 #[test]
 fn images_one_after_the_other(rt: HostRuntime) {
-    let mut bytes = [0; 35];
-    bytes[..26].copy_from_slice(&ONE_RGB_PIXEL);
-    bytes[26] = 0x55;
-    bytes[34] = 1;
-    let second = assert_pixel(&rt, made::slice(&rt, &bytes), &PIXEL);
+    let second = assert_pixel(&rt, made::slice(&rt, &TWO_FILES), &PIXEL);
     let rest = assert_pixel(&rt, second, &[0xff; 3]);
     assert_bytes(&rt, rest.data(), &[]);
 }
@@ -422,7 +377,7 @@ fn assert_finished(rt: &impl Abort, bytes: &[u8], buf: &mut [u8]) {
 fn images_that_are_finished(rt: HostRuntime) {
     let alloc = rt.alloc();
     let image = drawn_row(&rt, alloc, 0xf1215, 3000, Channels::Rgb);
-    let bytes = followed(&rt, alloc, &image.file);
+    let bytes = made::joined(&rt, alloc, &image.file, &[0x78, 0x79]);
     for size in [0usize, 1, 1000, 9000] {
         let mut buf = made::filled(&rt, alloc, 0, size);
         assert_finished(&rt, &bytes, &mut buf);

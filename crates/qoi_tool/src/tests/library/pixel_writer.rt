@@ -2,11 +2,11 @@
 //! the pieces are; refusals; writers that fail, and memory that does.
 ghost use Rattle.std.specs.Prelude.{◌<◌};
 
-use crate::tests::fakes::{Bad, End, NONE, ONE_RGB_PIXEL, PIXEL, Sink, take_memory};
+use crate::tests::fakes::{Bad, End, NONE, ONE_RGB_PIXEL, PIXEL, Sink, take_but};
 use crate::tests::library::support::generator::{Groups, Numbers, Rgba, START, drawn};
 use crate::tests::library::support::images::{Image, row};
 use crate::tests::library::support::{
-    assert_bytes, assert_fails, assert_given, assert_header, assert_number, assert_refused, made,
+    assert_bytes, assert_fails, assert_header, assert_number, assert_refused, made,
 };
 use qoi::{Channels, ColorSpace, Error, Header, PixelWriter, Result, Style};
 use std::alloc::Global;
@@ -234,19 +234,6 @@ fn calls_of_the_writer(rt: HostRuntime) {
     assert_number(&rt, sink.calls, 2);
 }
 
-// What came behind other bytes of the writer stands behind them.
-#[test]
-fn behind_other_bytes(rt: HostRuntime) {
-    let alloc = rt.alloc();
-    let file = made::bytes(&rt, alloc, &[1, 2, 3]);
-    let mut pixels = before(&rt, alloc, Header::default(), Style::Tight, file);
-    write(&rt, &mut pixels, &PIXEL);
-    let mut all = [0; 29];
-    all[..3].copy_from_slice(&[1, 2, 3]);
-    all[3..].copy_from_slice(&ONE_RGB_PIXEL);
-    assert_given(&rt, pixels.finish(), &all);
-}
-
 // More bytes than the image has are refused, and nothing is taken; fewer are refused at the end. The
 // writer, which is lent, got the header in one call, and no other.
 #[test]
@@ -270,39 +257,21 @@ fn other_lengths(rt: HostRuntime) {
     );
 }
 
-// Writes pieces of an image of one row, of which so many bytes are left then, and takes the writer
-// back, which has these bytes.
-fn assert_begun(
-    rt: &impl Abort,
-    alloc: Global,
-    width: u32,
-    pieces: &[&[u8]],
-    left: usize,
-    begun: &[u8],
-) {
-    let sink = made::sink(rt, alloc, usize::MAX, NONE);
-    let header = row(width, Channels::Rgb);
-    let mut pixels = before(rt, alloc, header, Style::Reference, sink);
-    for piece in pieces {
-        write(rt, &mut pixels, piece);
-    }
-    assert_number(rt, pixels.left(), left);
-    assert_bytes(rt, &pixels.into_writer().got, begun);
-}
-
-// A writer can be had back before all bytes came: it has a beginning of the file, the header alone
-// while all are held.
+// A writer can be had back before all bytes came: it has a beginning of the file, here the header,
+// the first pixel's luma chunk, and the full runs of 1400 pixels.
 #[test]
 fn unfinished(rt: HostRuntime) {
-    let begun = [0x71, 0x6f, 0x69, 0x66, 0, 0, 0, 100, 0, 0, 0, 1, 3, 0];
-    assert_begun(&rt, rt.alloc(), 100, &[&[9; 90]], 210, &begun);
-    // The header, the first pixel's luma chunk, and the full runs of 1400 pixels.
+    let sink = made::sink(&rt, rt.alloc(), usize::MAX, NONE);
+    let header = row(2000, Channels::Rgb);
+    let mut pixels = before(&rt, rt.alloc(), header, Style::Reference, sink);
+    write(&rt, &mut pixels, &[9; 90]);
+    write(&rt, &mut pixels, &[9; 4150]);
+    assert_number(&rt, pixels.left(), 1760);
     let mut begun = [0xfd; 38];
     begun[..16].copy_from_slice(&[
         0x71, 0x6f, 0x69, 0x66, 0, 0, 7, 0xd0, 0, 0, 0, 1, 3, 0, 0xa9, 0x88,
     ]);
-    let pieces: [&[u8]; 2] = [&[9; 90], &[9; 4150]];
-    assert_begun(&rt, rt.alloc(), 2000, &pieces, 1760, &begun);
+    assert_bytes(&rt, &pixels.into_writer().got, &begun);
 }
 
 // A header of no pixels, or of too many, is refused before anything is sent.
@@ -315,7 +284,7 @@ fn invalid_headers(rt: HostRuntime) {
             height,
             ..Header::default()
         };
-        let mut sink = Sink::new(alloc, usize::MAX, NONE).expect(&rt, "refused");
+        let mut sink = made::sink(&rt, alloc, usize::MAX, NONE);
         let refusal = PixelWriter::new(alloc, header, Style::Places, &mut sink).err();
         let text = format!(in alloc; "invalid image dimensions: {width}x{height}").expect(
             &rt, "refused",
@@ -379,13 +348,8 @@ fn fails_at(rt: &impl Abort, alloc: Global, image: &Image, bad: Bad, kind: Error
 fn failing_writers(rt: HostRuntime) {
     let alloc = rt.alloc();
     let pixels = steps(&rt, alloc, 12_000);
-    let image = Image::of(
-        &rt,
-        alloc,
-        row(12_000, Channels::Rgba),
-        Style::Reference,
-        &pixels,
-    );
+    let header = row(12_000, Channels::Rgba);
+    let image = made::image(&rt, alloc, header, Style::Reference, &pixels);
     for (end, kind) in [
         (End::Fault, ErrorKind::BrokenPipe),
         (End::Interruption, ErrorKind::Interrupted),
@@ -406,9 +370,7 @@ fn failing_writers(rt: HostRuntime) {
 
 // Writes the pixel while all memory is taken but for one block of `spare` bytes.
 fn starved(alloc: Global, spare: usize, file: &mut [u8]) -> Result<()> {
-    let block: Vec<u8> = Vec::with_capacity(alloc, spare)?;
-    let held = take_memory(alloc, 2)?;
-    drop(block);
+    let held = take_but(alloc, spare)?;
     let made = PixelWriter::new(alloc, Header::default(), Style::Reference, file);
     let ended = match made {
         Ok(mut pixels) => match pixels.write(&PIXEL) {

@@ -7,7 +7,6 @@ ghost use Rattle.qoi.specs.Images.{front_image, file_image};
 
 use crate::tests::fakes::{ONE_RGB_PIXEL, PIXEL};
 use crate::tests::library::support::{assert_bytes, assert_given};
-use qoi::laws::reading::files_are_read;
 use qoi::{Decoder, Error, Reader};
 use std::alloc::Global;
 use std::io::Write;

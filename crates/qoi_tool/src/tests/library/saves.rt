@@ -3,9 +3,9 @@
 ghost use Rattle.std.specs.Prelude.{◌≡◌, ℕ, List, length, take, drop, Some, IfOk, IfSome};
 ghost use Rattle.qoi.specs.Images.{file_image};
 
-use crate::tests::fakes::{ONE_RGB_PIXEL, PIXEL};
+use crate::tests::fakes::PIXEL;
 use crate::tests::library::equations::load;
-use crate::tests::library::support::{assert_both, assert_given};
+use crate::tests::library::support::assert_both;
 use qoi::{Decoder, Encoder, Error, decode_to_vec};
 use std::alloc::Global;
 use std::io::Write;
@@ -22,21 +22,6 @@ pub fn save<W: Write>(out: &mut W, raw: &[u8], width: u32, height: u32) -> Resul
 {
     let n = Encoder::new(raw, width, height)?.encode_to_stream(out)?;
     Ok(n)
-}
-
-/// Saved after what a vector holds, and loaded from there.
-pub fn saved_after(
-    alloc: Global,
-    out: &mut Vec<u8>,
-    raw: &[u8],
-    width: u32,
-    height: u32,
-) -> Result<Vec<u8>, Error>
-    ensures { IfOk result (λ back. back.items ≡ raw.now) }
-{
-    let start = out.len();
-    save(out, raw, width, height)?;
-    load(alloc, &out[start..])
 }
 
 /// Two images saved to one vector, one after the other, and both loaded back.
@@ -75,15 +60,6 @@ pub fn two_encoded(
     let one = decoder.decode_to_vec(alloc)?;
     let (_, two) = decode_to_vec(alloc, decoder.data())?;
     Ok((one, two))
-}
-
-#[test]
-fn saved_to_a_vector(rt: HostRuntime) {
-    let alloc = rt.alloc();
-    let mut out = Vec::new(alloc);
-    assert_given(&rt, saved_after(alloc, &mut out, &PIXEL, 1, 1), &PIXEL);
-    assert_given(&rt, saved_after(alloc, &mut out, &OTHER, 1, 1), &OTHER);
-    assert!(rt; out.as_slice().starts_with(&ONE_RGB_PIXEL));
 }
 
 #[test]

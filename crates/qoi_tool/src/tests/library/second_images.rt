@@ -1,55 +1,62 @@
-//! A second image by the same decoder, which starts anew: by `decode_to_buf` from a slice, and by
-//! `decode_to_vec` from a stream. (`decoder` and `streams` have the other two.)
-use crate::tests::fakes::{ONE_RGB_PIXEL, PIXEL};
-use crate::tests::library::support::decodings::{CUT, after};
+//! Further images by the same decoder, which starts anew each time: by each call, from a slice, a
+//! stream and a reader with a buffer.
+use crate::tests::fakes::{PIXEL, TWO_FILES};
+use crate::tests::library::support::decodings::{CALLS, CUT, Call, Decoding, after};
 use crate::tests::library::support::{
-    assert_bytes, assert_decoded, assert_fails, assert_given, assert_header, assert_number,
-    assert_refused, made,
+    assert_bytes, assert_fails, assert_given, assert_refused, made,
 };
-use qoi::{Bytes, Decoder, Header};
+use qoi::{Channels, Decoder, Header, Reader, Result};
+use std::alloc::Global;
 use std::io::{Cursor, ErrorKind};
 use std::process::Abort;
 
-// A file of one pixel, and then the chunk 0x55, a difference from the start pixel, and an end
-// marker.
-fn two_files() -> [u8; 35] {
-    let mut bytes = [0; 35];
-    bytes[..26].copy_from_slice(&ONE_RGB_PIXEL);
-    bytes[26] = 0x55;
-    bytes[34] = 1;
-    bytes
+// What a call gives of the next image.
+fn next<R: Reader>(
+    rt: &impl Abort,
+    alloc: Global,
+    decoder: &mut Decoder<R>,
+    call: Call,
+) -> Result<Vec<u8>> {
+    let decoding = Decoding {
+        bytes: &TWO_FILES,
+        header: Header::default(),
+        channels: Channels::Rgb,
+    };
+    decoding.of(rt, alloc, decoder, call)
 }
 
-// Decodes this pixel into the front of a longer buffer.
-fn assert_fills(rt: &impl Abort, decoder: &mut Decoder<Bytes<'_>>, pixel: &[u8; 3]) {
-    let mut buf = [0xaa; 5];
-    let size = made::decoded(rt, decoder, &mut buf);
-    assert_number(rt, size, 3);
-    assert_bytes(rt, &buf[..3], pixel);
-    assert_bytes(rt, &buf[3..], &[0xaa, 0xaa]);
-}
-
+// The slice is what follows each image, and after a refusal as before.
 #[test]
-fn buffers_from_a_slice(rt: HostRuntime) {
-    let bytes = two_files();
-    let mut decoder = made::slice(&rt, &bytes);
-    assert_fills(&rt, &mut decoder, &PIXEL);
-    assert_bytes(&rt, decoder.data(), after(&bytes, 26));
-    assert_fills(&rt, &mut decoder, &[0xff; 3]);
-    assert_bytes(&rt, decoder.data(), &[]);
-    let third = decoder.decode_to_buf(&mut [0xaa; 5]).err();
-    assert_refused(&rt, rt.alloc(), third, CUT);
-    assert_bytes(&rt, decoder.data(), &[]);
-}
-
-#[test]
-fn vectors_from_a_stream(rt: HostRuntime) {
+fn two_files_in_one_slice(rt: HostRuntime) {
     let alloc = rt.alloc();
-    let bytes = two_files();
-    let mut decoder = made::stream(&rt, Cursor::new(&bytes[..]));
-    assert_decoded(&rt, alloc, &mut decoder, &PIXEL);
-    assert_given(&rt, decoder.decode_to_vec(alloc), &[0xff; 3]);
-    let third = decoder.decode_to_vec(alloc).err();
-    assert_fails(&rt, third, ErrorKind::UnexpectedEof);
-    assert_header(&rt, decoder.header(), &Header::default());
+    for call in CALLS {
+        let mut decoder = made::slice(&rt, &TWO_FILES);
+        assert_given(&rt, next(&rt, alloc, &mut decoder, call), &PIXEL);
+        assert_bytes(&rt, decoder.data(), after(&TWO_FILES, 26));
+        assert_given(&rt, next(&rt, alloc, &mut decoder, call), &[0xff; 3]);
+        assert_bytes(&rt, decoder.data(), &[]);
+        let third = next(&rt, alloc, &mut decoder, call).err();
+        assert_refused(&rt, alloc, third, CUT);
+        assert_bytes(&rt, decoder.data(), &[]);
+    }
+}
+
+// Two images, and nothing behind them.
+fn assert_two<R: Reader>(rt: &impl Abort, alloc: Global, decoder: &mut Decoder<R>, call: Call) {
+    for pixel in [PIXEL, [0xff; 3]] {
+        assert_given(rt, next(rt, alloc, decoder, call), &pixel);
+    }
+    let third = next(rt, alloc, decoder, call).err();
+    assert_fails(rt, third, ErrorKind::UnexpectedEof);
+}
+
+#[test]
+fn two_files_from_one_reader(rt: HostRuntime) {
+    let alloc = rt.alloc();
+    for call in CALLS {
+        let cursor = Cursor::new(&TWO_FILES[..]);
+        assert_two(&rt, alloc, &mut made::stream(&rt, cursor), call);
+        let reader = made::buffer(&rt, alloc, 8, &TWO_FILES[..]);
+        assert_two(&rt, alloc, &mut made::buffered(&rt, reader), call);
+    }
 }

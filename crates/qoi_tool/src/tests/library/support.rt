@@ -4,10 +4,8 @@ pub mod decodings;
 pub mod examples;
 pub mod generator;
 pub mod images;
-pub mod lists;
 pub mod made;
 pub mod plain;
-pub mod reference;
 
 use qoi::{Decoder, Error, Header, Reader, Result};
 use std::alloc::Global;
@@ -22,6 +20,11 @@ pub fn assert_bytes(rt: &impl Abort, found: &[u8], bytes: &[u8]) {
 /// Compares bytes that a call gives.
 pub fn assert_given(rt: &impl Abort, given: Result<Vec<u8>>, bytes: &[u8]) {
     assert_bytes(rt, &given.expect(rt, "refused"), bytes);
+}
+
+/// Compares a part of a buffer that a call gives.
+pub fn assert_part(rt: &impl Abort, given: Result<&[u8]>, bytes: &[u8]) {
+    assert_bytes(rt, given.expect(rt, "refused"), bytes);
 }
 
 /// Compares the image that a decoder decodes into a vector.

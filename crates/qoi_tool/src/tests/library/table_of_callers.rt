@@ -4,13 +4,12 @@
 ghost use Rattle.std.specs.Prelude.{◌≡◌, IfOk};
 
 use crate::tests::fakes::PIXEL;
-use crate::tests::library::support::{assert_bytes, assert_given};
+use crate::tests::library::support::{assert_given, assert_part};
 use qoi::{
     Decoder, Encoder, Error, Style, decode_to_buf, decode_to_vec, encode_to_buf, encode_to_vec,
 };
 use std::alloc::Global;
 use std::io::BufReader;
-use std::process::Abort;
 
 /// There by the free call into a buffer; back by the free call into a vector.
 pub fn free_buffer_then_free_vector(
@@ -38,12 +37,6 @@ pub fn free_vector_then_free_buffer<'a>(
     ensures { IfOk result (λ back. back.now ≡ raw.now) }
 {
     let file = encode_to_vec(alloc, raw, width, height)?;
-    if out.len() < raw.len() {
-        return Err(Error::OutputBufferTooSmall {
-            size: out.len(),
-            required: raw.len(),
-        });
-    }
     decode_to_buf(out, &file)?;
     Ok(&out[..raw.len()])
 }
@@ -78,13 +71,6 @@ pub fn vector_then_buffer<'a>(
     let encoder = Encoder::new(raw, width, height)?;
     let file = encoder.encode_to_vec(alloc)?;
     let mut decoder = Decoder::new(&file)?;
-    let required = decoder.required_buf_len();
-    if out.len() < required {
-        return Err(Error::OutputBufferTooSmall {
-            size: out.len(),
-            required,
-        });
-    }
     let size = decoder.decode_to_buf(out)?;
     Ok(&out[..size])
 }
@@ -120,13 +106,6 @@ pub fn styled_buffer_then_buffer_of_stream<'a>(
     let encoder = Encoder::new(raw, width, height)?.with_style(style);
     let size = encoder.encode_to_buf(buf)?;
     let mut decoder = Decoder::from_stream(&buf[..size])?;
-    let required = decoder.required_buf_len();
-    if out.len() < required {
-        return Err(Error::OutputBufferTooSmall {
-            size: out.len(),
-            required,
-        });
-    }
     let size = decoder.decode_to_buf(out)?;
     Ok(&out[..size])
 }
@@ -167,20 +146,8 @@ pub fn styled_writer_then_buffer_of_buffered<'a>(
     encoder.encode_to_stream(&mut file)?;
     let reader = BufReader::new(alloc, file.as_slice())?;
     let mut decoder = Decoder::from_buf_read(reader)?;
-    let required = decoder.required_buf_len();
-    if out.len() < required {
-        return Err(Error::OutputBufferTooSmall {
-            size: out.len(),
-            required,
-        });
-    }
     let size = decoder.decode_to_buf(out)?;
     Ok(&out[..size])
-}
-
-// Compares bytes that a call gives in a buffer.
-fn assert_part(rt: &impl Abort, given: Result<&[u8], Error>, bytes: &[u8]) {
-    assert_bytes(rt, given.expect(rt, "refused"), bytes);
 }
 
 #[test]

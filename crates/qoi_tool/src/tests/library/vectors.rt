@@ -3,9 +3,9 @@
 use crate::tests::fakes::PIXEL;
 use crate::tests::library::support::decodings::{CUT, Decoding};
 use crate::tests::library::support::generator::Numbers;
-use crate::tests::library::support::images::row;
+use crate::tests::library::support::images::{Image, row};
 use crate::tests::library::support::{assert_fails, assert_number, assert_refused, made};
-use qoi::{Channels, Header, Result, Style, encode_to_vec};
+use qoi::{Channels, Result, Style, encode_to_vec};
 use std::alloc::Global;
 use std::io::ErrorKind;
 use std::process::Abort;
@@ -32,19 +32,12 @@ fn files_take_their_length(rt: HostRuntime) {
 }
 
 // The image comes back by each call and from each reader, and half of its file is cut.
-fn assert_comes_back(rt: &impl Abort, alloc: Global, header: Header, file: &[u8], raw: &[u8]) {
-    let whole = Decoding {
-        bytes: file,
-        header,
-        channels: header.channels,
-    };
-    whole.check(rt, alloc, raw, &[]);
-    whole.check_free(rt, alloc, raw);
-    let half = Decoding {
-        bytes: &file[..file.len() / 2],
-        ..whole
-    };
-    half.check_cut(rt, alloc);
+fn assert_comes_back(rt: &impl Abort, alloc: Global, image: &Image) {
+    let whole = image.decoding();
+    whole.check(rt, alloc, &image.raw, &[]);
+    whole.check_free(rt, alloc, &image.raw);
+    let bytes = &image.file[..image.file.len() / 2];
+    Decoding { bytes, ..whole }.check_cut(rt, alloc);
 }
 
 // Images that end just before, at and just after the end of a step, and in the third one.
@@ -60,32 +53,26 @@ fn images_of_several_steps(rt: HostRuntime) {
         };
         let pixels = made::pixels(&rt, alloc, &mut numbers, channels, width as usize);
         let image = made::image(&rt, alloc, row(width, channels), Style::Reference, &pixels);
-        assert_comes_back(&rt, alloc, image.header, &image.file, &image.raw);
+        assert_comes_back(&rt, alloc, &image);
     }
 }
 
-// An RGB chunk and so many runs of 62.
-fn runs(rt: &impl Abort, alloc: Global, count: usize) -> Vec<u8> {
-    let mut chunks = vec![in alloc; 0xfdu8; count.saturating_add(4)].expect(rt, "refused");
-    for (chunk, byte) in chunks.iter_mut().zip([0xfe, 1, 2, 3]) {
-        *chunk = byte;
-    }
-    chunks
-}
-
-// Runs that stand across the ends of steps. The image ends within the last of them, too.
+// An RGB chunk, and runs of 62 that stand across the ends of steps. The image ends within the last
+// of them, too.
 #[test]
 fn runs_across_steps(rt: HostRuntime) {
     let alloc = rt.alloc();
-    let chunks = runs(&rt, alloc, 1100);
+    let chunks = made::joined(&rt, alloc, &[0xfe, 1, 2, 3], &[0xfd; 1100]);
     for width in [68_201, 68_150] {
         let header = row(width, Channels::Rgb);
-        let file = made::file(&rt, alloc, header, &chunks);
-        let mut raw = made::filled(&rt, alloc, 0, 3 * width as usize);
-        for px in raw.chunks_exact_mut(3) {
-            px.copy_from_slice(&[1, 2, 3]);
-        }
-        assert_comes_back(&rt, alloc, header, &file, &raw);
+        let pixels = vec![in alloc; [1, 2, 3, 255]; width as usize].expect(&rt, "refused");
+        let image = Image {
+            header,
+            style: Style::Reference,
+            raw: made::raw(&rt, alloc, Channels::Rgb, &pixels),
+            file: made::file(&rt, alloc, header, &chunks),
+        };
+        assert_comes_back(&rt, alloc, &image);
     }
 }
 

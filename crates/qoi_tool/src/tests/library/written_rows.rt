@@ -1,14 +1,12 @@
 //! Callers of the pixel writer, proved by the contracts of its calls alone: an image's raw bytes
 //! come in parts, and the file is that of the whole image.
-ghost use Rattle.std.specs.Prelude.{◌≡◌, ◌++◌, ◌<◌, List, length, Some, IfOk, OnOk};
-ghost use Rattle.std.specs.Io.KnownBytes.{Appends};
+ghost use Rattle.std.specs.Prelude.{◌≡◌, ◌++◌, ◌<◌, IfOk};
 ghost use Rattle.qoi.specs.Encoded.{image_file};
 
 use crate::tests::fakes::{ONE_RGB_PIXEL, PIXEL};
 use crate::tests::library::support::{assert_both, assert_given};
 use qoi::{Encoder, Header, PixelWriter, Result, Style};
 use std::alloc::Global;
-use std::io::Write;
 
 /// Two parts. The file of an image whose raw bytes are in two slices.
 pub fn write_two(
@@ -25,23 +23,6 @@ pub fn write_two(
     writer.write(second)?;
     let file = writer.finish()?;
     Ok(file)
-}
-
-/// One part, to any writer: what was appended.
-pub fn write_one<W: Write + Drop>(
-    alloc: Global,
-    header: Header,
-    style: Style,
-    raw: &[u8],
-    out: W,
-) -> Result<W>
-    ensures { IfOk result (λ w. Appends (W.contents out) (W.contents w)
-        (image_file style header raw.now)) }
-{
-    let mut writer = PixelWriter::new(alloc, header, style, out)?;
-    writer.write(raw)?;
-    let out = writer.finish()?;
-    Ok(out)
 }
 
 /// Rows. The file of an image whose raw bytes are handed over row by row.
@@ -86,21 +67,10 @@ pub fn rows_and_whole(
 fn in_parts_and_rows(rt: HostRuntime) {
     let alloc = rt.alloc();
     let header = Header::default();
-    assert_given(
-        &rt,
-        write_two(alloc, header, Style::Places, &PIXEL[..1], &PIXEL[1..]),
-        &ONE_RGB_PIXEL,
-    );
-    assert_given(
-        &rt,
-        write_rows(alloc, header, Style::Tight, &PIXEL, 2),
-        &ONE_RGB_PIXEL,
-    );
-    assert_given(
-        &rt,
-        write_one(alloc, header, Style::Reference, &PIXEL, Vec::new(alloc)),
-        &ONE_RGB_PIXEL,
-    );
+    let file = write_two(alloc, header, Style::Places, &PIXEL[..1], &PIXEL[1..]);
+    assert_given(&rt, file, &ONE_RGB_PIXEL);
+    let file = write_rows(alloc, header, Style::Tight, &PIXEL, 2);
+    assert_given(&rt, file, &ONE_RGB_PIXEL);
     let both = rows_and_whole(alloc, &PIXEL, 1, 1, Style::Reference);
     assert_both(&rt, both, &ONE_RGB_PIXEL, &ONE_RGB_PIXEL);
 }

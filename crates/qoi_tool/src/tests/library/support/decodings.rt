@@ -121,11 +121,8 @@ impl<'a> Decoding<'a> {
         assert_header(rt, &header, &self.header);
         assert_bytes(rt, &raw, image);
         let mut buf = made::filled(rt, alloc, 0xaa, image.len());
-        assert_header(
-            rt,
-            &decode_to_buf(&mut buf, self.bytes).expect(rt, "refused"),
-            &self.header,
-        );
+        let header = decode_to_buf(&mut buf, self.bytes).expect(rt, "refused");
+        assert_header(rt, &header, &self.header);
         assert_bytes(rt, &buf, image);
     }
 

@@ -67,6 +67,13 @@ const PLACE_RAW: &[u8] = &[101, 102, 103, 104, 1, 2, 3, 4, 101, 102, 103, 104];
 pub const PLACE_RGBA: Written = Written { name: "place_rgba", width: 3, chunks: PLACE_CHUNKS,
     rest: PLACE_RAW, ..RGBA };
 
+/// A chunk of each kind: RGB, RGBA, a difference, a luma, an index position (53) and a run of two.
+#[rattlefmt::skip]
+pub const EACH_KIND: Written = Written { name: "a chunk of each kind", width: 7,
+    chunks: &[0xfe, 1, 0x63, 2, 0xff, 0x0b, 0x21, 0x37, 0x4d, 0x40, 0xbf, 0xff, 0x35, 0xc1],
+    rest: &[1, 99, 2, 255, 11, 33, 55, 77, 9, 31, 53, 77, 47, 62, 91, 77, 1, 99, 2, 255, 1, 99, 2,
+    255, 1, 99, 2, 255], ..RGBA };
+
 /// A repeat in style `Reference`.
 #[rattlefmt::skip]
 pub const REPEAT: Written = Written { name: "styles", width: 3,

@@ -149,9 +149,15 @@ impl Groups {
     /// Adds a fresh pixel and so many repeats of it.
     pub fn add(&mut self, rt: &impl Abort, numbers: &mut Numbers, repeats: usize) {
         self.letter = (self.letter % 3 + 1 + numbers.below(2)) % 3;
+        for _ in 0..=repeats {
+            self.repeat(rt);
+        }
+    }
+
+    /// Adds the last pixel again; at the front the first letter.
+    pub fn repeat(&mut self, rt: &impl Abort) {
         if let Some(px) = self.letters.get(self.letter as usize) {
-            let size = self.pixels.len().saturating_add(repeats).saturating_add(1);
-            self.pixels.resize(size, *px).expect(rt, "refused");
+            self.pixels.push(*px).expect(rt, "refused");
         }
     }
 

@@ -4,7 +4,7 @@ use crate::tests::library::support::decodings::Decoding;
 use crate::tests::library::support::generator::Rgba;
 use crate::tests::library::support::plain::plain_chunks;
 use crate::tests::library::support::{
-    assert_bytes, assert_fails, assert_given, assert_header, assert_number, made,
+    assert_bytes, assert_count, assert_fails, assert_given, assert_header, assert_number, made,
 };
 use qoi::{Channels, Encoder, Header, Style, encode_to_buf, encode_to_vec};
 use std::alloc::Global;
@@ -107,6 +107,15 @@ impl Image {
         encoder.with_style(self.style)
     }
 
+    /// Its file, which is decoded in its own channels.
+    pub fn decoding(&self) -> Decoding<'_> {
+        Decoding {
+            bytes: &self.file,
+            header: self.header,
+            channels: self.header.channels,
+        }
+    }
+
     /// Encodes the image by each of the calls, compares with its file, and decodes it back.
     pub fn check(&self, rt: &impl Abort, alloc: Global) {
         let encoder = self.encoder(rt);
@@ -115,21 +124,15 @@ impl Image {
         assert!(rt; encoder.channels() == self.header.channels);
         assert_given(rt, encoder.encode_to_vec(alloc), &self.file);
         self.sent(rt, alloc, usize::MAX);
-        let mut buf = vec![in alloc; 0xaau8; encoder.required_buf_len().saturating_add(3)].expect(
-            rt, "refused",
-        );
+        let required = encoder.required_buf_len();
+        let mut buf = made::filled(rt, alloc, 0xaa, required.saturating_add(3));
         let size = encoder.encode_to_buf(&mut buf).expect(rt, "refused");
         self.check_front(rt, size, &buf);
         if self.style == Style::Reference {
             self.check_free(rt, alloc);
         }
-        let decoding = Decoding {
-            bytes: &self.file,
-            header: self.header,
-            channels: self.header.channels,
-        };
-        decoding.check_free(rt, alloc, &self.raw);
-        decoding.check(rt, alloc, &self.raw, &[]);
+        self.decoding().check_free(rt, alloc, &self.raw);
+        self.decoding().check(rt, alloc, &self.raw, &[]);
     }
 
     // The file stands at the front of the buffer, and each byte after it is as before.
@@ -150,9 +153,8 @@ impl Image {
         let (width, height) = (self.header.width, self.header.height);
         let file = encode_to_vec(alloc, &self.raw, width, height).expect(rt, "refused");
         assert_bytes(rt, &file, &self.file);
-        let mut buf = vec![in alloc; 0xaau8; self.header.encode_max_len().saturating_add(3)].expect(
-            rt, "refused",
-        );
+        let most = self.header.encode_max_len();
+        let mut buf = made::filled(rt, alloc, 0xaa, most.saturating_add(3));
         let size = encode_to_buf(&mut buf, &self.raw, width, height).expect(rt, "refused");
         self.check_front(rt, size, &buf);
     }
@@ -160,11 +162,8 @@ impl Image {
     /// Encodes the image to a writer that takes at most `most` bytes a call, and all of the file.
     pub fn sent(&self, rt: &impl Abort, alloc: Global, most: usize) -> Sink {
         let mut writer = made::sink(rt, alloc, most, NONE);
-        let size = self
-            .encoder(rt)
-            .encode_to_stream(&mut writer)
-            .expect(rt, "refused");
-        assert_number(rt, size, self.file.len());
+        let size = self.encoder(rt).encode_to_stream(&mut writer);
+        assert_count(rt, size, self.file.len());
         assert_bytes(rt, &writer.got, &self.file);
         writer
     }

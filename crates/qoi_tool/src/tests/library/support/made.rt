@@ -17,6 +17,13 @@ pub fn bytes(rt: &impl Abort, alloc: Global, bytes: &[u8]) -> Vec<u8> {
     Vec::from_slice(alloc, bytes).expect(rt, "refused")
 }
 
+/// A vector of these bytes and others behind them.
+pub fn joined(rt: &impl Abort, alloc: Global, first: &[u8], second: &[u8]) -> Vec<u8> {
+    let mut both = bytes(rt, alloc, first);
+    append(rt, &mut both, second);
+    both
+}
+
 /// A vector of so many equal bytes.
 pub fn filled(rt: &impl Abort, alloc: Global, byte: u8, size: usize) -> Vec<u8> {
     vec![in alloc; byte; size].expect(rt, "refused")
