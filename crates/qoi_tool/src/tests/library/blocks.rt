@@ -36,7 +36,7 @@ const STYLES: [Style; 3] = [Style::Reference, Style::Places, Style::Tight];
 
 // Encodes a row of these pixels by each of the calls, and decodes it back.
 fn assert_row(rt: &impl Abort, alloc: Global, channels: Channels, style: Style, pixels: &[Rgba]) {
-    let header = row(pixels.len().min(100) as u32, channels);
+    let header = row(pixels.len().min(3000) as u32, channels);
     made::image(rt, alloc, header, style, pixels).check(rt, alloc);
 }
 
@@ -151,6 +151,25 @@ fn few_fresh_pixels(rt: HostRuntime) {
                     assert_row(&rt, rt.alloc(), Four, style, &pixels);
                 }
             }
+        }
+    }
+}
+
+// Such blocks, one after the other, in 2,193 pixels: the encoder has a loop of its own for them.
+#[test]
+fn few_fresh_blocks(rt: HostRuntime) {
+    let mut numbers = Numbers::new(0xb10f5);
+    for style in STYLES {
+        for alphabet in ALPHABETS {
+            let mut groups = Groups::new(rt.alloc(), alphabet.pixels);
+            groups.add(&rt, &mut numbers, 0);
+            groups.add_block(&rt, &mut numbers, 15, 15);
+            for second in 0..16 {
+                for first in 0..=second {
+                    groups.add_block(&rt, &mut numbers, first, second);
+                }
+            }
+            assert_row(&rt, rt.alloc(), Four, style, &groups.pixels);
         }
     }
 }

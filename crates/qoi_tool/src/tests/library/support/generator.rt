@@ -161,6 +161,24 @@ impl Groups {
         }
     }
 
+    /// Adds a block of sixteen pixels, of which only the first and second of these lanes are fresh, or a
+    /// single one if both are the same.
+    pub fn add_block(
+        &mut self,
+        rt: &impl Abort,
+        numbers: &mut Numbers,
+        first: usize,
+        second: usize,
+    ) {
+        for _ in 0..first {
+            self.repeat(rt);
+        }
+        if first < second {
+            self.add(rt, numbers, second - first - 1);
+        }
+        self.add(rt, numbers, 15usize.saturating_sub(second))
+    }
+
     /// Adds whole blocks of sixteen pixels: up to sixteen fresh ones, of which the last is repeated
     /// so many times; and then a block of which only the first and second of these lanes are fresh,
     /// or a single one if both are the same.
