@@ -1,10 +1,10 @@
 -- A header's fourteen bytes are read as the header, and no other bytes are.
-use Rattle.std.proofs.Common.{◌≡◌, ℕ, ◌+◌, ◌*◌, ◌^◌, ◌<◌, ◌≤◌, zero, suc, List, [], ◌∷◌, ◌++◌, length, take, drop, arith, refl, ap, sym, ◌∙◌, subst, Bool, true, false, Option, Result, Ok, Err, IfOk, slice_index, nat_le, nat_lt, ◌==◌, cond, ◌&&◌, length-append}
+use Rattle.std.proofs.Common.{◌≡◌, ℕ, ◌*◌, ◌^◌, ◌<◌, ◌≤◌, zero, suc, List, [], ◌∷◌, ◌++◌, length, take, drop, arith, refl, ap, sym, ◌∙◌, subst, Bool, true, false, Option, Result, Ok, Err, IfOk, slice_index, nat_le, nat_lt, ◌==◌, cond, ◌&&◌, length-append}
 use Rattle.std.proofs.lemmas.List.{append-nil, length-take-le, drop_at}
 use Rattle.std.proofs.lemmas.Bool.{cond-true, le-ltb, ltb-false, le-leb, leb-true, and_from, and_parts, eqb-true}
 use Rattle.std.proofs.Math.Nat.{mul-zero, mul_comm, le-mul_of_pos_right}
 use Rattle.std.proofs.lemmas.Nat.{from_be_bytes-to_be_bytes_4, be_bytes_4}
-use Rattle.std.specs.Int.{w32, to_be_bytes, from_be_bytes}
+use Rattle.std.specs.Int.{w32, to_be_bytes}
 use Rattle.std.specs.Io.KnownBytes.{Consumes}
 use Rattle.qoi.specs.Decoding.{ReadsHeader}
 use Rattle.qoi.proofs.format.PartOfChunk.{byte_and}

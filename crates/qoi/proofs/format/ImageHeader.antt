@@ -5,13 +5,13 @@ use Rattle.std.proofs.lemmas.Bool.{eqb-true}
 use Rattle.std.proofs.Math.Nat.{mod-add-div', mul_comm}
 use Rattle.qoi.specs.declared.error.Error.{Error}
 use Rattle.qoi.specs.declared.types.Channels.{Channels}
-use Rattle.qoi.specs.declared.types.Channels.TheVariants.{Rgb, Rgba}
+use Rattle.qoi.specs.declared.types.Channels.TheVariants.{Rgb}
 use Rattle.qoi.specs.declared.types.ColorSpace.TheVariants.{Srgb}
 use Rattle.qoi.specs.declared.header.Header.{Header}
 use Rattle.qoi.specs.Qoi.{channels_number, channels_of, pixel_count, tried_header, IsValid}
 use Rattle.qoi.specs.Raw.{image_byte_count}
 use Rattle.qoi.specs.Encoded.{image_header, measured_header, with_number}
-use Rattle.qoi.proofs.format.HeaderBytes.{channels_from, guard_true, tried_says}
+use Rattle.qoi.proofs.format.HeaderBytes.{guard_true, tried_says}
 
 -- a number of channels, of which greater ones are given as 255, is found from itself alone
 number_from : (n : ℕ) (c : Channels) → channels_of (min n 255) ≡ Ok c → n ≡ channels_number c

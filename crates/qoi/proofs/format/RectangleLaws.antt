@@ -1,9 +1,9 @@
 -- Rows and rectangles of raw bytes: what they hold, how they are put together, and what is put in.
-use Rattle.std.proofs.Common.{◌≡◌, ◌≢◌, ◌<◌, ◌≤◌, ◌+◌, ◌-◌, ◌*◌, ◌/◌, ◌%◌, ◌⊎◌, ℕ, zero, suc, List, [], ◌++◌, length, take, drop, get_or, inl, inr, ⊎_elim, refl, sym, subst, ◌∙◌, ap, arith}
-use Rattle.std.proofs.lemmas.List.{ext_get_or, append_assoc, append-nil, length-append, length-drop, length-take, take-append-drop, drop-drop, drop-take, take-take, take_all, take_at, drop_at, take-append-le, drop-append-le, get_or-take, get_or-drop, get_or_append_left, get_or-append_right}
+use Rattle.std.proofs.Common.{◌≡◌, ◌<◌, ◌≤◌, ◌+◌, ◌-◌, ◌*◌, ◌/◌, ◌%◌, ◌⊎◌, ℕ, zero, suc, List, ◌++◌, length, take, drop, get_or, inl, inr, ⊎_elim, refl, sym, subst, ◌∙◌, ap, arith}
+use Rattle.std.proofs.lemmas.List.{ext_get_or, append_assoc, append-nil, length-append, length-drop, length-take, take-append-drop, drop-drop, drop-take, take-take, take_all, take_at, drop_at, take-append-le, drop-append-le, get_or-take, get_or-drop}
 use Rattle.std.proofs.Math.Nat.{add-suc, div-add-mod, mod-lt, mul-add, mul-suc, mul-zero, mul_comm, zero-mul, zero-add}
 use Rattle.std.proofs.Math.Seq.{take-add}
-use Rattle.std.proofs.lemmas.Bool.{cases_eq, cases_lt}
+use Rattle.std.proofs.lemmas.Bool.{cases_lt}
 use Rattle.std.proofs.lemmas.Grind.{common_steps}
 use Rattle.std.proofs.lemmas.Nat.{mul-le, row_fits, row-Below}
 use Rattle.qoi.specs.Rectangles.{row_bytes, rectangle, with_tile, IsOutside, KeepsOutside}

@@ -1,6 +1,6 @@
 -- The test of two pixels says whether they are the same, and each has an index position.
-use Rattle.std.proofs.Common.{◌≡◌, ◌≢◌, ◌⊎◌, inl, inr, Bool, true, false, ◌&&◌, eqb, ◌<◌, arith, refl}
-use Rattle.std.proofs.lemmas.Bool.{and_parts, and_from, eqb-true, eq-eqb, true≢false, false_from_ne_true}
+use Rattle.std.proofs.Common.{◌≡◌, ◌≢◌, ◌⊎◌, inl, inr, Bool, true, false, ◌<◌, arith, refl}
+use Rattle.std.proofs.lemmas.Bool.{true≢false, false_from_ne_true}
 use Rattle.qoi.specs.Qoi.{RgbaPixel, pixel, pixel_eq, hash}
 
 -- an index position is below 64

@@ -1,5 +1,5 @@
 -- What is seen, and what the tables hold, after a pixel came some times.
-use Rattle.std.proofs.Common.{◌≡◌, ℕ, zero, suc, ◌<◌, Bool, true, false, List, ◌∷◌, ◌++◌, replicate, cond, eqb, Some, arith, refl, sym, ap, ◌∙◌}
+use Rattle.std.proofs.Common.{◌≡◌, ℕ, zero, suc, ◌<◌, List, ◌∷◌, ◌++◌, replicate, cond, eqb, Some, arith, refl, sym, ap, ◌∙◌}
 use Rattle.qoi.specs.Qoi.{RgbaPixel, Past, previous, seen, hash}
 use Rattle.qoi.specs.inner.Hashed.{HoldsSeen}
 use Rattle.qoi.specs.inner.Table.{Holds}

@@ -1,6 +1,6 @@
 -- What a pixel costs: the shortest chunk of a fresh one, and a run of repeats.
-use Rattle.std.proofs.Common.{◌≡◌, ◌≢◌, inl, inr, ℕ, zero, suc, ◌+◌, ◌-◌, ◌/◌, ◌%◌, ◌<◌, ◌≤◌, Bool, true, false, ◌||◌, cond, eqb, ◌∷◌, ◌++◌, replicate, refl, sym, le_of_eq, subst, arith}
-use Rattle.std.proofs.lemmas.Bool.{or_cases, or_left, or_right, cond-true, cond-false, cond_both, true≢false, cases_eq, eq-eqb, eqb-true, eqb-false}
+use Rattle.std.proofs.Common.{◌≡◌, ◌≢◌, inl, inr, ℕ, zero, suc, ◌+◌, ◌-◌, ◌/◌, ◌%◌, ◌<◌, ◌≤◌, Bool, true, false, cond, eqb, ◌∷◌, ◌++◌, replicate, sym, le_of_eq, arith}
+use Rattle.std.proofs.lemmas.Bool.{or_cases, or_right, cond-true, cond-false, true≢false, eq-eqb, eqb-true}
 use Rattle.qoi.specs.declared.chunk.Chunk.TheVariants.{Diff, Luma}
 use Rattle.qoi.specs.Qoi.{RgbaPixel, Past, pixel_eq, previous, seen, hash, IsChunk, after_diff, after_luma}
 use Rattle.qoi.specs.Shortest.{some_below, some_diff, some_luma, some_rgb, least, trailing_repeats, cost, total_cost}

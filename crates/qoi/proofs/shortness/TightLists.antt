@@ -1,6 +1,6 @@
 -- No chunk list at all is shorter than the tight one.
 use Rattle.std.proofs.Common.{◌≡◌, ◌≢◌, ◌⊎◌, inl, inr, ℕ, ◌+◌, ◌≤◌, true, false, ◌&&◌, List, [], ◌∷◌, length, reverse, None, is_some, refl, sym, ap, ◌∙◌, append-nil, arith}
-use Rattle.std.proofs.lemmas.Bool.{cond-true, cond-false, cond_both, and_from}
+use Rattle.std.proofs.lemmas.Bool.{cond-true, and_from}
 use Rattle.qoi.specs.declared.chunk.Chunk.{Chunk}
 use Rattle.qoi.specs.declared.chunk.Chunk.TheVariants.{Place}
 use Rattle.qoi.specs.Qoi.{RgbaPixel, Past, pixel_eq, blank, previous, seen, hash, IsChunk, AreChunks, pixel_after, bytes_of, chunk_bytes, then_chunk, meaning, Each}

@@ -1,5 +1,5 @@
 -- One lane's index position, and vectors of other lanes.
-use Rattle.std.proofs.Common.{◌≡◌, ℕ, ◌+◌, ◌-◌, ◌%◌, ◌≤◌, bit_and, List, [], ◌∷◌, ◌++◌, length, length-drop, map, take, drop, slice_index, refl, sym, ap, ◌∙◌, arith}
+use Rattle.std.proofs.Common.{◌≡◌, ℕ, ◌+◌, ◌%◌, ◌≤◌, bit_and, List, [], ◌∷◌, ◌++◌, length, length-drop, map, take, drop, slice_index, refl, sym, ap, ◌∙◌, arith}
 use Rattle.std.proofs.lemmas.List.{length-append, drop-append-le}
 use Rattle.std.proofs.lemmas.Nat.{and_mask}
 use Rattle.std.proofs.lemmas.Simd.{pick_l-range_with_len}

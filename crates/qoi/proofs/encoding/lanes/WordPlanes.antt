@@ -1,5 +1,5 @@
 -- The bytes of packed pixels, and their planes.
-use Rattle.std.proofs.Common.{◌≡◌, ℕ, ◌+◌, ◌/◌, ◌%◌, ◌<◌, List, [], ◌∷◌, ◌++◌, length, map, refl, ap, ◌∙◌, arith, take, drop}
+use Rattle.std.proofs.Common.{◌≡◌, ℕ, ◌/◌, ◌%◌, ◌<◌, List, [], ◌∷◌, ◌++◌, length, map, refl, ap, ◌∙◌, arith, take, drop}
 use lib.Lanes.{number_l, digits_l, pick_l}
 use Rattle.qoi.specs.declared.encode.block.planes.Planes.{Planes}
 use Rattle.qoi.specs.Qoi.{RgbaPixel, IsPixel, pixel}

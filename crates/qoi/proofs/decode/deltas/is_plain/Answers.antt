@@ -1,5 +1,5 @@
 -- Each entry of the tables is right.
-use Rattle.std.proofs.Common.{◌≡◌, ◌<◌, arith, refl}
+use Rattle.std.proofs.Common.{◌≡◌, arith, refl}
 use mir.Val.{bool_byte}
 use Rattle.qoi.proofs.format.AddedTerms.{byte_value, plain_by, plain_is}
 use Rattle.qoi.proofs.decode.deltas.is_plain.Goals as goal
