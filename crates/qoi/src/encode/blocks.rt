@@ -1,6 +1,6 @@
 //! Writes what is at the front of an image's pixels into a piece: blocks of sixteen, and between
 //! two of them repeats are carried (QOI specification 1.0, "Data" and "Chunks").
-ghost use Rattle.std.specs.Prelude.{◌≡◌, ◌⊎◌, ℕ, ◌<◌, ◌≤◌, ◌%◌, true, List, ◌++◌, Some, length, take, slice_get, IsTrue};
+ghost use Rattle.std.specs.Prelude.{◌≡◌, ◌≢◌, ◌⊎◌, ℕ, ◌<◌, ◌≤◌, ◌%◌, true, List, [], ◌++◌, Some, length, take, slice_get, IsTrue};
 ghost use Rattle.qoi.specs.declared.encode.carry.TheConstants.{FRONT_CARRIED};
 ghost use Rattle.qoi.specs.declared.types.Style.{Style};
 ghost use Rattle.qoi.specs.declared.types.Style.TheVariants.{Tight};
@@ -254,6 +254,38 @@ fn fill<'a, 'p, const N: usize, const STYLE: u8, const ROOM: usize>(
     fill_by::<N, STYLE, ROOM, false>(table, piece, raw, carry)
 }
 
+// Writes from one fresh pixel to the next, by `write_pairs` or else by `write_sparse`, until the piece
+// is full or others come. Returns the rest.
+//
+// Each style has functions of its own, in which it is a constant. They aren't inlined where they are
+// called: the loop over blocks would be slower.
+#[inline(never)]
+fn write_fresh<'a, 'p, const N: usize, const STYLE: u8, const ROOM: usize, const PAIRS: bool>(
+    last: LastPixel,
+    table: &mut PixelTable,
+    piece: OpenPiece<'p, ROOM>,
+    raw: Pixels<'a, N>,
+) -> (Pixels<'a, N>, LastPixel, Piece<'p, ROOM>)
+    requires some { pixels_in raw ≢ [] }
+    requires opaque { N ≡ 3 → last.px.a ≡ 255 }
+    ensures opaque { N ≡ 3 → result.1.px.a ≡ 255 }
+    ensures less { length (pixels_in result.0) < length (pixels_in raw.entry) }
+    ensures written { (ahead : List ℕ) (more : List RgbaPixel)
+        → CoderBetween (style_of STYLE) ahead (pixels_in raw.entry ++ more)
+        table.old last (kept_bytes piece.entry.piece)
+        → CoderBetween (style_of STYLE) ahead (pixels_in result.0 ++ more)
+        table.new result.1 (kept_bytes result.2) }
+{
+    let mut piece = piece.piece;
+    let mut coder = Coder::<N>::new(style_of::<STYLE>(), last);
+    if PAIRS {
+        let rest = write_pairs::<N, STYLE, ROOM>(&mut coder, table, &mut piece, raw);
+        return (rest, coder.last, piece);
+    }
+    let rest = write_sparse::<N, STYLE, ROOM>(&mut coder, table, &mut piece, raw);
+    (rest, coder.last, piece)
+}
+
 /// Writes what is at the front: blocks, until the piece is full or fewer pixels than a block has
 /// are left; or repeats and the fresh pixel after them; or pairs, until the piece is full or others
 /// come (`write_pairs`). Returns the rest. Any pixels may follow.
@@ -274,12 +306,12 @@ pub(super) fn write_some<'a, 'p, const N: usize, const STYLE: u8, const ROOM: us
         table.new last.new (kept_bytes result.1) }
 {
     if go_by_pairs(last.px, raw) {
-        let (rest, after, piece) = write_pairs::<N, STYLE, ROOM>(*last, table, piece, raw);
+        let (rest, after, piece) = write_fresh::<N, STYLE, ROOM, true>(*last, table, piece, raw);
         *last = after;
         return (rest, piece);
     }
     if go_by_fresh::<N>(PixelOf { px: last.px }, raw) {
-        let (rest, after, piece) = write_sparse::<N, STYLE, ROOM>(*last, table, piece, raw);
+        let (rest, after, piece) = write_fresh::<N, STYLE, ROOM, false>(*last, table, piece, raw);
         *last = after;
         return (rest, piece);
     }

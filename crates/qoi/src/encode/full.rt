@@ -12,16 +12,13 @@ fn is_full(table: &PixelTable, before: Packed, px: Packed) -> bool {
     px.a() != before.a() && !table.at(px.hash_index()).is_same(px)
 }
 
-// Fewer raw bytes don't go by the loop of RGBA chunks: to enter it would take longer.
-const LEAST: usize = 1024;
-
 /// Whether RGBA chunks give the first three pixels, and so may give most of those that follow, if these
 /// are many.
 #[inline(always)]
 pub(super) fn begin_full<const N: usize>(table: &PixelTable, last: Packed, raw: Pixels<N>) -> bool
     requires { 3 ≤ length (pixels_in raw) }
 {
-    if N == 3 || raw.bytes.len() < LEAST {
+    if N == 3 || !raw.are_many() {
         return false;
     }
     let (second, third) = (raw.skip(1), raw.skip(2));

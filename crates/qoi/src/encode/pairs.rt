@@ -3,14 +3,11 @@
 ghost use Rattle.std.specs.Prelude.{◌≡◌, ◌≢◌, ℕ, ◌-◌, ◌<◌, List, [], ◌++◌, length};
 ghost use Rattle.qoi.specs.declared.encode.piece.TheConstants.{SPARE};
 ghost use Rattle.qoi.specs.Qoi.{RgbaPixel};
-ghost use Rattle.qoi.specs.inner.CoderLoop.{CoderBetween};
-ghost use Rattle.qoi.specs.inner.CoderState.{style_of};
-ghost use Rattle.qoi.specs.inner.Piece.{kept_bytes};
+ghost use Rattle.qoi.specs.inner.CoderSteps.{CoderPasses};
 ghost use Rattle.qoi.specs.inner.Pixels.{pixels_in};
 
-use crate::encode::coder::{Coder, style_of};
-use crate::encode::last_pixel::LastPixel;
-use crate::encode::piece::{OpenPiece, Piece};
+use crate::encode::coder::Coder;
+use crate::encode::piece::Piece;
 use crate::encode::pixels::{Group, Pixels};
 use crate::encode::table::PixelTable;
 use crate::packed::Packed;
@@ -34,9 +31,11 @@ pub(super) fn go_by_pairs<const N: usize>(last: Packed, raw: Pixels<N>) -> bool
     N == 4 && (begin_with_two(last, raw) || begin_with_two(raw.first().px, raw.skip(1)))
 }
 
-// As `write_pairs`, where it is inlined: it has the number of the style, so that each calls its own.
+/// Writes the repeats that came before these pixels, those at their front, and the fresh pixel after
+/// them (`write_next`); and then a repeat and a fresh pixel by turns, until the piece is full or
+/// others come. Returns the rest. It has the number of the style, so that each has a copy.
 #[inline(always)]
-fn write_on<'a, const N: usize, const STYLE: u8, const ROOM: usize>(
+pub(super) fn write_pairs<'a, const N: usize, const STYLE: u8, const ROOM: usize>(
     coder: &mut Coder<N>,
     table: &mut PixelTable,
     piece: &mut Piece<ROOM>,
@@ -46,11 +45,8 @@ fn write_on<'a, const N: usize, const STYLE: u8, const ROOM: usize>(
     requires room { piece.old.end < ROOM - SPARE }
     ensures style { coder.new.style ≡ coder.old.style }
     ensures less { length (pixels_in result) < length (pixels_in raw.entry) }
-    ensures written { (ahead : List ℕ) (more : List RgbaPixel)
-        → CoderBetween coder.old.style ahead (pixels_in raw.entry ++ more)
-        table.old coder.old.last (kept_bytes piece.old)
-        → CoderBetween coder.new.style ahead (pixels_in result ++ more)
-        table.new coder.new.last (kept_bytes piece.new) }
+    ensures written { CoderPasses coder.old table.old piece.old (pixels_in raw.entry)
+        coder.new table.new piece.new (pixels_in result) }
 {
     let mut rest = coder.write_next(table, piece, raw);
     let mut last = coder.last.px;
@@ -63,33 +59,4 @@ fn write_on<'a, const N: usize, const STYLE: u8, const ROOM: usize>(
         last = coder.last.px;
     }
     rest
-}
-
-/// Writes the repeats that came before these pixels, those at their front, and the fresh pixel after
-/// them (`write_next`); and then a repeat and a fresh pixel by turns, until the piece is full or
-/// others come. Returns the rest.
-///
-/// Each style has a function of its own, in which it is a constant. It isn't inlined where it is
-/// called: the loop over blocks would be slower.
-#[inline(never)]
-pub(super) fn write_pairs<'a, 'p, const N: usize, const STYLE: u8, const ROOM: usize>(
-    last: LastPixel,
-    table: &mut PixelTable,
-    piece: OpenPiece<'p, ROOM>,
-    raw: Pixels<'a, N>,
-) -> (Pixels<'a, N>, LastPixel, Piece<'p, ROOM>)
-    requires some { pixels_in raw ≢ [] }
-    requires opaque { N ≡ 3 → last.px.a ≡ 255 }
-    ensures opaque { N ≡ 3 → result.1.px.a ≡ 255 }
-    ensures less { length (pixels_in result.0) < length (pixels_in raw.entry) }
-    ensures written { (ahead : List ℕ) (more : List RgbaPixel)
-        → CoderBetween (style_of STYLE) ahead (pixels_in raw.entry ++ more)
-        table.old last (kept_bytes piece.entry.piece)
-        → CoderBetween (style_of STYLE) ahead (pixels_in result.0 ++ more)
-        table.new result.1 (kept_bytes result.2) }
-{
-    let mut piece = piece.piece;
-    let mut coder = Coder::<N>::new(style_of::<STYLE>(), last);
-    let rest = write_on::<N, STYLE, ROOM>(&mut coder, table, &mut piece, raw);
-    (rest, coder.last, piece)
 }

@@ -7,6 +7,10 @@ use crate::encode::piece::REPEATS_AT_ONCE;
 use crate::packed::Packed;
 use crate::utils::skip;
 
+// From so many raw bytes on it is asked whether they go by a loop of their own: with fewer, to ask takes
+// longer than it brings.
+const MANY_BYTES: usize = 1024;
+
 /// Raw bytes of whole pixels, which have `N` bytes each.
 #[derive(Clone, Copy)]
 pub(super) struct Pixels<'a, const N: usize> {
@@ -73,6 +77,12 @@ impl<'a, const N: usize> Pixels<'a, N> {
         ensures { IsTrue result ↔ (16 ≤ length (pixels_in self.entry)) }
     {
         self.bytes.len() >= 16 * N
+    }
+
+    /// Whether there are so many that to ask for another loop than the one over blocks is worth it.
+    #[inline(always)]
+    pub(super) fn are_many(self) -> bool {
+        self.bytes.len() >= MANY_BYTES
     }
 
     /// Whether there are fewer than others.

@@ -3,19 +3,16 @@
 ghost use Rattle.std.specs.Prelude.{◌≡◌, ◌≢◌, ℕ, ◌-◌, ◌<◌, ◌≤◌, ◌^◌, List, [], ◌++◌, length, take, slice_index};
 ghost use Rattle.qoi.specs.declared.encode.piece.TheConstants.{SPARE};
 ghost use Rattle.qoi.specs.Qoi.{RgbaPixel};
-ghost use Rattle.qoi.specs.inner.CoderLoop.{CoderBetween};
-ghost use Rattle.qoi.specs.inner.CoderState.{style_of};
+ghost use Rattle.qoi.specs.inner.CoderSteps.{CoderPasses};
 ghost use Rattle.qoi.specs.inner.Packed.{pixel_of_word};
-ghost use Rattle.qoi.specs.inner.Piece.{kept_bytes};
 ghost use Rattle.qoi.specs.inner.Pixels.{pixels_in};
 ghost use Rattle.qoi.specs.inner.block.Marks.{fresh_marks};
 ghost use Rattle.qoi.specs.inner.block.Planes.{AreFour, pixels_of_words};
 
 use crate::encode::block::reading::first_sixteen;
-use crate::encode::coder::{Coder, style_of};
-use crate::encode::last_pixel::LastPixel;
+use crate::encode::coder::Coder;
 use crate::encode::marked::{are_few, write_marked};
-use crate::encode::piece::{OpenPiece, Piece};
+use crate::encode::piece::Piece;
 use crate::encode::pixels::{FrontBlock, Marked, PixelOf, Pixels};
 use crate::encode::table::PixelTable;
 use std::simd::prelude::*;
@@ -46,25 +43,24 @@ fn fresh_in_block<const N: usize>(front: FrontBlock<N>, last: PixelOf<N>) -> u64
     first + (second << 4) + (third << 8) + (fourth << 12)
 }
 
-// Fewer raw bytes don't go by this loop: to ask would take longer.
-const LEAST: usize = 1024;
-
 /// Whether the pixels go by `write_sparse`: if they are many, and one or two of the first sixteen
 /// are fresh. Not in three channels.
 #[inline(always)]
 pub(super) fn go_by_fresh<const N: usize>(last: PixelOf<N>, raw: Pixels<N>) -> bool
     requires { 16 ≤ length (pixels_in raw) }
 {
-    if N == 3 || raw.bytes.len() < LEAST {
+    if N == 3 || !raw.are_many() {
         return false;
     }
     let marks = fresh_in_block::<N>(raw.front_of(raw), last);
     marks != 0 && are_few(marks)
 }
 
-// As `write_sparse`, where it is inlined: it has the number of the style, so that each calls its own.
+/// Writes the repeats that came before these pixels, those at their front, and the fresh pixel after
+/// them (`write_next`); and then blocks of which one or two pixels are fresh, until the piece is full
+/// or others come. Returns the rest. It has the number of the style, so that each has a copy.
 #[inline(always)]
-fn write_on<'a, const N: usize, const STYLE: u8, const ROOM: usize>(
+pub(super) fn write_sparse<'a, const N: usize, const STYLE: u8, const ROOM: usize>(
     coder: &mut Coder<N>,
     table: &mut PixelTable,
     piece: &mut Piece<ROOM>,
@@ -74,11 +70,8 @@ fn write_on<'a, const N: usize, const STYLE: u8, const ROOM: usize>(
     requires room { piece.old.end < ROOM - SPARE }
     ensures style { coder.new.style ≡ coder.old.style }
     ensures less { length (pixels_in result) < length (pixels_in raw.entry) }
-    ensures written { (ahead : List ℕ) (more : List RgbaPixel)
-        → CoderBetween coder.old.style ahead (pixels_in raw.entry ++ more)
-        table.old coder.old.last (kept_bytes piece.old)
-        → CoderBetween coder.new.style ahead (pixels_in result ++ more)
-        table.new coder.new.last (kept_bytes piece.new) }
+    ensures written { CoderPasses coder.old table.old piece.old (pixels_in raw.entry)
+        coder.new table.new piece.new (pixels_in result) }
 {
     let mut rest = coder.write_next(table, piece, raw);
     while !piece.is_full() && rest.has_block() {
@@ -90,33 +83,4 @@ fn write_on<'a, const N: usize, const STYLE: u8, const ROOM: usize>(
         rest = write_marked(coder, table, piece, Marked { front, marks });
     }
     rest
-}
-
-/// Writes the repeats that came before these pixels, those at their front, and the fresh pixel after
-/// them (`write_next`); and then blocks of which one or two pixels are fresh, until the piece is full
-/// or others come. Returns the rest.
-///
-/// Each style has a function of its own, in which it is a constant. It isn't inlined where it is
-/// called: the loop over blocks would be slower.
-#[inline(never)]
-pub(super) fn write_sparse<'a, 'p, const N: usize, const STYLE: u8, const ROOM: usize>(
-    last: LastPixel,
-    table: &mut PixelTable,
-    piece: OpenPiece<'p, ROOM>,
-    raw: Pixels<'a, N>,
-) -> (Pixels<'a, N>, LastPixel, Piece<'p, ROOM>)
-    requires some { pixels_in raw ≢ [] }
-    requires opaque { N ≡ 3 → last.px.a ≡ 255 }
-    ensures opaque { N ≡ 3 → result.1.px.a ≡ 255 }
-    ensures less { length (pixels_in result.0) < length (pixels_in raw.entry) }
-    ensures written { (ahead : List ℕ) (more : List RgbaPixel)
-        → CoderBetween (style_of STYLE) ahead (pixels_in raw.entry ++ more)
-        table.old last (kept_bytes piece.entry.piece)
-        → CoderBetween (style_of STYLE) ahead (pixels_in result.0 ++ more)
-        table.new result.1 (kept_bytes result.2) }
-{
-    let mut piece = piece.piece;
-    let mut coder = Coder::<N>::new(style_of::<STYLE>(), last);
-    let rest = write_on::<N, STYLE, ROOM>(&mut coder, table, &mut piece, raw);
-    (rest, coder.last, piece)
 }

@@ -60,10 +60,11 @@ fresh_four (x ∷ y ∷ z ∷ q ∷ []) (a ∷ b ∷ c ∷ d ∷ []) f g =
 fresh_four (x ∷ y ∷ z ∷ q ∷ []) four f g = absurd (let l = g.0 in omega arith)
 fresh_four before four f g = absurd (let l = f.0 in omega arith)
 
--- which are four bits
-pub few_four : (before four : List ℕ) → length four ≡ 4 → differing before four < 2 ^ 4
-few_four before (a ∷ b ∷ c ∷ d ∷ []) l = omega (arith, mask_l-lt (map (top 31) (zip2 differs (a ∷ b ∷ c ∷ d ∷ []) (each_before before (a ∷ b ∷ c ∷ d ∷ [])))))
-few_four before four l = absurd (omega arith)
+-- the bits of four that differ from other four are four bits
+pub few_four : (xs ys : List ℕ) → length xs ≡ 4 → length ys ≡ 4 → mask_l (map (top 31) (zip2 differs xs ys)) % 2 ^ 64 < 2 ^ 4
+few_four (a ∷ b ∷ c ∷ d ∷ []) (e ∷ f ∷ g ∷ h ∷ []) l m = omega (arith, mask_l-lt (map (top 31) (zip2 differs (a ∷ b ∷ c ∷ d ∷ []) (e ∷ f ∷ g ∷ h ∷ []))))
+few_four (a ∷ b ∷ c ∷ d ∷ []) ys l m = absurd (omega (arith, m))
+few_four xs ys l m = absurd (omega (arith, l))
 
 -- the bits of those that follow stand above them
 behind : (a b c d m : ℕ) → a + 2 * (b + 2 * (c + 2 * (d + 2 * m))) ≡ a + 2 * (b + 2 * (c + 2 * (d + 2 * 0))) + 2 ^ 4 * m

@@ -1,14 +1,21 @@
--- The coder has the style of the number, and keeps it.
-use Rattle.std.proofs.Common.{◌++◌, sym, ◌∙◌, subst}
-use Rattle.qoi.specs.inner.CoderLoop.{CoderBetween}
-use Rattle.qoi.specs.inner.CoderState.{style_of}
-use Rattle.qoi.specs.inner.Piece.{kept_bytes}
+-- A pair after the other, each of two pixels.
+use Rattle.std.proofs.Common.{length, length-drop, refl, ap, ◌∙◌, arith}
 use Rattle.qoi.specs.inner.Pixels.{pixels_in}
-use Rattle.qoi.proofs.encoding.blocks.InStyle.{in_style}
 use Rattle.qoi.proofs.encode.pairs.write_pairs.Goals as goal
 
-pub returns-clause-written : goal.returns-clause-written
-returns-clause-written g c = λ ahead more b.
-    let coder = c.new-coder.ensures in
-    in_style (coder.style ∙ c.style_of.ensures) c.write_on-rest.ensures.style (c.write_on-rest.ensures.written ahead more)
-    (subst (λ last. CoderBetween (style_of g.row.STYLE) ahead (pixels_in c.args.raw ++ more) c.args.table.now last (kept_bytes c.args.piece.piece)) (sym coder.last) b)
+pub loop-rest-smaller : goal.loop-rest-smaller
+loop-rest-smaller g c =
+    let two = c.begin_with_single.ensures.two c.if-begin_with_single.true in
+    omega (arith, ap length c.write_short_group-rest.ensures.rest, length-drop 2 (pixels_in c.loop-rest.rest), two)
+
+pub loop-rest-preserved : goal.loop-rest-preserved
+loop-rest-preserved g c =
+    let i = c.loop-rest.invariant in
+    let step = c.write_short_group-rest.ensures in
+    record {
+      style = step.style ∙ i.style;
+      less = omega (arith, ap length step.rest, length-drop 2 (pixels_in c.loop-rest.rest), i.less);
+      last_is = refl;
+      none = λ _. step.begun.1;
+      written = λ ahead more b. step.written ahead more (i.written ahead more b);
+    }

@@ -1,5 +1,5 @@
 -- All raw bytes came, and the rest of the file, or a beginning of it, is sent.
-use Rattle.std.proofs.Common.{◌≡◌, ◌++◌, [], refl, sym, ap, ◌∙◌, subst, arith, append-nil}
+use Rattle.std.proofs.Common.{◌≡◌, ◌++◌, [], refl, sym, ap, ◌∙◌, subst, arith, append-nil, inr, rules}
 use Rattle.std.proofs.lemmas.Result.{IfErr-weaker, on_ok_weaker}
 use Rattle.std.proofs.KnownBytes.{Appends-trans}
 use Rattle.qoi.specs.EncoderState.{EncoderState}
@@ -51,3 +51,7 @@ returns-clause-part g c = λ e before t.
       sends_part e _ before (g.W.Write.contents c.write_held.new.writer) here.1 (begins_appended (image_ends (begins_after Appends-trans) here.0 r.1)),
     ))
     c.write_held.ensures.refused
+
+pub returns-then-self-gt0-clause-missing : goal.returns-then-self-gt0-clause-missing
+unfolding HasTaken
+returns-then-self-gt0-clause-missing g c = inr (search rules, search rules, cc)
