@@ -21,8 +21,8 @@ use crate::decode::table::{SizedTerms, SmallTermTable, TermTable};
 use crate::error::{Error, Result};
 use std::simd::prelude::*;
 
-// An output of fewer bytes is filled chunk by chunk, with every test: to set the fast loop's table
-// to zero would take longer.
+// A whole image of fewer bytes is decoded chunk by chunk, with every test: to set the fast loop's
+// table to zero would take longer.
 const SMALL_OUTPUT: usize = 160;
 
 // What is left between two chunks: what they reached, and the bytes ahead.
@@ -65,8 +65,8 @@ fn careful_chunks<'a, const N: usize, const F: usize, const RUN_FITS: bool, cons
     Some(Left { reached: now, rest })
 }
 
-// `careful_chunks`, but by the fast loop while there is room ahead. It does without if `out` is the
-// end of a piece, which has room for few chunks.
+// `careful_chunks`, but by the fast loop while there is room ahead. It does without if `out` is short
+// (`FEW`) and isn't the end of the image (`RUN_FITS`).
 #[inline(always)]
 fn slice_chunks<'a, const N: usize, const F: usize, const RUN_FITS: bool>(
     table: &mut TermTable,

@@ -105,7 +105,7 @@ fn write_rest<const N: usize, const ROOM: usize>(
     if rest.is_empty() {
         coder.write_last(piece);
     } else if ROOM == FEW_ROOM {
-        // As `write_few`, but inlined: it is most of what is done.
+        // As `Coder::write_few`, but inlined: it is most of what is done.
         coder.write_each(table, piece, rest);
     } else {
         coder.write_few(table, piece, rest);

@@ -320,6 +320,7 @@ impl<const N: usize> Coder<N> {
         while !rest.is_empty() {
             rest = self.write_next(table, piece, rest);
         }
+        // No fresh pixel follows, so that a single one is a run in each style.
         piece.append_run(self.last.repeats, QOI_OP_RUN);
     }
 

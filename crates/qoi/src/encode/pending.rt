@@ -5,7 +5,7 @@ use crate::encode::table::PixelTable;
 use crate::types::{Channels, Style};
 
 /// What is known between two calls: the table, channels and style of the image, and the last pixel
-/// that was written or repeated. These two stand between table and pixel, since the zeros of both at
+/// that was written or repeated. Channels and style stand between table and pixel, since the zeros of both at
 /// the start would be cleared by a call.
 #[derive(Drop)]
 pub(super) struct Pending {

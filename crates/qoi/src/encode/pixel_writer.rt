@@ -249,7 +249,7 @@ impl<W: Write + Drop> PixelWriter<W> {
             let size = self.taken();
             return Err(wrong_length(&self.header, size));
         }
-        // It stays set if a fault ends the call.
+        // It stays set: no call follows.
         self.failed = true;
         let kept = &mut *self.kept;
         write_held(&mut self.writer, kept)
