@@ -39,6 +39,7 @@ impl<const N: usize, const F: usize> Progress<N, F> {
         while now.taken <= far {
             let block = now.chunks_until::<8>(table, &bytes[..near + INPUT_ROOM], out);
             now = block;
+            // Before the block's end: the output has no room for what comes, or the input ends.
             if block.taken <= near || far < block.taken {
                 break;
             }

@@ -32,8 +32,8 @@ struct Left<'a> {
     rest: &'a [u8],
 }
 
-// Decodes chunks one by one, with every test, after what others reached: if `RUN_FITS`, as long as
-// any run's vectors have room in `out`, else until it is full. `None` if fewer than eight bytes are
+// Decodes chunks one by one, with every test, after what others reached: if `RUN_FITS`, where the
+// image goes on behind `out`, as long as any run's vectors have room there, else until it is full. `None` if fewer than eight bytes are
 // left before that: the file is cut, since its end marker alone has eight.
 #[inline(never)]
 fn careful_chunks<'a, const N: usize, const F: usize, const RUN_FITS: bool, const SIZE: usize>(

@@ -287,8 +287,8 @@ fn write_fresh<'a, 'p, const N: usize, const STYLE: u8, const ROOM: usize, const
 }
 
 /// Writes what is at the front: blocks, until the piece is full or fewer pixels than a block has
-/// are left; or repeats and the fresh pixel after them; or pairs, until the piece is full or others
-/// come (`write_pairs`). Returns the rest. Any pixels may follow.
+/// are left; or repeats and the fresh pixel after them; or pairs, or blocks of few fresh pixels, until
+/// the piece is full or others come (`write_fresh`). Returns the rest. Any pixels may follow.
 pub(super) fn write_some<'a, 'p, const N: usize, const STYLE: u8, const ROOM: usize>(
     last: &mut LastPixel,
     table: &mut PixelTable,

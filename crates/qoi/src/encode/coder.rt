@@ -333,7 +333,8 @@ impl<const N: usize> Coder<N> {
         piece.append_run(self.last.repeats, QOI_OP_RUN);
     }
 
-    /// `write_next` as a function of its own: a loop that has it inlined is slower.
+    /// `write_next` as a function of its own, for an image's opening and for long repeats: a loop that
+    /// has it inlined is slower.
     #[inline(never)]
     pub(super) fn write_open<'a, const ROOM: usize>(
         &mut self,

@@ -52,7 +52,8 @@ fn send_whole<'a, 'p, W: Writer>(
 }
 
 // If raw bytes are held, writes them and as many of `raw` as their last block needs, else whole
-// pixels of `raw`. Holds the pixels that are left, fewer than a block has, and returns the rest.
+// pixels of `raw`. Holds the pixels that are left, fewer than a block has (even of whole blocks some
+// may be, since not all ways go by sixteen), and returns the rest.
 #[inline(always)]
 fn write_more<'a, 'p, W: Writer>(
     writer: &mut W,
