@@ -37,6 +37,7 @@ fn goes_by_blocks<const N: usize>(style: Style, last: LastPixel, raw: Pixels<N>)
     ensures { IsTrue result
         → GoesByBlocks style last (length (pixels_in raw.entry)) (pixels_in raw.entry) }
 {
+    // In `Tight`, `write_group` relies on a fresh pixel that came.
     let may_open = match style {
         Reference | Places => last.repeats == 0,
         Tight => false,
@@ -47,7 +48,8 @@ fn goes_by_blocks<const N: usize>(style: Style, last: LastPixel, raw: Pixels<N>)
     (last.begun | may_open) && !raw.begin_with(last.px)
 }
 
-// What is carried after the coder's last pixel.
+// What is carried after the coder's last pixel. `begun` isn't: a fresh pixel came, or the block opens
+// with one (`goes_by_blocks`).
 #[inline(always)]
 fn carried<const N: usize>(coder: &Coder<N>) -> Carry<N>
     ensures { (style : Style) (ahead : List ℕ) (n : ℕ) (rest more table : List RgbaPixel)

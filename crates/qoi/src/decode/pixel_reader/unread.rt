@@ -231,6 +231,7 @@ impl Unread {
         if placed == out.len() {
             return Ok(placed);
         }
+        // A run is left here only if `out` ends within a pixel.
         Ok(placed + self.give_run::<N, F>(&mut out[placed..]))
     }
 
