@@ -85,7 +85,8 @@ fn find_fits(diff: Planes, luma: Planes, kept: u8x16) -> Fits
 // The difference chunks of steps that fit.
 #[inline(always)]
 fn diffs(steps: Planes) -> u8x16
-    ensures { (ls : List Lane) → ArePlanesBy ls as_diff steps → AreBy ls (λ l. diff_of (as_diff l)) result }
+    ensures { (ls : List Lane) → ArePlanesBy ls as_diff steps
+        → AreBy ls (λ l. diff_of (as_diff l)) result }
 {
     let t = steps.r + steps.r;
     let t = t + t + steps.g;
@@ -97,9 +98,9 @@ fn diffs(steps: Planes) -> u8x16
 // RGBA stand in this order, so it is the least that applies.
 #[inline(always)]
 fn first_bytes(diff: Planes, luma: Planes, fits: Fits, places: u8x16, stands: u8x16) -> u8x16
-    ensures { (ls : List Lane) → ArePlanesBy ls as_diff diff → ArePlanesBy ls as_luma luma → AreFits ls fits
-        → AreBy ls (λ l. hash l.px) places → AreMasks ls (λ l. l.stands) stands
-        → AreBy ls first_of result }
+    ensures { (ls : List Lane) → ArePlanesBy ls as_diff diff → ArePlanesBy ls as_luma luma
+        → AreFits ls fits → AreBy ls (λ l. hash l.px) places
+        → AreMasks ls (λ l. l.stands) stands → AreBy ls first_of result }
 {
     let full = u8x16::splat(0xff) + fits.same_alpha;
     let first = lesser((luma.g + u8x16::splat(0x80)) | !fits.luma, full);
@@ -192,8 +193,8 @@ pub(in crate::encode) fn spell_block(
 /// position.
 #[inline(always)]
 pub(in crate::encode) fn are_full(alpha: u8x16, stands: u8x16) -> bool
-    ensures { (ls : List Lane) → AreBy ls (λ l. (step_of l).a) alpha → AreMasks ls (λ l. l.stands) stands
-        → IsTrue result → AreFull ls }
+    ensures { (ls : List Lane) → AreBy ls (λ l. (step_of l).a) alpha
+        → AreMasks ls (λ l. l.stands) stands → IsTrue result → AreFull ls }
 {
     all_set(!(where_is(alpha, 0) | stands))
 }

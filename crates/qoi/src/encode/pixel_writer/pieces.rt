@@ -40,7 +40,8 @@ fn send_whole<'a, 'p, W: Writer>(
     piece: OpenPiece<'p, FULL_ROOM>,
     data: &'a [u8],
 ) -> Result<(&'a [u8], OpenPiece<'p, FULL_ROOM>)>
-    requires { IsReady (W.room writer.old) FULL_ROOM pending.old (kept_bytes piece.piece) «data».now }
+    requires { IsReady (W.room writer.old) FULL_ROOM pending.old (kept_bytes piece.piece)
+        «data».now }
     ensures stays { StaysIn pending.old pending.new }
     ensures written { IfOk result (λ r. WroteWhole W.wrote W.room FULL_ROOM
         writer.old pending.old (kept_bytes piece.entry.piece) «data».entry.now
