@@ -1,39 +1,54 @@
 //! Pixels that stand twice each, or nearly: a repeat and a fresh pixel by turns (QOI specification
 //! 1.0, "Chunks").
-ghost use Rattle.std.specs.Prelude.{◌≡◌, ◌≢◌, ℕ, ◌-◌, ◌<◌, List, [], ◌++◌, length};
+ghost use Rattle.std.specs.Prelude.{◌≡◌, ◌≢◌, ℕ, ◌-◌, ◌<◌, ◌≤◌, List, [], ◌++◌, length, take, IsTrue};
+ghost use Rattle.qoi.specs.declared.encode.pairs.TheConstants.{TWO_PAIRS};
 ghost use Rattle.qoi.specs.declared.encode.piece.TheConstants.{SPARE};
 ghost use Rattle.qoi.specs.Qoi.{RgbaPixel};
 ghost use Rattle.qoi.specs.inner.CoderSteps.{CoderPasses};
 ghost use Rattle.qoi.specs.inner.Pixels.{pixels_in};
+ghost use Rattle.qoi.specs.inner.block.Marks.{fresh_marks};
 
+use crate::encode::block::reading::read_four;
 use crate::encode::coder::Coder;
 use crate::encode::piece::Piece;
 use crate::encode::pixels::{Group, Pixels};
+use crate::encode::sparse::fresh_in_four;
 use crate::encode::table::PixelTable;
 use crate::packed::Packed;
+use std::simd::prelude::*;
 
-// Whether a repeat of `last` and a fresh pixel stand at the front, and then such a pair once more.
+// The marks of two pairs of a repeat and a fresh pixel.
+const TWO_PAIRS: u64 = 0b1010;
+
+// Whether two pairs of a repeat of `last` and a fresh pixel stand at the front.
 #[inline(always)]
-fn begin_with_two<const N: usize>(last: Packed, raw: Pixels<N>) -> bool {
-    if !raw.begin_with_single(last) {
+fn begin_with_pairs<const N: usize>(last: Packed, raw: Pixels<N>) -> bool
+    ensures four { IsTrue result → 4 ≤ length (pixels_in raw.entry) }
+    ensures marks { IsTrue result
+        → fresh_marks last (take 4 (pixels_in raw.entry)) ≡ TWO_PAIRS }
+{
+    if raw.bytes.len() < 16 {
         return false;
     }
-    let fresh = raw.skip(1);
-    fresh.skip(1).begin_with_single(fresh.first().px)
+    fresh_in_four(u32x4::splat(last.number()), read_four::<N>(raw.bytes)) == TWO_PAIRS
 }
 
-/// Whether the pixels go by `write_pairs`: if two pairs of a repeat and a fresh pixel come next, or
-/// come after a fresh pixel. Not in three channels, where blocks take less time.
+/// Whether the pixels go by `write_pairs`: if they are many, and two pairs of a repeat and a fresh
+/// pixel come next, or come after a fresh pixel. Not in three channels, where blocks take less time.
 #[inline(always)]
 pub(super) fn go_by_pairs<const N: usize>(last: Packed, raw: Pixels<N>) -> bool
     requires { pixels_in raw ≢ [] }
 {
-    N == 4 && (begin_with_two(last, raw) || begin_with_two(raw.first().px, raw.skip(1)))
+    if N == 3 || !raw.are_many() {
+        return false;
+    }
+    begin_with_pairs(last, raw) || begin_with_pairs(raw.first().px, raw.skip(1))
 }
 
 /// Writes the repeats that came before these pixels, those at their front, and the fresh pixel after
-/// them (`write_next`); and then a repeat and a fresh pixel by turns, until the piece is full or
-/// others come. Returns the rest. It has the number of the style, so that each has a copy.
+/// them (`write_next`); and then a repeat and a fresh pixel by turns, two of each at a time, until the
+/// piece is full or others come. Returns the rest. It has the number of the style, so that each has a
+/// copy.
 #[inline(always)]
 pub(super) fn write_pairs<'a, const N: usize, const STYLE: u8, const ROOM: usize>(
     coder: &mut Coder<N>,
@@ -49,14 +64,17 @@ pub(super) fn write_pairs<'a, const N: usize, const STYLE: u8, const ROOM: usize
         coder.new table.new piece.new (pixels_in result) }
 {
     let mut rest = coder.write_next(table, piece, raw);
-    let mut last = coder.last.px;
-    while !piece.is_full() && rest.begin_with_single(last) {
+    while !piece.is_full() && begin_with_pairs(coder.last.px, rest) {
         let pair = Group {
             raw: rest,
             ahead: 1,
         };
+        let half = coder.write_short_group(table, piece, pair);
+        let pair = Group {
+            raw: half,
+            ahead: 1,
+        };
         rest = coder.write_short_group(table, piece, pair);
-        last = coder.last.px;
     }
     rest
 }

@@ -132,19 +132,6 @@ impl<'a, const N: usize> Pixels<'a, N> {
         self.bytes.len() >= N && Packed::read::<N>(self.bytes).is_same(px)
     }
 
-    /// Whether this one stands at the front once, and another pixel after it.
-    #[inline(always)]
-    pub(super) fn begin_with_single(self, px: Packed) -> bool
-        ensures first { IsTrue result → slice_get (pixels_in self.entry) 0 ≡ Some px }
-        ensures two { IsTrue result → 2 ≤ length (pixels_in self.entry) }
-        ensures other { IsTrue result → slice_get (pixels_in self.entry) 1 ≢ Some px }
-    {
-        if self.bytes.len() < 2 * N || !self.begin_with(px) {
-            return false;
-        }
-        !self.skip(1).begin_with(px)
-    }
-
     /// The first `most` pixels, or all if there are fewer.
     #[inline(always)]
     pub(super) fn at_most(self, most: usize) -> Pixels<'a, N>

@@ -17,10 +17,10 @@ use crate::encode::pixels::{FrontBlock, Marked, PixelOf, Pixels};
 use crate::encode::table::PixelTable;
 use std::simd::prelude::*;
 
-// A bit for each of four packed pixels that isn't the one before it, the lowest for the first. The last
-// of `before` stands before them.
+/// A bit for each of four packed pixels that isn't the one before it, the lowest for the first. The last
+/// of `before` stands before them.
 #[inline(always)]
-fn fresh_in_four(before: u32x4, four: u32x4) -> u64
+pub(super) fn fresh_in_four(before: u32x4, four: u32x4) -> u64
     ensures packed { AreFour before × AreFour four }
     ensures few { result < 2 ^ 4 }
     ensures marks { AreFour before → AreFour four

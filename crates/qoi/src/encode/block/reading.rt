@@ -2,7 +2,7 @@
 ghost use Rattle.std.specs.Prelude.{◌≡◌, ◌*◌, ◌≤◌, length, take, drop, map};
 ghost use Rattle.qoi.specs.Raw.{IsChannels, pixels_of, AreOpaque};
 ghost use Rattle.qoi.specs.inner.Packed.{word};
-ghost use Rattle.qoi.specs.inner.block.Planes.{block_pixels};
+ghost use Rattle.qoi.specs.inner.block.Planes.{block_pixels, pixels_of_words};
 
 use crate::encode::block::planes::Words;
 use crate::utils::skip;
@@ -24,13 +24,14 @@ pub(in crate::encode) fn first_sixteen<const N: usize>(bytes: &[u8]) -> Words
     }
 }
 
-// The first four pixels. Sixteen bytes are read, in three channels too, where the pixels have only
-// twelve.
+/// The first four pixels. Sixteen bytes are read, in three channels too, where the pixels have only
+/// twelve.
 #[inline(always)]
-fn read_four<const N: usize>(bytes: &[u8]) -> u32x4
+pub(in crate::encode) fn read_four<const N: usize>(bytes: &[u8]) -> u32x4
     requires channels { IsChannels N }
     requires enough { 16 ≤ length bytes.now }
     ensures lanes { result ≡ map word (take 4 (pixels_of N bytes.now)) }
+    ensures pixels { pixels_of_words result ≡ take 4 (pixels_of N bytes.now) }
 {
     let v = u8x16::from_slice(bytes);
     if N == 4 {

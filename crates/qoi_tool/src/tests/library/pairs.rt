@@ -33,12 +33,14 @@ impl Shape {
     }
 }
 
-// Pixels of this shape, and a few more. The fresh ones are of this kind; if it is that of repeats,
-// of any.
+// How many groups come after those of a shape: with fewer than 256 pixels ahead no pairs are looked for.
+const LATER: usize = 130;
+
+// Pixels of this shape, and more. The fresh ones are of this kind; if it is that of repeats, of any.
 fn shaped(alloc: Global, numbers: &mut Numbers, shape: Shape, kind: usize) -> Result<Vec<Rgba>> {
     let mut px = START;
     let mut pixels = vec![in alloc; px; 1]?;
-    for i in 0..shape.front.saturating_add(shape.n).saturating_add(10) {
+    for i in 0..shape.front.saturating_add(shape.n).saturating_add(LATER) {
         let any = numbers.below(6) as usize;
         px = pixel(numbers, if kind == 2 { any } else { kind }, &pixels, px);
         for _ in 0..shape.repeats(i).saturating_add(1) {

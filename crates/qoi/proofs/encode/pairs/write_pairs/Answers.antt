@@ -1,21 +1,40 @@
--- A pair after the other, each of two pixels.
-use Rattle.std.proofs.Common.{length, length-drop, refl, ap, ◌∙◌, arith}
+-- Two pairs after the others, each of two pixels.
+use Rattle.std.proofs.Common.{length, length-drop, subst, sym, ap, ◌∙◌, arith}
 use Rattle.qoi.specs.inner.Pixels.{pixels_in}
+use Rattle.qoi.proofs.encoding.coder.MarkedPixels.{IsPair, two_pairs}
 use Rattle.qoi.proofs.encode.pairs.write_pairs.Goals as goal
+
+pub write_short_group-half-requires : goal.write_short_group-half-requires
+write_short_group-half-requires g c =
+    let i = c.loop-rest.invariant in
+    let two = c.begin_with_pairs.ensures in
+    let pair = two_pairs c.loop-rest.coder.last.px (pixels_in c.loop-rest.rest) (two.four c.if-begin_with_pairs.true) (two.marks c.if-begin_with_pairs.true) in
+    let few = i.none (λ none. omega (arith, ap length none, two.four c.if-begin_with_pairs.true)) in
+    (omega arith, (omega arith, (omega arith, (omega arith, (omega (arith, few), (pair.0.repeats, (pair.0.other, omega (arith, c.is_full.ensures.room c.loop-rest-test.true))))))))
+
+pub write_short_group-rest-requires : goal.write_short_group-rest-requires
+write_short_group-rest-requires g c =
+    let step = c.write_short_group-half.ensures in
+    let two = c.begin_with_pairs.ensures in
+    let pair = two_pairs c.loop-rest.coder.last.px (pixels_in c.loop-rest.rest) (two.four c.if-begin_with_pairs.true) (two.marks c.if-begin_with_pairs.true) in
+    let next = subst (IsPair c.write_short_group-half.new.self.last.px) (sym step.rest) (pair.1 _ step.px) in
+    (omega arith, (omega arith, (omega arith, (omega arith, (omega (arith, step.begun.1), (next.repeats, (next.other, omega (arith, step.end, c.is_full.ensures.room c.loop-rest-test.true))))))))
 
 pub loop-rest-smaller : goal.loop-rest-smaller
 loop-rest-smaller g c =
-    let two = c.begin_with_single.ensures.two c.if-begin_with_single.true in
-    omega (arith, ap length c.write_short_group-rest.ensures.rest, length-drop 2 (pixels_in c.loop-rest.rest), two)
+    let four = c.begin_with_pairs.ensures.four c.if-begin_with_pairs.true in
+    let one = ap length c.write_short_group-half.ensures.rest in
+    let two = ap length c.write_short_group-rest.ensures.rest in
+    omega (arith, one, two, length-drop 2 (pixels_in c.loop-rest.rest), length-drop 2 (pixels_in c.write_short_group-half.result), four)
 
 pub loop-rest-preserved : goal.loop-rest-preserved
 loop-rest-preserved g c =
     let i = c.loop-rest.invariant in
-    let step = c.write_short_group-rest.ensures in
+    let one = c.write_short_group-half.ensures in
+    let two = c.write_short_group-rest.ensures in
     record {
-      style = step.style ∙ i.style;
-      less = omega (arith, ap length step.rest, length-drop 2 (pixels_in c.loop-rest.rest), i.less);
-      last_is = refl;
-      none = λ _. step.begun.1;
-      written = λ ahead more b. step.written ahead more (i.written ahead more b);
+      style = two.style ∙ one.style ∙ i.style;
+      less = omega (arith, ap length one.rest, ap length two.rest, length-drop 2 (pixels_in c.loop-rest.rest), length-drop 2 (pixels_in c.write_short_group-half.result), i.less);
+      none = λ _. two.begun.1;
+      written = λ ahead more b. two.written ahead more (one.written ahead more (i.written ahead more b));
     }

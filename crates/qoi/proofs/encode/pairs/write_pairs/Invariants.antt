@@ -10,7 +10,6 @@ abbrev pub invariant-loop-rest : goal.invariant-loop-rest
 invariant-loop-rest g l = record {
   style : l.coder.style ≡ l.fn.coder.style;
   less : length (pixels_in l.rest) < length (pixels_in l.raw);
-  last_is : l.last ≡ l.coder.last.px;
   none : pixels_in l.rest ≢ [] → l.coder.last.repeats ≡ 0;
   written : (ahead : List ℕ) (more : List RgbaPixel) → CoderBetween l.fn.coder.style ahead (pixels_in l.raw ++ more) l.fn.table l.fn.coder.last (kept_bytes l.fn.piece)
       → CoderBetween l.coder.style ahead (pixels_in l.rest ++ more) l.table l.coder.last (kept_bytes l.piece);
