@@ -10,6 +10,7 @@ ghost use Rattle.qoi.specs.inner.block.Marks.{fresh_marks};
 ghost use Rattle.qoi.specs.inner.BlockLoop.{GoesByBlocks, InBlocks, WritesBlocks, blocks};
 ghost use Rattle.qoi.specs.inner.CoderLoop.{CoderBetween};
 ghost use Rattle.qoi.specs.inner.CoderState.{style_of};
+ghost use Rattle.qoi.specs.inner.CoderSteps.{WritesSome, between};
 ghost use Rattle.qoi.specs.inner.Piece.{kept_bytes};
 ghost use Rattle.qoi.specs.inner.Pixels.{pixels_in};
 
@@ -29,14 +30,19 @@ use crate::encode::sparse::{go_by_fresh, write_sparse};
 use crate::encode::table::PixelTable;
 use crate::types::Style::{self, Places, Reference, Tight};
 
-// Whether the front goes by blocks, if there is one: once a fresh pixel came or, except in style
-// `Tight`, if no repeats wait and the next pixel is fresh; but not if over `FRONT_CARRIED` repeats
-// wait and another follows.
+// Whether the front goes by blocks: once a fresh pixel came or, except in style `Tight`, if no repeats
+// wait and the next pixel is fresh; but not if over `FRONT_CARRIED` repeats wait and another follows,
+// nor if pairs or a block of few fresh pixels come next.
 #[inline(always)]
 fn goes_by_blocks<const N: usize>(style: Style, last: LastPixel, raw: Pixels<N>) -> bool
+    requires some { 16 ≤ length (pixels_in raw) }
+    requires opaque { N ≡ 3 → last.px.a ≡ 255 }
     ensures { IsTrue result
         → GoesByBlocks style last (length (pixels_in raw.entry)) (pixels_in raw.entry) }
 {
+    if go_by_pairs(last.px, raw) || go_by_fresh::<N>(PixelOf { px: last.px }, raw) {
+        return false;
+    }
     // In `Tight`, `write_group` relies on a fresh pixel that came.
     let may_open = match style {
         Reference | Places => last.repeats == 0,
@@ -195,7 +201,7 @@ fn write_front<'a, 'p, const N: usize, const STYLE: u8, const ROOM: usize, const
 // Each style has a loop of its own, and another if `FULL`: where an RGBA chunk is expected to give
 // each pixel. The piece is a value, so that the compiler keeps its fields in registers.
 #[inline(always)]
-fn fill_by<'a, 'p, const N: usize, const STYLE: u8, const ROOM: usize, const FULL: bool>(
+fn fill<'a, 'p, const N: usize, const STYLE: u8, const ROOM: usize, const FULL: bool>(
     table: &mut PixelTable,
     piece: OpenPiece<'p, ROOM>,
     raw: Pixels<'a, N>,
@@ -220,77 +226,74 @@ fn fill_by<'a, 'p, const N: usize, const STYLE: u8, const ROOM: usize, const FUL
     (rest, now, piece)
 }
 
-// As `fill`, where RGBA chunks are expected. It isn't inlined: the other loop would be slower.
-#[inline(never)]
-fn fill_full<'a, 'p, const N: usize, const STYLE: u8, const ROOM: usize>(
-    table: &mut PixelTable,
-    piece: OpenPiece<'p, ROOM>,
-    raw: Pixels<'a, N>,
-    carry: Carry<N>,
-) -> (Pixels<'a, N>, Carry<N>, Piece<'p, ROOM>)
-    requires { 16 ≤ length (pixels_in raw) }
-    ensures { WritesBlocks (style_of STYLE) (length (pixels_in raw.entry))
-        (blocks raw.entry table.old carry.entry piece.entry.piece)
-        (blocks result.0 table.new result.1 result.2) }
-{
-    fill_by::<N, STYLE, ROOM, true>(table, piece, raw, carry)
-}
-
-// `fill_by`, or `fill_full` if RGBA chunks give the first three pixels. Returns the rest, and what is
-// carried.
+// Writes blocks (`fill`). Returns the rest.
 #[inline(always)]
-fn fill<'a, 'p, const N: usize, const STYLE: u8, const ROOM: usize>(
+fn write_by_blocks<'a, 'p, const N: usize, const STYLE: u8, const ROOM: usize, const FULL: bool>(
+    last: &mut LastPixel,
     table: &mut PixelTable,
     piece: OpenPiece<'p, ROOM>,
     raw: Pixels<'a, N>,
-    carry: Carry<N>,
-) -> (Pixels<'a, N>, Carry<N>, Piece<'p, ROOM>)
-    requires { 16 ≤ length (pixels_in raw) }
-    ensures { WritesBlocks (style_of STYLE) (length (pixels_in raw.entry))
-        (blocks raw.entry table.old carry.entry piece.entry.piece)
-        (blocks result.0 table.new result.1 result.2) }
+) -> (Pixels<'a, N>, Piece<'p, ROOM>)
+    requires some { 16 ≤ length (pixels_in raw) }
+    requires opaque { N ≡ 3 → last.old.px.a ≡ 255 }
+    requires goes { GoesByBlocks (style_of STYLE) last.old (length (pixels_in raw)) (pixels_in raw) }
+    ensures { WritesSome N (style_of STYLE)
+        (between raw.entry table.old last.old piece.entry.piece)
+        (between result.0 table.new last.new result.1) }
 {
-    if begin_full(table, carry.before.last(), raw) {
-        return fill_full::<N, STYLE, ROOM>(table, piece, raw, carry);
-    }
-    fill_by::<N, STYLE, ROOM, false>(table, piece, raw, carry)
+    let carry = carried(&Coder::<N>::new(style_of::<STYLE>(), *last));
+    let (rest, after, piece) = fill::<N, STYLE, ROOM, FULL>(table, piece, raw, carry);
+    *last = coder_after::<N, STYLE>(after).last;
+    (rest, piece)
 }
 
-// Writes from one fresh pixel to the next, by `write_pairs` or else by `write_sparse`, until the piece
-// is full or others come. Returns the rest.
-//
-// Each style has functions of its own, in which it is a constant. They aren't inlined where they are
-// called: the loop over blocks would be slower.
+// `write_by_blocks` where RGBA chunks are expected. It isn't inlined: the other loop would be slower.
 #[inline(never)]
-fn write_fresh<'a, 'p, const N: usize, const STYLE: u8, const ROOM: usize, const PAIRS: bool>(
-    last: LastPixel,
+fn write_full<'a, 'p, const N: usize, const STYLE: u8, const ROOM: usize>(
+    last: &mut LastPixel,
     table: &mut PixelTable,
     piece: OpenPiece<'p, ROOM>,
     raw: Pixels<'a, N>,
-) -> (Pixels<'a, N>, LastPixel, Piece<'p, ROOM>)
+) -> (Pixels<'a, N>, Piece<'p, ROOM>)
+    requires some { 16 ≤ length (pixels_in raw) }
+    requires opaque { N ≡ 3 → last.old.px.a ≡ 255 }
+    requires goes { GoesByBlocks (style_of STYLE) last.old (length (pixels_in raw)) (pixels_in raw) }
+    ensures { WritesSome N (style_of STYLE)
+        (between raw.entry table.old last.old piece.entry.piece)
+        (between result.0 table.new last.new result.1) }
+{
+    write_by_blocks::<N, STYLE, ROOM, true>(last, table, piece, raw)
+}
+
+// Writes the repeats that wait, those at the front and the fresh pixel after them; and then pairs, and
+// blocks of few fresh pixels, as long as they come and the piece isn't full. Returns the rest.
+//
+// It isn't inlined: the loop over blocks would be slower.
+#[inline(never)]
+fn write_apart<'a, 'p, const N: usize, const STYLE: u8, const ROOM: usize>(
+    last: &mut LastPixel,
+    table: &mut PixelTable,
+    piece: OpenPiece<'p, ROOM>,
+    raw: Pixels<'a, N>,
+) -> (Pixels<'a, N>, Piece<'p, ROOM>)
     requires some { pixels_in raw ≢ [] }
-    requires opaque { N ≡ 3 → last.px.a ≡ 255 }
-    ensures opaque { N ≡ 3 → result.1.px.a ≡ 255 }
-    ensures less { length (pixels_in result.0) < length (pixels_in raw.entry) }
-    ensures written { (ahead : List ℕ) (more : List RgbaPixel)
-        → CoderBetween (style_of STYLE) ahead (pixels_in raw.entry ++ more)
-        table.old last (kept_bytes piece.entry.piece)
-        → CoderBetween (style_of STYLE) ahead (pixels_in result.0 ++ more)
-        table.new result.1 (kept_bytes result.2) }
+    requires opaque { N ≡ 3 → last.old.px.a ≡ 255 }
+    ensures { WritesSome N (style_of STYLE)
+        (between raw.entry table.old last.old piece.entry.piece)
+        (between result.0 table.new last.new result.1) }
 {
     let mut piece = piece.piece;
-    let mut coder = Coder::<N>::new(style_of::<STYLE>(), last);
-    if PAIRS {
-        let rest = write_pairs::<N, STYLE, ROOM>(&mut coder, table, &mut piece, raw);
-        return (rest, coder.last, piece);
-    }
-    let rest = write_sparse::<N, STYLE, ROOM>(&mut coder, table, &mut piece, raw);
-    (rest, coder.last, piece)
+    let mut coder = Coder::<N>::new(style_of::<STYLE>(), *last);
+    let rest = coder.write_next(table, &mut piece, raw);
+    let rest = write_pairs::<N, STYLE, ROOM>(&mut coder, table, &mut piece, rest);
+    let rest = write_sparse::<N, STYLE, ROOM>(&mut coder, table, &mut piece, rest);
+    *last = coder.last;
+    (rest, piece)
 }
 
-/// Writes what is at the front: blocks, until the piece is full or fewer pixels than a block has
-/// are left; or repeats and the fresh pixel after them; or pairs, or blocks of few fresh pixels, until
-/// the piece is full or others come (`write_fresh`). Returns the rest. Any pixels may follow.
+/// Writes what is at the front: blocks, until the piece is full or fewer pixels than a block has are
+/// left; or repeats and the fresh pixel after them, and pairs and blocks of few fresh pixels that
+/// follow (`write_apart`). Returns the rest. Any pixels may follow.
 pub(super) fn write_some<'a, 'p, const N: usize, const STYLE: u8, const ROOM: usize>(
     last: &mut LastPixel,
     table: &mut PixelTable,
@@ -299,34 +302,15 @@ pub(super) fn write_some<'a, 'p, const N: usize, const STYLE: u8, const ROOM: us
 ) -> (Pixels<'a, N>, Piece<'p, ROOM>)
     requires some { 16 ≤ length (pixels_in raw) }
     requires opaque { N ≡ 3 → last.old.px.a ≡ 255 }
-    ensures opaque { N ≡ 3 → last.new.px.a ≡ 255 }
-    ensures less { length (pixels_in result.0) < length (pixels_in raw.entry) }
-    ensures written { (ahead : List ℕ) (more : List RgbaPixel)
-        → CoderBetween (style_of STYLE) ahead (pixels_in raw.entry ++ more)
-        table.old last.old (kept_bytes piece.entry.piece)
-        → CoderBetween (style_of STYLE) ahead (pixels_in result.0 ++ more)
-        table.new last.new (kept_bytes result.1) }
+    ensures { WritesSome N (style_of STYLE)
+        (between raw.entry table.old last.old piece.entry.piece)
+        (between result.0 table.new last.new result.1) }
 {
-    if go_by_pairs(last.px, raw) {
-        let (rest, after, piece) = write_fresh::<N, STYLE, ROOM, true>(*last, table, piece, raw);
-        *last = after;
-        return (rest, piece);
+    if !goes_by_blocks(style_of::<STYLE>(), *last, raw) {
+        return write_apart::<N, STYLE, ROOM>(last, table, piece, raw);
     }
-    if go_by_fresh::<N>(PixelOf { px: last.px }, raw) {
-        let (rest, after, piece) = write_fresh::<N, STYLE, ROOM, false>(*last, table, piece, raw);
-        *last = after;
-        return (rest, piece);
+    if begin_full(table, last.px, raw) {
+        return write_full::<N, STYLE, ROOM>(last, table, piece, raw);
     }
-    let style = style_of::<STYLE>();
-    if !goes_by_blocks(style, *last, raw) {
-        let mut coder = Coder::<N>::new(style, *last);
-        let mut piece = piece.piece;
-        let rest = coder.write_open(table, &mut piece, raw);
-        *last = coder.last;
-        return (rest, piece);
-    }
-    let carry = carried(&Coder::<N>::new(style, *last));
-    let (rest, after, piece) = fill::<N, STYLE, ROOM>(table, piece, raw, carry);
-    *last = coder_after::<N, STYLE>(after).last;
-    (rest, piece)
+    write_by_blocks::<N, STYLE, ROOM, false>(last, table, piece, raw)
 }

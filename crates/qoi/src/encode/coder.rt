@@ -332,23 +332,4 @@ impl<const N: usize> Coder<N> {
     {
         piece.append_run(self.last.repeats, QOI_OP_RUN);
     }
-
-    /// `write_next` as a function of its own, for an image's opening and for long repeats: a loop that
-    /// has it inlined is slower.
-    #[inline(never)]
-    pub(super) fn write_open<'a, const ROOM: usize>(
-        &mut self,
-        table: &mut PixelTable,
-        piece: &mut Piece<ROOM>,
-        raw: Pixels<'a, N>,
-    ) -> Pixels<'a, N>
-        requires some { pixels_in raw ≢ [] }
-        requires room { piece.old.end + (RUNS_AT_ONCE + 1 + chunk_max + marker_size) ≤ ROOM }
-        ensures style { self.new.style ≡ self.old.style }
-        ensures less { length (pixels_in result) < length (pixels_in raw.entry) }
-        ensures written { CoderPasses self.old table.old piece.old (pixels_in raw.entry)
-            self.new table.new piece.new (pixels_in result) }
-    {
-        self.write_next(table, piece, raw)
-    }
 }

@@ -2,7 +2,6 @@
 //! 1.0, "Chunks").
 ghost use Rattle.std.specs.Prelude.{◌≡◌, ◌≢◌, ℕ, ◌-◌, ◌<◌, ◌≤◌, List, [], ◌++◌, length, take, IsTrue};
 ghost use Rattle.qoi.specs.declared.encode.pairs.TheConstants.{TWO_PAIRS};
-ghost use Rattle.qoi.specs.declared.encode.piece.TheConstants.{SPARE};
 ghost use Rattle.qoi.specs.Qoi.{RgbaPixel};
 ghost use Rattle.qoi.specs.inner.CoderSteps.{CoderPasses};
 ghost use Rattle.qoi.specs.inner.Pixels.{pixels_in};
@@ -20,21 +19,22 @@ use std::simd::prelude::*;
 // The marks of two pairs of a repeat and a fresh pixel.
 const TWO_PAIRS: u64 = 0b1010;
 
-// Whether two pairs of a repeat of `last` and a fresh pixel stand at the front.
+// Whether two pairs of a repeat of `last` and a fresh pixel stand at the front. Not in three channels,
+// where blocks take less time.
 #[inline(always)]
 fn begin_with_pairs<const N: usize>(last: Packed, raw: Pixels<N>) -> bool
     ensures four { IsTrue result → 4 ≤ length (pixels_in raw.entry) }
     ensures marks { IsTrue result
         → fresh_marks last (take 4 (pixels_in raw.entry)) ≡ TWO_PAIRS }
 {
-    if raw.bytes.len() < 16 {
+    if N == 3 || raw.bytes.len() < 16 {
         return false;
     }
     fresh_in_four(u32x4::splat(last.number()), read_four::<N>(raw.bytes)) == TWO_PAIRS
 }
 
 /// Whether the pixels go by `write_pairs`: if they are many, and two pairs of a repeat and a fresh
-/// pixel come next, or come after a fresh pixel. Not in three channels, where blocks take less time.
+/// pixel come next, or come after a fresh pixel. Not in three channels.
 #[inline(always)]
 pub(super) fn go_by_pairs<const N: usize>(last: Packed, raw: Pixels<N>) -> bool
     requires { pixels_in raw ≢ [] }
@@ -45,10 +45,8 @@ pub(super) fn go_by_pairs<const N: usize>(last: Packed, raw: Pixels<N>) -> bool
     begin_with_pairs(last, raw) || begin_with_pairs(raw.first().px, raw.skip(1))
 }
 
-/// Writes the repeats that came before these pixels, those at their front, and the fresh pixel after
-/// them (`write_next`); and then a repeat and a fresh pixel by turns, two of each at a time, until the
-/// piece is full or others come. Returns the rest. It has the number of the style, so that each has a
-/// copy.
+/// Writes a repeat and a fresh pixel by turns, two of each at a time, until the piece is full or others
+/// come. Returns the rest. It has the number of the style, so that each has a copy.
 #[inline(always)]
 pub(super) fn write_pairs<'a, const N: usize, const STYLE: u8, const ROOM: usize>(
     coder: &mut Coder<N>,
@@ -56,14 +54,14 @@ pub(super) fn write_pairs<'a, const N: usize, const STYLE: u8, const ROOM: usize
     piece: &mut Piece<ROOM>,
     raw: Pixels<'a, N>,
 ) -> Pixels<'a, N>
-    requires some { pixels_in raw ≢ [] }
-    requires room { piece.old.end < ROOM - SPARE }
+    requires { pixels_in raw ≢ [] → coder.old.last.repeats ≡ 0 }
     ensures style { coder.new.style ≡ coder.old.style }
-    ensures less { length (pixels_in result) < length (pixels_in raw.entry) }
+    ensures none { pixels_in result ≢ [] → coder.new.last.repeats ≡ 0 }
+    ensures less { length (pixels_in result) ≤ length (pixels_in raw.entry) }
     ensures written { CoderPasses coder.old table.old piece.old (pixels_in raw.entry)
         coder.new table.new piece.new (pixels_in result) }
 {
-    let mut rest = coder.write_next(table, piece, raw);
+    let mut rest = raw;
     while !piece.is_full() && begin_with_pairs(coder.last.px, rest) {
         let pair = Group {
             raw: rest,

@@ -1,7 +1,6 @@
 //! Blocks of which few pixels are fresh, one after the other (QOI specification 1.0, "Chunks"): packed
 //! pixels are compared with those before them, and no planes are made.
 ghost use Rattle.std.specs.Prelude.{◌≡◌, ◌≢◌, ℕ, ◌-◌, ◌<◌, ◌≤◌, ◌^◌, List, [], ◌++◌, length, take, slice_index};
-ghost use Rattle.qoi.specs.declared.encode.piece.TheConstants.{SPARE};
 ghost use Rattle.qoi.specs.Qoi.{RgbaPixel};
 ghost use Rattle.qoi.specs.inner.CoderSteps.{CoderPasses};
 ghost use Rattle.qoi.specs.inner.Packed.{pixel_of_word};
@@ -56,9 +55,8 @@ pub(super) fn go_by_fresh<const N: usize>(last: PixelOf<N>, raw: Pixels<N>) -> b
     marks != 0 && are_few(marks)
 }
 
-/// Writes the repeats that came before these pixels, those at their front, and the fresh pixel after
-/// them (`write_next`); and then blocks of which one or two pixels are fresh, until the piece is full
-/// or others come. Returns the rest. It has the number of the style, so that each has a copy.
+/// Writes blocks of which one or two pixels are fresh, until the piece is full or others come; in three
+/// channels none. Returns the rest. It has the number of the style, so that each has a copy.
 #[inline(always)]
 pub(super) fn write_sparse<'a, const N: usize, const STYLE: u8, const ROOM: usize>(
     coder: &mut Coder<N>,
@@ -66,14 +64,16 @@ pub(super) fn write_sparse<'a, const N: usize, const STYLE: u8, const ROOM: usiz
     piece: &mut Piece<ROOM>,
     raw: Pixels<'a, N>,
 ) -> Pixels<'a, N>
-    requires some { pixels_in raw ≢ [] }
-    requires room { piece.old.end < ROOM - SPARE }
+    requires { pixels_in raw ≢ [] → coder.old.last.repeats ≡ 0 }
     ensures style { coder.new.style ≡ coder.old.style }
-    ensures less { length (pixels_in result) < length (pixels_in raw.entry) }
+    ensures less { length (pixels_in result) ≤ length (pixels_in raw.entry) }
     ensures written { CoderPasses coder.old table.old piece.old (pixels_in raw.entry)
         coder.new table.new piece.new (pixels_in result) }
 {
-    let mut rest = coder.write_next(table, piece, raw);
+    if N == 3 {
+        return raw;
+    }
+    let mut rest = raw;
     while !piece.is_full() && rest.has_block() {
         let front = rest.front_of(raw);
         let marks = fresh_in_block::<N>(front, PixelOf { px: coder.last.px });

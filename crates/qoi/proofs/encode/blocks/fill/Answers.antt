@@ -5,8 +5,8 @@ use Rattle.qoi.specs.inner.BlockLoop.{InBlocks}
 use Rattle.qoi.specs.inner.CoderState.{style_of}
 use Rattle.qoi.specs.inner.Piece.{kept_bytes}
 use Rattle.qoi.specs.inner.Pixels.{pixels_in}
-use Rattle.qoi.proofs.encode.blocks.fill_by.Goals.{then-loop-rest-test+else-has_block, else-loop-rest-test}
-use Rattle.qoi.proofs.encode.blocks.fill_by.Goals as goal
+use Rattle.qoi.proofs.encode.blocks.fill.Goals.{then-loop-rest-test+else-has_block, else-loop-rest-test}
+use Rattle.qoi.proofs.encode.blocks.fill.Goals as goal
 
 pub loop-rest-init : goal.loop-rest-init
 loop-rest-init g c = record { less = inr (refl, c.args.piece.not_full); written = λ ahead n more whole b. b }
