@@ -226,8 +226,9 @@ fn fill<'a, 'p, const N: usize, const STYLE: u8, const ROOM: usize, const FULL: 
     (rest, now, piece)
 }
 
-// Writes blocks (`fill`). Returns the rest.
-#[inline(always)]
+// Writes blocks (`fill`). Returns the rest. It isn't inlined: where both loops, with `FULL` and without,
+// are one function, they are slower.
+#[inline(never)]
 fn write_by_blocks<'a, 'p, const N: usize, const STYLE: u8, const ROOM: usize, const FULL: bool>(
     last: &mut LastPixel,
     table: &mut PixelTable,
@@ -245,24 +246,6 @@ fn write_by_blocks<'a, 'p, const N: usize, const STYLE: u8, const ROOM: usize, c
     let (rest, after, piece) = fill::<N, STYLE, ROOM, FULL>(table, piece, raw, carry);
     *last = coder_after::<N, STYLE>(after).last;
     (rest, piece)
-}
-
-// `write_by_blocks` where RGBA chunks are expected. It isn't inlined: the other loop would be slower.
-#[inline(never)]
-fn write_full<'a, 'p, const N: usize, const STYLE: u8, const ROOM: usize>(
-    last: &mut LastPixel,
-    table: &mut PixelTable,
-    piece: OpenPiece<'p, ROOM>,
-    raw: Pixels<'a, N>,
-) -> (Pixels<'a, N>, Piece<'p, ROOM>)
-    requires some { 16 ≤ length (pixels_in raw) }
-    requires opaque { N ≡ 3 → last.old.px.a ≡ 255 }
-    requires goes { GoesByBlocks (style_of STYLE) last.old (length (pixels_in raw)) (pixels_in raw) }
-    ensures { WritesSome N (style_of STYLE)
-        (between raw.entry table.old last.old piece.entry.piece)
-        (between result.0 table.new last.new result.1) }
-{
-    write_by_blocks::<N, STYLE, ROOM, true>(last, table, piece, raw)
 }
 
 // Writes the repeats that wait, those at the front and the fresh pixel after them; and then pairs, and
@@ -294,6 +277,7 @@ fn write_apart<'a, 'p, const N: usize, const STYLE: u8, const ROOM: usize>(
 /// Writes what is at the front: blocks, until the piece is full or fewer pixels than a block has are
 /// left; or repeats and the fresh pixel after them, and pairs and blocks of few fresh pixels that
 /// follow (`write_apart`). Returns the rest. Any pixels may follow.
+#[inline(always)]
 pub(super) fn write_some<'a, 'p, const N: usize, const STYLE: u8, const ROOM: usize>(
     last: &mut LastPixel,
     table: &mut PixelTable,
@@ -310,7 +294,7 @@ pub(super) fn write_some<'a, 'p, const N: usize, const STYLE: u8, const ROOM: us
         return write_apart::<N, STYLE, ROOM>(last, table, piece, raw);
     }
     if begin_full(table, last.px, raw) {
-        return write_full::<N, STYLE, ROOM>(last, table, piece, raw);
+        return write_by_blocks::<N, STYLE, ROOM, true>(last, table, piece, raw);
     }
     write_by_blocks::<N, STYLE, ROOM, false>(last, table, piece, raw)
 }
