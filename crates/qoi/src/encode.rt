@@ -261,7 +261,7 @@ impl<'a> Encoder<'a> {
     }
 
     // Writes the file of an image that has no block, and returns how many bytes it has. It is apart
-    // from `write_file`, which would clear its room too.
+    // from `write_to_memory`, which would clear its room too.
     fn write_few<W: Writer>(&self, writer: &mut W) -> Result<usize>
         requires few { length self.now.raw < FEW_BYTES }
         requires room { max_file_len self.now.header ≤ W.room writer.old }
@@ -276,10 +276,10 @@ impl<'a> Encoder<'a> {
         Ok(n)
     }
 
-    // Writes the file of the image, and returns how many bytes it has. If the image has a block, they
-    // go through a piece with this room.
-    fn write_file<W: Writer, const ROOM: usize>(&self, writer: &mut W) -> Result<usize>
-        requires piece { (2 * SPARE ≤ ROOM) × (ROOM ≤ FULL_ROOM) }
+    // Writes the file of the image to memory, and returns how many bytes it has: through a piece with
+    // little room, if the image is small.
+    #[inline(always)]
+    fn write_to_memory<W: Writer>(&self, writer: &mut W) -> Result<usize>
         requires room { max_file_len self.now.header ≤ W.room writer.old }
         ensures written { IfOk result (WroteImage W.wrote self.now writer.old writer.new) }
         ensures refused { IfErr result (λ e. W.IsFault e
@@ -288,24 +288,26 @@ impl<'a> Encoder<'a> {
         if self.data.len() < FEW_BYTES {
             return self.write_few(writer);
         }
-        encode_file::<W, ROOM>(writer, self)
+        if self.data.len() < TINY_IMAGE {
+            return encode_file::<W, TINY_ROOM>(writer, self);
+        }
+        if self.data.len() < LARGE_IMAGE {
+            return encode_file::<W, SMALL_ROOM>(writer, self);
+        }
+        encode_file::<W, FULL_ROOM>(writer, self)
     }
 
-    // `write_file` to memory.
-    #[inline(always)]
-    fn write_to_memory<W: Writer>(&self, writer: &mut W) -> Result<usize>
-        requires room { max_file_len self.now.header ≤ W.room writer.old }
+    // Writes the file of the image, and returns how many bytes it has.
+    fn write_file<W: Writer>(&self, writer: &mut W) -> Result<usize>
+        requires { max_file_len self.now.header ≤ W.room writer.old }
         ensures written { IfOk result (WroteImage W.wrote self.now writer.old writer.new) }
         ensures refused { IfErr result (λ e. W.IsFault e
             × BeganImage W.wrote self.now writer.old writer.new) }
     {
-        if self.data.len() < TINY_IMAGE {
-            return self.write_file::<W, TINY_ROOM>(writer);
+        if self.data.len() < FEW_BYTES {
+            return self.write_few(writer);
         }
-        if self.data.len() < LARGE_IMAGE {
-            return self.write_file::<W, SMALL_ROOM>(writer);
-        }
-        self.write_file::<W, FULL_ROOM>(writer)
+        encode_file::<W, FULL_ROOM>(writer, self)
     }
 
     /// Encodes the image into the front of the buffer, and returns how many bytes the file has;
@@ -373,7 +375,7 @@ impl<'a> Encoder<'a> {
             × SendsPart self.now (W.contents writer.old) (W.contents writer.new)) }
     {
         let mut writer = GenericWriter::new(writer);
-        let n = self.write_file::<_, FULL_ROOM>(&mut writer)?;
+        let n = self.write_file(&mut writer)?;
         Ok(n)
     }
 }
