@@ -4,7 +4,7 @@ use Rattle.std.specs.Io.KnownBytes.{Consumes}
 use Rattle.qoi.proofs.Results.{if_some_of, if_none_of}
 use Rattle.qoi.specs.inner.Filling.{filling}
 use Rattle.qoi.specs.inner.Chunks.{TakesMore}
-use Rattle.qoi.proofs.decoding.Progress.{front_taken}
+use Rattle.qoi.proofs.decoding.Progress.{front_taken, chunks_after}
 use Rattle.qoi.proofs.decode.slice.slice_chunks.Given.{Over}
 use Rattle.qoi.proofs.decode.slice.slice_chunks.Goals.{After-split_at}
 use Rattle.qoi.proofs.decode.slice.slice_chunks.Goals as goal
@@ -21,16 +21,9 @@ after g c =
 
 pub returns-clause-read : goal.returns-clause-read
 returns-clause-read g c =
-    let so_far = after g (goal.at.returns-clause-read g c).After-split_at in
-    if_some_of c.careful_chunks-2.result (λ left r. record {
-      goes_on = record { between = λ gone n start h. r.goes_on.between gone n start (so_far.between gone n start h) };
-      fillable = r.fillable;
-      below = λ fits inside. r.below fits (c.fast_chunks-now.ensures.on.below inside);
-      filled = r.filled;
-      full = r.full;
-    }) c.careful_chunks-2.ensures.read
+    if_some_of c.careful_chunks.result (λ left r. chunks_after (after g (goal.at.returns-clause-read g c).After-split_at) c.fast_chunks-now.ensures.on.below r) c.careful_chunks.ensures.read
 
 pub returns-clause-refused : goal.returns-clause-refused
 returns-clause-refused g c =
     let so_far = after g (goal.at.returns-clause-refused g c).After-split_at in
-    if_none_of c.careful_chunks-2.result (λ r gone n start h. r gone n start (so_far.between gone n start h)) c.careful_chunks-2.ensures.refused
+    if_none_of c.careful_chunks.result (λ r gone n start h. r gone n start (so_far.between gone n start h)) c.careful_chunks.ensures.refused
