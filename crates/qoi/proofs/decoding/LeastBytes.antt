@@ -1,9 +1,9 @@
 -- How many bytes an image has at least.
-use Rattle.std.proofs.Common.{◌≡◌, ℕ, ◌+◌, ◌*◌, ◌≤◌, List, [], ◌∷◌, ◌++◌, length, replicate, arith, ap, length-append}
+use Rattle.std.proofs.Common.{ℕ, ◌+◌, ◌*◌, ◌≤◌, List, [], ◌∷◌, ◌++◌, length, replicate, arith, ap, length-append}
 use Rattle.std.proofs.lemmas.List.{length-replicate}
 use Rattle.qoi.specs.declared.chunk.Chunk.{Chunk}
 use Rattle.qoi.specs.declared.chunk.Chunk.TheVariants.{Run}
-use Rattle.qoi.specs.Qoi.{Past, IsChunk, AreChunks, bytes_of, chunk_bytes, times, pixel_after, then_chunk, then_chunks, meaning, end_marker}
+use Rattle.qoi.specs.Qoi.{Past, IsChunk, AreChunks, bytes_of, chunk_bytes, times, pixel_after, then_chunk, then_chunks, end_marker}
 use Rattle.qoi.specs.Verdicts.{IsWhole}
 use Rattle.qoi.specs.Decoding.{least_byte_count}
 use Rattle.qoi.proofs.format.Appended.{length-bytes_of, length-meaning}

@@ -1,5 +1,5 @@
 -- A decoder between two chunks: what it has taken, filled and seen.
-use Rattle.std.proofs.Common.{◌≡◌, ℕ, suc, ◌+◌, ◌*◌, ◌/◌, ◌%◌, ◌<◌, ◌≤◌, inl, inr, List, [], ◌∷◌, ◌++◌, length, take, replicate, reverse, min, Bool, true, false, Option, None, Some, IfSome, arith, refl, sym, ap, ◌∙◌, subst, append_assoc, append-nil, length-append}
+use Rattle.std.proofs.Common.{◌≡◌, ℕ, suc, ◌+◌, ◌*◌, ◌/◌, ◌%◌, ◌<◌, ◌≤◌, inl, inr, List, [], ◌∷◌, ◌++◌, length, take, drop, take-append-drop, replicate, reverse, min, Bool, true, false, Option, None, Some, IfSome, arith, refl, sym, ap, ◌∙◌, subst, append_assoc, append-nil, length-append}
 use Rattle.qoi.specs.Qoi.{RgbaPixel, Past, AreBytes, start, bytes_of, chunk_bytes, pixel_after, times, then_chunks, meaning, Reaches, end_marker}
 use Rattle.std.specs.Io.KnownBytes.{Consumes}
 use Rattle.std.proofs.KnownBytes.{Consumes-nil, Consumes-trans}
@@ -115,6 +115,10 @@ taken_as s taken = record { cs = s.cs; chunks = s.chunks; recent = s.recent; pix
 -- no byte of a slice was taken yet
 pub front_of_none : {f c : ℕ} {gone : Past} {n : ℕ} {Taken : List ℕ → Type 0} {now : Filling} (bytes : List ℕ) → (s : DecoderBetween f c gone n Taken now) → DecoderBetween f c gone n (IsFrontAfter (chunk_bytes s.cs) bytes 0) now
 front_of_none bytes s = taken_as s (sym (append-nil (chunk_bytes s.cs)))
+
+-- the front of a slice was taken
+pub split_taken : {bytes rest : List ℕ} (size : ℕ) → rest ≡ drop size bytes → Consumes (Some bytes) (Some rest) (take size bytes)
+split_taken {bytes} size back = sym (take-append-drop size bytes) ∙ ap (λ z. take size bytes ++ z) (sym back)
 
 -- the front of what a reader showed was taken
 pub front_taken : {f c : ℕ} {ahead rest : Option (List ℕ)} {old new : Filling} (bytes : List ℕ) (size : ℕ) → TakesOn f c bytes 0 size old new → Consumes ahead rest (take size bytes)
