@@ -9,22 +9,14 @@ use Rattle.qoi.specs.Qoi.{header_size, run_max, AreChunks, chunk_bytes, Reaches,
 use Rattle.qoi.specs.Raw.{output}
 use Rattle.qoi.specs.Verdicts.{IsWhole, AreCut, AreWrong, AreWrongThen}
 
--- chunks that reach n pixels were taken, and then `tail`, and `out` are the bytes of their first n
--- pixels
-pub record TakesPixels (tail : List ℕ) (file_channels channels n : ℕ) (old new : Option (List ℕ)) (out : List ℕ) : Type 0 where
+-- chunks that reach n pixels were taken, and then the end marker, and `out` are the bytes of their
+-- first n pixels
+pub record ReadsImage (file_channels channels n : ℕ) (old new : Option (List ℕ)) (out : List ℕ) : Type 0 where
   pub cs : List Chunk
   pub chunks : AreChunks cs
   pub reaches : Reaches n cs
-  pub taken : Consumes old new (chunk_bytes cs ++ tail)
+  pub taken : Consumes old new (chunk_bytes cs ++ end_marker)
   pub out_is : out ≡ output file_channels channels (take n (meaning cs))
-
--- the same if nothing else was taken
-abbrev pub TakesImagePixels : ℕ → ℕ → ℕ → Option (List ℕ) → Option (List ℕ) → List ℕ → Type 0
-TakesImagePixels = TakesPixels []
-
--- the same if the end marker was taken after them
-abbrev pub ReadsImage : ℕ → ℕ → ℕ → Option (List ℕ) → Option (List ℕ) → List ℕ → Type 0
-ReadsImage = TakesPixels end_marker
 
 -- bytes were taken, of which P holds
 abbrev pub TakesBytes : Option (List ℕ) → Option (List ℕ) → (List ℕ → Type 0) → Type 0

@@ -1,5 +1,5 @@
 -- A chunk more, while there is room ahead.
-use Rattle.std.proofs.Common.{◌≡◌, ◌⊎◌, ℕ, ◌+◌, ◌-◌, ◌*◌, ◌/◌, ◌%◌, ◌<◌, ◌≤◌, inl, inr, List, ◌++◌, length, take, drop, get_or, Bool, true, false, cond, nat_eq, arith, refl, sym, ap, ◌∙◌, subst, ◌∷◌, append_assoc}
+use Rattle.std.proofs.Common.{◌≡◌, ◌⊎◌, ℕ, ◌+◌, ◌-◌, ◌*◌, ◌/◌, ◌%◌, ◌<◌, ◌≤◌, inl, inr, List, ◌++◌, length, take, drop, get_or, Bool, true, false, cond, nat_eq, nat_le, arith, refl, sym, ap, ◌∙◌, subst, ◌∷◌, append_assoc}
 use Rattle.std.proofs.lemmas.Bool.{cases_lt}
 use Rattle.std.proofs.lemmas.Bool.Decides.{nat_tests}
 use Rattle.std.proofs.lemmas.List.{get_or-drop, get_or-take, take-take, length-take-le, length-drop}
@@ -60,6 +60,11 @@ one_more false size s = omega (arith, s)
 -- an RGBA chunk has one byte more
 pub full_size : (b size : ℕ) → b < 256 → size ≡ bool_byte (nat_eq b 255) → (b < 255 → size ≡ 0) × (255 ≤ b → size ≡ 1)
 full_size b size low is = (λ less. grind (arith, nat_tests), λ more. grind (arith, nat_tests))
+
+-- how many bytes a plain chunk has
+pub plain_count : (b full rgba : ℕ) → full ≡ bool_byte (nat_le 254 b) → rgba ≡ bool_byte (nat_eq b 255) → (b < 254 → 1 + 3 * full + rgba ≡ 1) × (b ≡ 254 → 1 + 3 * full + rgba ≡ 4)
+    × (b ≡ 255 → 1 + 3 * full + rgba ≡ 5) × (full ≤ 1) × (rgba ≤ 1)
+plain_count b full rgba is last = (λ low. grind (arith, nat_tests), λ rgb. grind (arith, nat_tests), λ more. grind (arith, nat_tests), grind (arith, nat_tests), grind (arith, nat_tests))
 
 -- A chunk's pixel was put into the table and is stored, as often as is asked for and a vector holds;
 -- its first byte is at hand, and so is the byte after the chunk.

@@ -1,13 +1,12 @@
--- Bytes that are too few for an image are cut.
-use Rattle.std.proofs.Common.{◌≡◌, ℕ, ◌+◌, ◌*◌, ◌<◌, ◌≤◌, inl, inr, List, [], ◌∷◌, ◌++◌, length, replicate, arith, refl, ap, length-append}
+-- How many bytes an image has at least.
+use Rattle.std.proofs.Common.{ℕ, ◌+◌, ◌*◌, ◌≤◌, List, [], ◌∷◌, ◌++◌, length, replicate, arith, ap, length-append}
 use Rattle.std.proofs.lemmas.List.{length-replicate}
 use Rattle.qoi.specs.declared.chunk.Chunk.{Chunk}
 use Rattle.qoi.specs.declared.chunk.Chunk.TheVariants.{Run}
-use Rattle.qoi.specs.Qoi.{Past, AreBytes, IsChunk, AreChunks, bytes_of, chunk_bytes, times, pixel_after, then_chunk, then_chunks, meaning, end_marker}
-use Rattle.qoi.specs.Verdicts.{HasChunks, IsWhole, AreCut}
+use Rattle.qoi.specs.Qoi.{Past, IsChunk, AreChunks, bytes_of, chunk_bytes, times, pixel_after, then_chunk, then_chunks, end_marker}
+use Rattle.qoi.specs.Verdicts.{IsWhole}
 use Rattle.qoi.specs.Decoding.{least_byte_count}
 use Rattle.qoi.proofs.format.Appended.{length-bytes_of, length-meaning}
-use Rattle.qoi.proofs.format.SomeVerdict.{verdict_of}
 
 -- a chunk gives 62 pixels at most
 pub times_most : (c : Chunk) → IsChunk c → times c ≤ 62
@@ -28,16 +27,11 @@ pixels_most past (c ∷ cs) chunks =
       length-replicate (times c) (pixel_after past c),
     )
 
--- if chunks reach n pixels and eight bytes follow, there are as many bytes as n pixels need
-enough_bytes : (n : ℕ) (bytes : List ℕ) (cs : List Chunk) (eight rest : List ℕ) → HasChunks n bytes cs (eight ++ rest) → n ≤ length (meaning cs)
-    → length eight ≡ 8 → least_byte_count n ≤ length bytes
-enough_bytes n bytes cs eight rest takes enough is =
-    let most = pixels_most [] cs takes.chunks in
-    omega (arith, most, enough, is, length-meaning cs, ap length takes.split, length-append (chunk_bytes cs) (eight ++ rest), length-append eight rest)
-
 -- whole bytes are enough
 pub whole_holds : (n : ℕ) (bytes : List ℕ) (cs : List Chunk) (rest : List ℕ) → IsWhole n bytes cs rest → least_byte_count n ≤ length bytes
-whole_holds n bytes cs rest whole = enough_bytes n bytes cs end_marker rest whole.has whole.enough refl
+whole_holds n bytes cs rest whole =
+    let most = pixels_most [] cs whole.has.chunks in
+    omega (arith, most, whole.enough, length-meaning cs, ap length whole.has.split, length-append (chunk_bytes cs) (end_marker ++ rest), length-append end_marker rest)
 
 -- an image and the end marker take nine bytes at least
 pub nine_taken : (n : ℕ) (bytes : List ℕ) (cs : List Chunk) (rest : List ℕ) → 1 ≤ n → IsWhole n bytes cs rest → length rest + 9 ≤ length bytes
@@ -52,15 +46,3 @@ nine_taken n bytes cs rest some whole =
       length-append (chunk_bytes cs) (end_marker ++ rest),
       length-append end_marker rest,
     )
-
--- bytes that are too few are cut, whatever they are
-pub few_are_cut : (n : ℕ) (bytes : List ℕ) → AreBytes bytes → length bytes < least_byte_count n → AreCut n bytes
-few_are_cut n bytes fits few =
-    elim (verdict_of n bytes fits) [
-      | inl whole ↦ let (cs, rest, is) = whole in let enough = whole_holds n bytes cs rest is in absurd (omega (arith, few, enough))
-      | inr other ↦ elim other [
-        | inl cut ↦ cut
-        | inr wrong ↦ let (cs, eight, rest, is) = wrong in let enough = enough_bytes n bytes cs eight rest is.has is.enough is.length_is in
-            absurd (omega (arith, few, enough))
-      ]
-    ]

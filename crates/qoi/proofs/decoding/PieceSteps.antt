@@ -1,7 +1,6 @@
 -- A piece more: what is unread, before and after chunks are decoded.
 use Rattle.std.proofs.Common.{◌≡◌, ℕ, ◌+◌, ◌-◌, ◌*◌, ◌/◌, ◌%◌, ◌<◌, ◌≤◌, List, [], ◌∷◌, ◌++◌, length, take, drop, replicate, reverse, min, inl, inr, Option, arith, refl, sym, ap, ◌∙◌, subst, append_assoc, append-nil, length-append}
 use Rattle.std.specs.Io.KnownBytes.{Consumes}
-use Rattle.std.proofs.KnownBytes.{Consumes-trans}
 use Rattle.std.proofs.lemmas.List.{length-replicate, length-reverse, reverse-append, length-take, length-take-le, length-drop, take-append-le, take-take, take_all, drop-drop}
 use Rattle.std.proofs.lemmas.Bool.{cases_lt}
 use Rattle.std.proofs.Math.Seq.{take-add}
@@ -11,16 +10,16 @@ use Rattle.qoi.specs.declared.chunk.Chunk.{Chunk}
 use Rattle.qoi.specs.declared.decode.in_place.InPlace.{InPlace}
 use Rattle.qoi.specs.declared.decode.pixel_reader.unread.Unread.{Unread}
 use Rattle.qoi.specs.declared.decode.reached.Reached.{Reached}
-use Rattle.qoi.specs.Qoi.{Past, RgbaPixel, Each, AreChunks, chunk_bytes, end_marker, pixel_after, times, then_chunk, then_chunks}
+use Rattle.qoi.specs.Qoi.{Past, RgbaPixel, Each, AreChunks, pixel_after, times, then_chunk, then_chunks}
 use Rattle.qoi.specs.Raw.{IsChannels, pixel_bytes, output}
-use Rattle.qoi.specs.Decoding.{TakesImagePixels, ReadsImage}
-use Rattle.qoi.specs.inner.Filling.{HasSeen, HasWritten, IsFillable, upto, reached, filling, DecoderBetween}
+use Rattle.qoi.specs.Decoding.{ReadsImage}
+use Rattle.qoi.specs.inner.Filling.{HasSeen, HasWritten, upto, reached, filling, DecoderBetween}
 use Rattle.qoi.specs.inner.Hashed.{pixel_of_lanes}
 use Rattle.qoi.specs.pieces.InPlace.{TakesPiece}
 use Rattle.qoi.specs.pieces.Unread.{kept_raw, bytes_left, copies, KeepsWithin, KeepsNothing, AreWhole, DecoderAfter, IsUnread}
 use Rattle.qoi.proofs.format.ChunkSteps.{times_some, reverse-replicate}
 use Rattle.qoi.proofs.format.WholePixels.{by_channels, whole_pixels, length-output, take_whole}
-use Rattle.qoi.proofs.decoding.Progress.{fewer, none_written, fillable_whole}
+use Rattle.qoi.proofs.decoding.Progress.{fewer, none_written}
 use Rattle.qoi.proofs.decoding.StreamReads.{take-read}
 
 -- chunks give no fewer pixels
@@ -86,17 +85,6 @@ gone_most f c n m gone given undecoded is so_far all some =
     let size : length given ≡ c * length gone = ap length so_far ∙ length-output f c (reverse gone) is ∙ ap (λ k. c * k) (length-reverse gone) in
     by_channels (λ k. length given ≡ k * length gone → length given + undecoded ≡ k * n → k * m ≤ undecoded → length gone + m ≤ n) is
     (λ a b d. omega arith) (λ a b d. omega arith) size all some
-
--- the end marker after the chunks
-pub with_marker : {f c n : ℕ} {old middle new : Option (List ℕ)} {out : List ℕ} → TakesImagePixels f c n old middle out → Consumes middle new end_marker
-    → ReadsImage f c n old new out
-with_marker {old = old} {middle = middle} {new = new} s took = record {
-  cs = s.cs;
-  chunks = s.chunks;
-  reaches = s.reaches;
-  taken = Consumes-trans old middle new (chunk_bytes s.cs) end_marker (subst (Consumes old middle) (append-nil (chunk_bytes s.cs)) s.taken) took;
-  out_is = s.out_is;
-}
 
 -- from the beginning on
 none_off : (n : ℕ) → n - 0 ≡ n
@@ -397,10 +385,6 @@ pub read_two : (given front more : List ℕ) (i j : ℕ) → i ≤ length front 
     → (given ++ take i front) ++ take j more ≡ given ++ take (i + j) (put_mid i (length front - i) front more)
 read_two given front more i j within some =
     append_assoc given (take i front) (take j more) ∙ ap (λ z. given ++ z) (sym (take-read i j (length front - i) front more within some))
-
--- an output of so many whole pixels can be filled from its first byte
-pub times_fillable : {c : ℕ} {out : List ℕ} (q : ℕ) → IsChannels c → length out ≡ c * q → IsFillable c (upto out 0)
-times_fillable {out = out} q is e = fillable_whole is (by_channels (λ k. length out ≡ k * q → length out % k ≡ 0) is (λ s. omega arith) (λ s. omega arith) e)
 
 -- what whole pixels are left of whole ones
 pub minus_whole : (c a b : ℕ) → IsChannels c → a % c ≡ 0 → b % c ≡ 0 → (a - b) % c ≡ 0

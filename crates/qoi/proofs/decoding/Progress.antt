@@ -1,14 +1,15 @@
 -- A decoder between two chunks: what it has taken, filled and seen.
-use Rattle.std.proofs.Common.{◌≡◌, ℕ, suc, ◌+◌, ◌*◌, ◌/◌, ◌%◌, ◌<◌, ◌≤◌, inl, inr, List, [], ◌∷◌, ◌++◌, length, take, replicate, reverse, min, false, Option, None, Some, IfSome, arith, refl, sym, ap, ◌∙◌, subst, append_assoc, append-nil, length-append}
+use Rattle.std.proofs.Common.{◌≡◌, ℕ, suc, ◌+◌, ◌*◌, ◌/◌, ◌%◌, ◌<◌, ◌≤◌, inl, inr, List, [], ◌∷◌, ◌++◌, length, take, drop, take-append-drop, replicate, reverse, min, Bool, true, false, Option, None, Some, IfSome, arith, refl, sym, ap, ◌∙◌, subst, append_assoc, append-nil, length-append}
 use Rattle.qoi.specs.Qoi.{RgbaPixel, Past, AreBytes, start, bytes_of, chunk_bytes, pixel_after, times, then_chunks, meaning, Reaches, end_marker}
 use Rattle.std.specs.Io.KnownBytes.{Consumes}
-use Rattle.std.proofs.KnownBytes.{Consumes-trans}
+use Rattle.std.proofs.KnownBytes.{Consumes-nil, Consumes-trans}
 use Rattle.qoi.specs.Raw.{IsChannels, pixel_bytes, output}
 use Rattle.qoi.specs.inner.Filling.{Buffer, Filling, upto, reached, filling, HasFilled, IsFillable, DecodesChunk, DecoderBetween, IsFrontAfter, TakesOn}
-use Rattle.qoi.specs.inner.Chunks.{TakesMore, TakesChunks, FillsOutput}
+use Rattle.qoi.specs.inner.Chunks.{TakesMore, TakesChunks, RefusesChunks, ReadsRest, RefusesRest}
 use Rattle.qoi.specs.inner.Hashed.{pixel_of_lanes, HoldsSeen}
 use Rattle.qoi.specs.Verdicts.{IsPartOfChunk, EndsBefore, AreCut}
-use Rattle.qoi.specs.Decoding.{TakesImagePixels, ReadsImage}
+use Rattle.qoi.specs.Decoding.{ReadsImage, TakesBytes, RefusesMarker, RefusesTakenMarker}
+use Rattle.qoi.specs.declared.error.Error.{Error}
 use Rattle.qoi.proofs.format.ChunkSteps.{times_some, then_chunks-append, each_append}
 use Rattle.std.proofs.lemmas.Grind.{flat_map-append}
 use Rattle.std.proofs.lemmas.List.{length-reverse, reverse-append}
@@ -18,6 +19,7 @@ use Rattle.qoi.proofs.format.Appended.{are_chunks_append, chunk_bytes-last, leng
 use Rattle.qoi.proofs.format.WholePixels.{by_channels, whole_pixels}
 use Rattle.qoi.proofs.decoding.FilledBuffer.{counts, filled_all}
 use Rattle.qoi.proofs.format.SeenTable.{previous_copies}
+use Rattle.qoi.proofs.decoding.StreamReads.{refused_after, bytes_refused}
 
 -- no pixels more
 pub none_more : (n : ℕ) → length {A = RgbaPixel} [] + n ≡ n
@@ -114,6 +116,10 @@ taken_as s taken = record { cs = s.cs; chunks = s.chunks; recent = s.recent; pix
 pub front_of_none : {f c : ℕ} {gone : Past} {n : ℕ} {Taken : List ℕ → Type 0} {now : Filling} (bytes : List ℕ) → (s : DecoderBetween f c gone n Taken now) → DecoderBetween f c gone n (IsFrontAfter (chunk_bytes s.cs) bytes 0) now
 front_of_none bytes s = taken_as s (sym (append-nil (chunk_bytes s.cs)))
 
+-- the front of a slice was taken
+pub split_taken : {bytes rest : List ℕ} (size : ℕ) → rest ≡ drop size bytes → Consumes (Some bytes) (Some rest) (take size bytes)
+split_taken {bytes} size back = sym (take-append-drop size bytes) ∙ ap (λ z. take size bytes ++ z) (sym back)
+
 -- the front of what a reader showed was taken
 pub front_taken : {f c : ℕ} {ahead rest : Option (List ℕ)} {old new : Filling} (bytes : List ℕ) (size : ℕ) → TakesOn f c bytes 0 size old new → Consumes ahead rest (take size bytes)
     → TakesMore f c ahead rest old new
@@ -121,6 +127,17 @@ front_taken {ahead = ahead} {rest = rest} bytes size fast took = record {
   between = λ gone n first h.
       let s = fast gone n (chunk_bytes h.cs) (front_of_none bytes h) in
       taken_as s (subst (Consumes first rest) (sym s.taken) (Consumes-trans first ahead rest (chunk_bytes h.cs) (take size bytes) h.taken took));
+}
+
+-- chunks were taken, and then more of them
+pub chunks_after : {f c : ℕ} {runs_fit : Bool} {ahead middle rest : Option (List ℕ)} {old now new : Filling} → TakesMore f c ahead middle old now
+    → (old.buffer.at < length old.buffer.out → now.buffer.at < length now.buffer.out) → TakesChunks f c runs_fit middle rest now new → TakesChunks f c runs_fit ahead rest old new
+chunks_after on below r = record {
+  goes_on = record { between = λ gone n first h. r.goes_on.between gone n first (on.between gone n first h) };
+  fillable = r.fillable;
+  below = λ fits inside. r.below fits (below inside);
+  filled = r.filled;
+  full = r.full;
 }
 
 -- if there is room and fewer bytes are left than an end marker has, the bytes are cut
@@ -149,32 +166,49 @@ few_left {gone = gone} {n = n} (Some bytes) rest is s inside fits few =
       },
     )
 
--- the chunks of a stream whose pixels fill the buffer
-pub streams_pixels : {f c : ℕ} {gone : Past} {n : ℕ} {old new : Option (List ℕ)} {now : Filling} → IsChannels c → DecoderBetween f c gone n (Consumes old new) now
-    → length now.buffer.out ≤ now.buffer.at
-    → TakesImagePixels f c (length gone + n) old new (output f c (reverse gone) ++ now.buffer.out)
-streams_pixels is s full =
-    let all = reads_all is s full in
-    record { cs = s.cs; chunks = s.chunks; reaches = all.0; taken = subst (Consumes _ _) (sym (append-nil (chunk_bytes s.cs))) s.taken; out_is = all.1 }
+-- chunks fill the buffer, and then the end marker is taken
+pub reads_rest : {f c : ℕ} {ahead middle rest : Option (List ℕ)} {old new : Filling} → TakesChunks f c false ahead middle old new → Consumes middle rest end_marker
+    → ReadsRest f c ahead rest old new.buffer.out
+reads_rest {middle = middle} {rest = rest} t took gone n first h =
+    let s = t.goes_on.between gone n first h in
+    let all = reads_all t.fillable.three_or_four s (t.full refl) in
+    record { cs = s.cs; chunks = s.chunks; reaches = all.0; taken = Consumes-trans first middle rest (chunk_bytes s.cs) end_marker s.taken took; out_is = all.1 }
 
--- the same of all chunks that fill a buffer
-pub fills_output : {f c : ℕ} {ahead rest : Option (List ℕ)} {old new : Filling} → TakesChunks f c false ahead rest old new → FillsOutput f c ahead rest old new.buffer.out
-fills_output t gone n first h = streams_pixels t.fillable.three_or_four (t.goes_on.between gone n first h) (t.full refl)
+-- or refused in memory
+pub refuses_slice : {f c : ℕ} {bytes middle : List ℕ} {old new : Filling} (rest : Option (List ℕ)) (e : Error) → TakesChunks f c false (Some bytes) (Some middle) old new
+    → RefusesMarker middle e → RefusesRest f c true (Some bytes) rest old e
+refuses_slice rest e t why gone n None h = tt
+refuses_slice {middle = middle} rest e t why gone n (Some first) h =
+    let s = t.goes_on.between gone n (Some first) h in
+    bytes_refused (length gone + n) first middle s.cs s.chunks (reads_all t.fillable.three_or_four s (t.full refl)).0 s.taken e why
 
--- the same with none before them
-pub first_streams : {f c n : ℕ} {old new : Option (List ℕ)} {out : List ℕ} → TakesImagePixels f c (length {A = RgbaPixel} [] + n) old new (output f c (reverse []) ++ out)
-    → TakesImagePixels f c n old new out
-first_streams {f} {c} {n} {old} {new} {out} s = subst (λ k. TakesImagePixels f c k old new out) (none_more n) s
+-- or on a stream
+pub refuses_stream : {f c : ℕ} {ahead middle : Option (List ℕ)} {old new : Filling} (rest : Option (List ℕ)) (e : Error) → TakesChunks f c false ahead middle old new
+    → TakesBytes middle rest (λ taken. RefusesTakenMarker taken e) → RefusesRest f c false ahead rest old e
+refuses_stream {middle = middle} rest e t (taken, more, why) gone n first h =
+    let s = t.goes_on.between gone n first h in (
+      chunk_bytes s.cs ++ taken,
+      Consumes-trans first middle rest (chunk_bytes s.cs) taken s.taken more,
+      refused_after (length gone + n) s.cs s.chunks (reads_all t.fillable.three_or_four s (t.full refl)).0 taken e why,
+    )
 
--- the pixels of a stream, and then its end marker
-pub marker_taken : {f c n : ℕ} {old now new : Option (List ℕ)} {out : List ℕ} → TakesImagePixels f c n old now out → Consumes now new end_marker → ReadsImage f c n old new out
-marker_taken {old = old} {now = now} {new = new} s took = record {
-  cs = s.cs;
-  chunks = s.chunks;
-  reaches = s.reaches;
-  taken = subst (λ z. Consumes old new (z ++ end_marker)) (append-nil (chunk_bytes s.cs)) (Consumes-trans old now new (chunk_bytes s.cs ++ []) end_marker s.taken took);
-  out_is = s.out_is;
-}
+-- the same of a whole image
+pub reads_first : {f c n : ℕ} {old new : Option (List ℕ)} {out : List ℕ} → ReadsImage f c (length {A = RgbaPixel} [] + n) old new (output f c (reverse []) ++ out)
+    → ReadsImage f c n old new out
+reads_first {f} {c} {n} {old} {new} {out} r = subst (λ k. ReadsImage f c k old new out) (none_more n) r
+
+-- from the first chunk on
+pub reads_all_of : {f c last : ℕ} {ahead rest : Option (List ℕ)} {table old out : List ℕ} → IsChannels c → length old % c ≡ 0 → HoldsSeen table [] → pixel_of_lanes last ≡ start
+    → ReadsRest f c ahead rest (filling table (reached last 0) old) out → ReadsImage f c (length old / c) ahead rest out
+reads_all_of {f} {c} {last} {ahead} {table = table} {old = old} is whole blank opaque r =
+    reads_first (r [] _ _ (start_between f c (Consumes ahead ahead) table last old is whole blank opaque (Consumes-nil ahead)))
+
+-- or refused
+pub refuses_all_of : {f c last : ℕ} {ahead : Option (List ℕ)} {table old : List ℕ} (in_memory : Bool) (rest : Option (List ℕ)) (e : Error) → IsChannels c → length old % c ≡ 0 → HoldsSeen table []
+    → pixel_of_lanes last ≡ start → RefusesRest f c in_memory ahead rest (filling table (reached last 0) old) e → RefusesChunks in_memory (length old / c) ahead rest e
+refuses_all_of {f} {c} {last} {ahead} {table} {old} in_memory rest e is whole blank opaque r =
+    subst (λ k. RefusesChunks in_memory k ahead rest e) (none_more (length old / c))
+    (r [] _ _ (start_between f c (Consumes ahead ahead) table last old is whole blank opaque (Consumes-nil ahead)))
 
 -- if a stream gives no whole chunk, what was taken ends before n pixels
 pub stream_ends : {f c : ℕ} {gone : Past} {n : ℕ} (old middle new : Option (List ℕ)) (part : List ℕ) {now : Filling} → IsChannels c → DecoderBetween f c gone n (Consumes old middle) now

@@ -1,10 +1,7 @@
 -- What was read from a stream, piece after piece, and why an image is refused.
-use Rattle.std.proofs.Common.{◌≡◌, ◌≢◌, ℕ, zero, suc, ◌+◌, ◌<◌, ◌≤◌, ◌-◌, ◌⊎◌, inl, inr, List, [], ◌∷◌, ◌++◌, length, get_or, take, drop, take-append-drop, Bool, true, false, Option, None, Some, Result, IfSome, IfErr, arith, refl, sym, ap, ◌∙◌, subst, append-nil}
+use Rattle.std.proofs.Common.{◌≡◌, ◌≢◌, ℕ, zero, suc, ◌+◌, ◌<◌, ◌≤◌, ◌-◌, ◌⊎◌, inl, inr, List, [], ◌∷◌, ◌++◌, length, get_or, take, drop, take-append-drop, arith, refl, sym, ap, ◌∙◌, append-nil}
 use Rattle.std.proofs.lemmas.List.{take-append-le, length-take-le}
 use Rattle.std.proofs.Math.Seq.{take-append-add}
-use Rattle.std.specs.Io.KnownBytes.{Consumes}
-use Rattle.std.proofs.KnownBytes.{Consumes-trans}
-use Rattle.std.proofs.lemmas.Result.{IfErr-weaker}
 use borrow.Rule.Slice.PartMut.{put_mid, post_of}
 use Rattle.qoi.specs.declared.error.Error.{Error}
 use Rattle.qoi.specs.declared.error.Error.TheVariants.{InvalidPadding, IoError, UnexpectedBufferEnd}
@@ -15,8 +12,7 @@ use Rattle.qoi.proofs.format.ChunksApart.{chunks_apart}
 use Rattle.std.proofs.lemmas.Bool.{cases_lt}
 use Rattle.qoi.specs.Qoi.{AreBytes, IsChunk, AreChunks, bytes_of, chunk_bytes, Reaches, marker_size, end_marker}
 use Rattle.qoi.specs.Verdicts.{IsPartOfChunk, EndsBefore, AreCut, AreWrongThen}
-use Rattle.qoi.specs.Decoding.{TakesImagePixels, RefusesBytes, RefusesMarker, RefusesTaken, RefusesTakenMarker}
-use Rattle.qoi.specs.inner.Chunks.{RefusesAfter, RefusesChunks}
+use Rattle.qoi.specs.Decoding.{RefusesBytes, RefusesMarker, RefusesTaken, RefusesTakenMarker}
 use Rattle.qoi.proofs.format.PartOfChunk.{byte_and, part_luma, part_rgb, part_rgba}
 
 -- the front of a buffer after a read past what was filled
@@ -113,45 +109,17 @@ wrong_behind n bytes cs eight rest chunks reaches split size other =
     (cs, eight, record { has = record { chunks = chunks; stays_below = reaches.stays_below; split = split }; enough = reaches.enough; length_is = size; other = other })
 
 -- why an image is refused whose marker is refused
-refused_after : (n : ℕ) (cs : List Chunk) → AreChunks cs → Reaches n cs → (taken : List ℕ) (e : Error) → RefusesTakenMarker taken e
+pub refused_after : (n : ℕ) (cs : List Chunk) → AreChunks cs → Reaches n cs → (taken : List ℕ) (e : Error) → RefusesTakenMarker taken e
     → RefusesTaken n (chunk_bytes cs ++ taken) e
 refused_after n cs chunks reaches taken (IoError x) few = cut_behind n _ cs taken chunks reaches refl few
 refused_after n cs chunks reaches taken InvalidPadding (eight, other) =
     wrong_behind n _ cs taken [] chunks reaches (ap (λ z. chunk_bytes cs ++ z) (sym (append-nil taken))) eight other
 refused_after n cs chunks reaches taken _ none = none
 
--- what was taken if the marker was refused
-marker_refused : {T : Type 0} (f c n : ℕ) (old now new : Option (List ℕ)) (out : List ℕ) (r : Result T Error) → TakesImagePixels f c n old now out
-    → IfErr r (λ e. (taken : List ℕ) × Consumes now new taken × RefusesTakenMarker taken e)
-    → IfErr r (λ e. (taken : List ℕ) × Consumes old new taken × RefusesTaken n taken e)
-marker_refused f c n old now new out r s why =
-    IfErr-weaker r (λ e. (taken : List ℕ) × Consumes now new taken × RefusesTakenMarker taken e)
-    (λ e. (taken : List ℕ) × Consumes old new taken × RefusesTaken n taken e)
-    (λ e (taken, took, refused). (
-      chunk_bytes s.cs ++ taken,
-      Consumes-trans old now new (chunk_bytes s.cs) taken (subst (Consumes old now) (append-nil (chunk_bytes s.cs)) s.taken) took,
-      refused_after n s.cs s.chunks s.reaches taken e refused,
-    )) why
-
 -- why bytes are refused, if what follows their chunks is
-bytes_refused : (n : ℕ) (bytes rest : List ℕ) (cs : List Chunk) → AreChunks cs → Reaches n cs → bytes ≡ chunk_bytes cs ++ rest
+pub bytes_refused : (n : ℕ) (bytes rest : List ℕ) (cs : List Chunk) → AreChunks cs → Reaches n cs → bytes ≡ chunk_bytes cs ++ rest
     → (e : Error) → RefusesMarker rest e → RefusesBytes n bytes e
 bytes_refused n bytes rest cs chunks reaches split UnexpectedBufferEnd few = cut_behind n bytes cs rest chunks reaches split few
 bytes_refused n bytes rest cs chunks reaches split InvalidPadding (eight, more, size, other, is) =
     (more, wrong_behind n bytes cs eight more chunks reaches (split ∙ ap (λ z. chunk_bytes cs ++ z) is) size other)
 bytes_refused n bytes rest cs chunks reaches split _ none = none
-
--- the same, if they are known
-known_refused : (f c n : ℕ) (old now : Option (List ℕ)) (out : List ℕ) → TakesImagePixels f c n old now out → (e : Error)
-    → IfSome now (λ rest. RefusesMarker rest e) → IfSome old (λ bytes. RefusesBytes n bytes e)
-known_refused f c n None now out s e why = tt
-known_refused f c n (Some bytes) None out s e why = absurd s.taken
-known_refused f c n (Some bytes) (Some rest) out s e why =
-    bytes_refused n bytes rest s.cs s.chunks s.reaches (s.taken ∙ ap (λ z. z ++ rest) (append-nil (chunk_bytes s.cs))) e why
-
--- why an image is refused whose marker is refused, whatever the reader
-pub after_refused : {T : Type 0} (in_memory : Bool) (f c n : ℕ) (old now new : Option (List ℕ)) (out : List ℕ) (r : Result T Error) → TakesImagePixels f c n old now out
-    → IfErr r (RefusesAfter in_memory now new) → IfErr r (RefusesChunks in_memory n old new)
-after_refused true f c n old now new out r s why =
-    IfErr-weaker r (RefusesAfter true now new) (RefusesChunks true n old new) (λ e is. known_refused f c n old now out s e is) why
-after_refused false f c n old now new out r s why = marker_refused f c n old now new out r s why

@@ -6,7 +6,7 @@ use Rattle.qoi.specs.declared.error.Error.{Error}
 use Rattle.qoi.specs.declared.decode.output.TheConstants.{RUN_ROOM}
 use Rattle.qoi.specs.Qoi.{Past}
 use Rattle.qoi.specs.Raw.{output}
-use Rattle.qoi.specs.Decoding.{TakesImagePixels, TakesBytes, RefusesBytes, RefusesMarker, RefusesTaken, RefusesTakenMarker}
+use Rattle.qoi.specs.Decoding.{ReadsImage, TakesBytes, RefusesBytes, RefusesTaken}
 use Rattle.qoi.specs.inner.Filling.{Filling, IsFillable, DecoderBetween}
 
 -- Why chunks of n pixels and the end marker are refused, which begin with the bytes `start`: in memory
@@ -14,11 +14,6 @@ use Rattle.qoi.specs.inner.Filling.{Filling, IsFillable, DecoderBetween}
 abbrev pub RefusesChunks : Bool → ℕ → Option (List ℕ) → Option (List ℕ) → Error → Type 0
 RefusesChunks true n start new e = IfSome start (λ bytes. RefusesBytes n bytes e)
 RefusesChunks false n start new e = TakesBytes start new (λ taken. RefusesTaken n taken e)
-
--- why the bytes after the chunks are refused, which aren't the end marker
-abbrev pub RefusesAfter : Bool → Option (List ℕ) → Option (List ℕ) → Error → Type 0
-RefusesAfter true old new e = IfSome old (λ bytes. RefusesMarker bytes e)
-RefusesAfter false old new e = TakesBytes old new (λ taken. RefusesTakenMarker taken e)
 
 -- chunks were taken from the bytes ahead, after those before them
 pub record TakesMore (file_channels channels : ℕ) (ahead rest : Option (List ℕ)) (old new : Filling) : Type 0 where
@@ -33,15 +28,20 @@ pub record TakesChunks (file_channels channels : ℕ) (runs_fit : Bool) (ahead r
   pub filled : IsTrue runs_fit → length new.buffer.out < new.buffer.at + RUN_ROOM
   pub full : IsFalse runs_fit → length new.buffer.out ≤ new.buffer.at
 
--- the same until the output is full, of pixels that follow those that are gone
-abbrev pub FillsOutput : ℕ → ℕ → Option (List ℕ) → Option (List ℕ) → Filling → List ℕ → Type 0
-FillsOutput f c ahead rest old out = (gone : Past) (n : ℕ) (start : Option (List ℕ)) → DecoderBetween f c gone n (Consumes start ahead) old
-    → TakesImagePixels f c (length gone + n) start rest (output f c (reverse gone) ++ out)
-
 -- chunks are refused for any image of the pixels that are gone and those that fit, or of more
 abbrev pub RefusesFilling : ℕ → ℕ → Bool → Option (List ℕ) → Option (List ℕ) → Filling → Error → Type 0
 RefusesFilling f c in_memory ahead rest old e = (gone : Past) (n : ℕ) (start : Option (List ℕ)) → DecoderBetween f c gone n (Consumes start ahead) old
     → (all : ℕ) → length gone + n ≤ all → RefusesChunks in_memory all start rest e
+
+-- the rest of an image, which follows the pixels that are gone, and the end marker were read
+abbrev pub ReadsRest : ℕ → ℕ → Option (List ℕ) → Option (List ℕ) → Filling → List ℕ → Type 0
+ReadsRest f c ahead rest old out = (gone : Past) (n : ℕ) (start : Option (List ℕ)) → DecoderBetween f c gone n (Consumes start ahead) old
+    → ReadsImage f c (length gone + n) start rest (output f c (reverse gone) ++ out)
+
+-- the rest of an image or the end marker was refused
+abbrev pub RefusesRest : ℕ → ℕ → Bool → Option (List ℕ) → Option (List ℕ) → Filling → Error → Type 0
+RefusesRest f c in_memory ahead rest old e = (gone : Past) (n : ℕ) (start : Option (List ℕ)) → DecoderBetween f c gone n (Consumes start ahead) old
+    → RefusesChunks in_memory (length gone + n) start rest e
 
 -- the place for the error of a refusal has one, of which this holds
 abbrev pub HasFault : (Error → Type 0) → Option Error → Type 0

@@ -4,7 +4,7 @@
 ghost use Rattle.std.specs.Prelude.{◌≡◌, ◌⊎◌, ◌+◌, ◌*◌, ◌<◌, ◌≤◌, length};
 ghost use Rattle.qoi.specs.declared.decode.fast.TheConstants.{INPUT_ROOM, OUTPUT_ROOM};
 
-use crate::decode::fast::{INPUT_ROOM, OUTPUT_ROOM, Progress};
+use crate::decode::fast::{FEW, INPUT_ROOM, OUTPUT_ROOM, Progress};
 use crate::decode::reached::{Decoded, Reached};
 use crate::decode::table::TermTable;
 
@@ -25,14 +25,24 @@ const SHORT_BLOCK: usize = 8;
 impl<const N: usize, const F: usize> Progress<N, F> {
     ghost use Rattle.qoi.specs.inner.Filling.{upto, IsFillable, StaysFillable, filling, TakesOn, HasAhead, FastChunks};
 
-    // Decodes blocks of chunks and rows of full or of plain ones while there is room ahead.
+    // `chunks_ahead` from a state of the loop: in blocks, and in rows of full chunks or of plain ones,
+    // if `ROW` is 8, else by `chunks_until`.
     #[inline(always)]
-    fn blocks_of_chunks(self, table: &mut TermTable, bytes: &[u8], out: &mut [u8]) -> Self
+    fn blocks_of_chunks<const ROW: usize>(
+        self,
+        table: &mut TermTable,
+        bytes: &[u8],
+        out: &mut [u8],
+    ) -> Self
+        requires row { (ROW ≡ 1) ⊎ (ROW ≡ 8) }
         requires input { INPUT_ROOM ≤ length bytes.now }
-        requires room { OUTPUT_ROOM ≤ length out.old }
+        requires room { 16 * ROW + 16 ≤ length out.old }
         requires ahead { HasAhead 1 0 bytes.now out.old self }
         ensures { FastChunks bytes.now self.entry table.old out.old result table.new out.new }
     {
+        if ROW == 1 {
+            return self.chunks_until::<1>(table, bytes, out);
+        }
         let mut now = self;
         let far = bytes.len() - INPUT_ROOM;
         let mut near = far.min(now.taken + FIRST_BLOCK);
@@ -54,26 +64,6 @@ impl<const N: usize, const F: usize> Progress<N, F> {
             near = far.min(now.taken + if is_long { SHORT_BLOCK } else { BLOCK });
         }
         now
-    }
-
-    // `chunks_ahead` from a state of the loop: in blocks if `ROW` is 8, else by `chunks_until`.
-    #[inline(always)]
-    fn chunks_in_room<const ROW: usize>(
-        self,
-        table: &mut TermTable,
-        bytes: &[u8],
-        out: &mut [u8],
-    ) -> Self
-        requires row { (ROW ≡ 1) ⊎ (ROW ≡ 8) }
-        requires input { INPUT_ROOM ≤ length bytes.now }
-        requires room { 16 * ROW + 16 ≤ length out.old }
-        requires ahead { HasAhead 1 0 bytes.now out.old self }
-        ensures { FastChunks bytes.now self.entry table.old out.old result table.new out.new }
-    {
-        if ROW == 8 {
-            return self.blocks_of_chunks(table, bytes, out);
-        }
-        self.chunks_until::<ROW>(table, bytes, out)
     }
 
     /// Decodes chunks while input and output have room ahead for `ROW` short ones and a full one,
@@ -103,7 +93,7 @@ impl<const N: usize, const F: usize> Progress<N, F> {
             at: old.at,
             next: bytes[from.taken],
         };
-        let now = now.chunks_in_room::<ROW>(table, bytes, out);
+        let now = now.blocks_of_chunks::<ROW>(table, bytes, out);
         let (last, at) = (now.last, now.at);
         Decoded {
             taken: now.taken,
@@ -112,9 +102,10 @@ impl<const N: usize, const F: usize> Progress<N, F> {
     }
 
     /// Decodes chunks from the front of the bytes, after what others reached, while there is room
-    /// ahead, and returns where it stopped. The caller goes on chunk by chunk.
+    /// ahead, and returns where it stopped; none if the image goes on behind a short output (`FEW`).
+    /// The caller goes on chunk by chunk.
     #[inline(always)]
-    pub(super) fn fast_chunks(
+    pub(super) fn fast_chunks<const RUN_FITS: bool>(
         table: &mut TermTable,
         from: Reached,
         bytes: &[u8],
@@ -130,7 +121,8 @@ impl<const N: usize, const F: usize> Progress<N, F> {
             taken: 0,
             reached: from,
         };
-        if bytes.len() < INPUT_ROOM || out.len() < OUTPUT_ROOM {
+        let is_short = out.len() < OUTPUT_ROOM || RUN_FITS && out.len() < FEW;
+        if is_short || bytes.len() < INPUT_ROOM {
             return none;
         }
         Progress::<N, F>::chunks_ahead::<8>(table, none, bytes, out)

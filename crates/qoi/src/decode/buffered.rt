@@ -3,8 +3,7 @@ ghost use Rattle.std.specs.Prelude.{◌<◌, [], length, false, IfOk, IfErr, OnE
 ghost use Rattle.std.specs.Io.KnownBytes.{Consumes};
 ghost use Rattle.qoi.specs.declared.error.Error.{Error};
 ghost use Rattle.qoi.specs.inner.Chunks.{TakesMore, TakesChunks, RefusesFilling};
-ghost use Rattle.qoi.specs.inner.Filling.{upto, IsFillable, HasRoom, StaysFillable, filling};
-ghost use Rattle.qoi.specs.pieces.InPlace.{TakesInPlace, IsInPlace};
+ghost use Rattle.qoi.specs.inner.Filling.{upto, IsFillable, StaysFillable, filling};
 
 use crate::decode::chunks::Chunks;
 use crate::decode::fast::{OUTPUT_ROOM, Progress};
@@ -41,32 +40,9 @@ fn chunks_in_buffer<R: BufRead, const N: usize, const F: usize>(
         return Ok(from);
     }
     let bytes = reader.fill_buf()?;
-    let now = Progress::<N, F>::fast_chunks(table, from, bytes, out);
+    let now = Progress::<N, F>::fast_chunks::<false>(table, from, bytes, out);
     reader.consume(now.taken);
     Ok(now.reached)
-}
-
-// Decodes chunks from what the reader's buffer shows into a piece of an image, after what others
-// reached, and takes just those; a run may go on past its end.
-#[inline(always)]
-fn place_from_buffer<R: BufRead, const N: usize, const F: usize>(
-    reader: &mut R,
-    table: &mut TermTable,
-    from: Reached,
-    out: &mut [u8],
-) -> io::Result<InPlace>
-    requires { HasRoom N false (upto out.old from.at) }
-    ensures takes { IfOk result (λ now. TakesInPlace F N
-        (R.remaining reader.old) (R.remaining reader.new)
-        (filling table.old from out.old) table.new out.new now) }
-    ensures sizes { IfOk result (IsInPlace N (length out.new)) }
-    ensures failed { OnErr result
-        (Consumes (R.remaining reader.old) (R.remaining reader.new) []) }
-{
-    let bytes = reader.fill_buf()?;
-    let placed = chunks_in_place::<N, F>(table, from, bytes, out);
-    reader.consume(placed.taken);
-    Ok(placed)
 }
 
 // Decodes chunks from a reader with a buffer, after what others reached: if `RUN_FITS`, as long as
@@ -115,9 +91,14 @@ impl<R: BufRead, const N: usize, const F: usize> Chunks<N, F> for Buffered<R> {
     }
 
     #[inline(always)]
-    fn all_chunks(&mut self, table: &mut TermTable, from: Reached, out: &mut [u8]) -> Result<()> {
+    fn rest_of_image(
+        &mut self,
+        table: &mut TermTable,
+        from: Reached,
+        out: &mut [u8],
+    ) -> Result<()> {
         decode_chunks::<R, N, F, false>(&mut self.0, table, from, out)?;
-        Ok(())
+        stream_marker(&mut self.0)
     }
 
     #[inline(always)]
@@ -127,11 +108,9 @@ impl<R: BufRead, const N: usize, const F: usize> Chunks<N, F> for Buffered<R> {
         from: Reached,
         out: &mut [u8],
     ) -> Result<InPlace> {
-        let placed = place_from_buffer::<R, N, F>(&mut self.0, table, from, out)?;
+        let bytes = self.0.fill_buf()?;
+        let placed = chunks_in_place::<N, F>(table, from, bytes, out);
+        self.0.consume(placed.taken);
         Ok(placed)
-    }
-
-    fn marker(&mut self) -> Result<()> {
-        stream_marker(&mut self.0)
     }
 }

@@ -6,7 +6,7 @@ ghost use Rattle.std.specs.Io.KnownBytes.{Consumes};
 ghost use Rattle.qoi.specs.Qoi.{end_marker, run_max};
 ghost use Rattle.qoi.specs.Raw.{IsChannels};
 ghost use Rattle.qoi.specs.Decoding.{ReadsImage};
-ghost use Rattle.qoi.specs.inner.Chunks.{RefusesChunks, RefusesAfter, TakesChunks, FillsOutput, RefusesFilling};
+ghost use Rattle.qoi.specs.inner.Chunks.{RefusesChunks, TakesChunks, RefusesFilling, ReadsRest, RefusesRest};
 ghost use Rattle.qoi.specs.inner.Filling.{upto, IsFillable, HasRoom, filling};
 ghost use Rattle.qoi.specs.pieces.InPlace.{TakesInPlace, IsInPlace};
 ghost use Rattle.qoi.specs.declared.decode.chunks.TheConstants.{GROWTH};
@@ -45,12 +45,13 @@ pub(super) trait Chunks<const N: usize, const F: usize>: Sized {
         ensures refused { IfErr result (RefusesFilling F N in_memory
             (ahead self.old) (ahead self.new) (filling table.old from out.old)) };
 
-    /// `some_chunks`, but until `out` is full; takes no byte past the last chunk.
-    fn all_chunks(&mut self, table: &mut TermTable, from: Reached, out: &mut [u8]) -> Result<()>
+    /// Decodes chunks, after what others reached, until `out` is full, and takes the end marker and
+    /// no byte past it.
+    fn rest_of_image(&mut self, table: &mut TermTable, from: Reached, out: &mut [u8]) -> Result<()>
         requires { IsFillable N (upto out.old from.at) }
-        ensures read { OnOk result (FillsOutput F N (ahead self.old) (ahead self.new)
+        ensures read { OnOk result (ReadsRest F N (ahead self.old) (ahead self.new)
             (filling table.old from out.old) out.new) }
-        ensures refused { IfErr result (RefusesFilling F N in_memory
+        ensures refused { IfErr result (RefusesRest F N in_memory
             (ahead self.old) (ahead self.new) (filling table.old from out.old)) };
 
     /// Decodes chunks that stand in memory into a piece of an image, after what others reached, and
@@ -74,12 +75,6 @@ pub(super) trait Chunks<const N: usize, const F: usize>: Sized {
             reached: from,
         }))
     }
-
-    /// Takes the end marker, or refuses the bytes ahead.
-    fn marker(&mut self) -> Result<()>
-        ensures read { OnOk result (Consumes (ahead self.old) (ahead self.new) end_marker) }
-        ensures refused { IfErr result
-            (RefusesAfter in_memory (ahead self.old) (ahead self.new)) };
 }
 
 // Appends zeros to a vector up to `size` bytes, for which it has the capacity, and no more of them
@@ -110,8 +105,7 @@ pub(super) fn image_to_buf<R: Chunks<N, F>, const N: usize, const F: usize>(
 {
     let mut table = TermTable::new();
     let last = Hashed::start();
-    reader.all_chunks(&mut table, Reached { last, at: 0 }, out)?;
-    reader.marker()
+    reader.rest_of_image(&mut table, Reached { last, at: 0 }, out)
 }
 
 /// Decodes an image and its end marker into an empty vector with capacity for `size` bytes, which
@@ -144,6 +138,5 @@ pub(super) fn image_to_vec<R: Chunks<N, F>, const N: usize, const F: usize>(
         now = reader.some_chunks(&mut table, now, out)?;
     }
     grow::<N>(out, size);
-    reader.all_chunks(&mut table, now, out)?;
-    reader.marker()
+    reader.rest_of_image(&mut table, now, out)
 }

@@ -1,9 +1,9 @@
 //! Rows of plain chunks, as palettes have them, by a loop of their own: index positions,
 //! differences, short runs, RGB and RGBA chunks in any order, without a jump between them.
-ghost use Rattle.std.specs.Prelude.{◌≡◌, ◌<◌, ◌≤◌, length};
-ghost use Rattle.qoi.specs.Qoi.{rgb_tag, rgba_tag};
+ghost use Rattle.std.specs.Prelude.{◌≤◌, length};
 ghost use Rattle.qoi.specs.declared.decode.fast.TheConstants.{OUTPUT_ROOM};
 
+use crate::consts::{QOI_OP_RGB, QOI_OP_RGBA};
 use crate::decode::deltas::{advance, is_plain};
 use crate::decode::fast::{OUTPUT_ROOM, Progress};
 use crate::decode::output::store_vector;
@@ -17,23 +17,11 @@ const ROW_ROOM: usize = 41;
 // loops are faster.
 const MOST_SAME: usize = 5;
 
-// How many bytes a plain chunk has, by its first byte: by a sum, which is known before a number of a
-// table would be. The next chunk waits for it.
-#[inline(always)]
-fn byte_count(b1: usize) -> usize
-    requires { b1 < 256 }
-    ensures few { (1 ≤ result) × (result ≤ 5) }
-    ensures short { b1 < rgb_tag → result ≡ 1 }
-    ensures rgb { b1 ≡ rgb_tag → result ≡ 4 }
-    ensures rgba { b1 ≡ rgba_tag → result ≡ 5 }
-{
-    1 + 3 * usize::from(b1 >= 0xfe) + usize::from(b1 == 0xff)
-}
-
 impl<const N: usize, const F: usize> Progress<N, F> {
     ghost use Rattle.qoi.specs.inner.Filling.{HasAhead, FastStep, FastChunks, IsPlainTag};
 
-    // Decodes a plain chunk without a jump. Where the next one stands, `byte_count` says.
+    // Decodes a plain chunk without a jump. Its bytes are counted by a sum, which is known before a
+    // number of a table would be: the next chunk waits for it.
     #[inline(always)]
     fn plain_chunk(self, table: &mut TermTable, bytes: &[u8], out: &mut [u8]) -> Self
         requires ahead { HasAhead 6 16 bytes.now out.old self }
@@ -44,7 +32,9 @@ impl<const N: usize, const F: usize> Progress<N, F> {
         let last = self.last.after_plain(table, b1, &bytes[self.taken..]);
         table.put(last);
         store_vector::<N, F>(out, self.at, last);
-        let taken = self.taken + byte_count(b1);
+        let full = usize::from(b1 >= QOI_OP_RGB as usize);
+        let rgba = usize::from(b1 == QOI_OP_RGBA as usize);
+        let taken = self.taken + (1 + 3 * full + rgba);
         Progress {
             last,
             taken,

@@ -13,7 +13,7 @@ use crate::consts::QOI_HEADER_SIZE;
 use crate::decode::chunks::{image_to_buf, image_to_vec};
 use crate::decode::conversion::Conversion;
 use crate::decode::pixel_reader::unread::{PieceResult, Unread};
-use crate::decode::slice::{slice_image, slice_image_to_vec};
+use crate::decode::slice::slice_image;
 use crate::decode::stream::read_exact;
 use crate::error::{Error, Result};
 use crate::header::Header;
@@ -204,7 +204,9 @@ impl<'a> Reader for Bytes<'a> {
         size: usize,
         conversion: Conversion,
     ) -> Result<()> {
-        self.0 = in_channels!(conversion, slice_image_to_vec[](self.0, out, size))?;
+        let mut bytes = Bytes(self.0);
+        in_channels!(conversion, image_to_vec[Bytes](&mut bytes, out, size))?;
+        self.0 = bytes.0;
         Ok(())
     }
 

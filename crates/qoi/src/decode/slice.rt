@@ -1,6 +1,5 @@
 //! Decoding an image from bytes in memory.
-ghost use Rattle.std.specs.Prelude.{◌≡◌, ◌≤◌, ◌/◌, ◌%◌, ◌++◌, length, true, Some, IfSome, IfNone, IfOk, IfErr};
-ghost use Rattle.std.specs.Vec.{vec_len, vec_capacity};
+ghost use Rattle.std.specs.Prelude.{◌≡◌, ◌/◌, ◌%◌, ◌++◌, length, true, Some, IfSome, IfNone, IfOk, IfErr};
 ghost use Rattle.qoi.specs.Raw.{IsChannels};
 ghost use Rattle.qoi.specs.Qoi.{end_marker};
 ghost use Rattle.qoi.specs.Decoding.{ReadsImage, RefusesMarker, RefusesBytes};
@@ -9,8 +8,8 @@ ghost use Rattle.qoi.specs.inner.Chunks.{TakesChunks, RefusesFilling};
 ghost use Rattle.qoi.specs.inner.Filling.{IsFillable, upto, filling};
 
 use crate::consts::{QOI_PADDING, QOI_PADDING_SIZE};
-use crate::decode::chunks::{Chunks, image_to_buf, image_to_vec};
-use crate::decode::fast::{FEW, Progress};
+use crate::decode::chunks::{Chunks, image_to_buf};
+use crate::decode::fast::Progress;
 use crate::decode::hashed::Hashed;
 use crate::decode::in_place::{InPlace, chunks_in_place};
 use crate::decode::one_chunk::decode_chunk;
@@ -65,8 +64,7 @@ fn careful_chunks<'a, const N: usize, const F: usize, const RUN_FITS: bool, cons
     Some(Left { reached: now, rest })
 }
 
-// `careful_chunks`, but by the fast loop while there is room ahead. It does without if `out` is short
-// (`FEW`) and isn't the end of the image (`RUN_FITS`).
+// `careful_chunks`, but by the fast loop while there is room ahead.
 #[inline(always)]
 fn slice_chunks<'a, const N: usize, const F: usize, const RUN_FITS: bool>(
     table: &mut TermTable,
@@ -82,10 +80,7 @@ fn slice_chunks<'a, const N: usize, const F: usize, const RUN_FITS: bool>(
         (Some «data».entry.now) (Some «data».entry.now)
         (filling table.old from out.old) Error.UnexpectedBufferEnd) }
 {
-    if RUN_FITS && out.len() < FEW {
-        return careful_chunks::<N, F, RUN_FITS, _>(table, from, data, out);
-    }
-    let now = Progress::<N, F>::fast_chunks(table, from, data, out);
+    let now = Progress::<N, F>::fast_chunks::<RUN_FITS>(table, from, data, out);
     let (_, rest) = data.split_at(now.taken);
     careful_chunks::<N, F, RUN_FITS, _>(table, now.reached, rest, out)
 }
@@ -127,11 +122,16 @@ impl<'a, const N: usize, const F: usize> Chunks<N, F> for Bytes<'a> {
     }
 
     #[inline(always)]
-    fn all_chunks(&mut self, table: &mut TermTable, from: Reached, out: &mut [u8]) -> Result<()> {
+    fn rest_of_image(
+        &mut self,
+        table: &mut TermTable,
+        from: Reached,
+        out: &mut [u8],
+    ) -> Result<()> {
         let Some(left) = slice_chunks::<N, F, false>(table, from, self.0, out) else {
             return Err(Error::UnexpectedBufferEnd);
         };
-        self.0 = left.rest;
+        self.0 = slice_marker(left.rest)?;
         Ok(())
     }
 
@@ -147,31 +147,6 @@ impl<'a, const N: usize, const F: usize> Chunks<N, F> for Bytes<'a> {
         self.0 = rest;
         Ok(placed)
     }
-
-    fn marker(&mut self) -> Result<()> {
-        self.0 = slice_marker(self.0)?;
-        Ok(())
-    }
-}
-
-// Decodes chunks and the end marker into a small output, and returns the bytes after them.
-fn small_image<'a, const N: usize, const F: usize>(
-    data: &'a [u8],
-    out: &mut [u8],
-) -> Result<&'a [u8]>
-    requires channels { IsChannels N }
-    requires whole { length out.old % N ≡ 0 }
-    ensures read { IfOk result (λ rest.
-        ReadsImage F N (length out.old / N) (Some «data».entry.now) (Some rest.now) out.new) }
-    ensures refused { IfErr result (RefusesBytes (length out.old / N) «data».entry.now) }
-{
-    let mut table = SmallTermTable::new_small();
-    let last = Hashed::start();
-    let start = Reached { last, at: 0 };
-    let Some(left) = careful_chunks::<N, F, false, _>(&mut table, start, data, out) else {
-        return Err(Error::UnexpectedBufferEnd);
-    };
-    slice_marker(left.rest)
 }
 
 // Decodes chunks and the end marker, and returns the bytes after them.
@@ -186,32 +161,15 @@ pub(super) fn slice_image<'a, const N: usize, const F: usize>(
     ensures refused { IfErr result (RefusesBytes (length out.old / N) «data».entry.now) }
 {
     if out.len() < SMALL_OUTPUT {
-        return small_image::<N, F>(data, out);
+        let mut table = SmallTermTable::new_small();
+        let last = Hashed::start();
+        let start = Reached { last, at: 0 };
+        let Some(left) = careful_chunks::<N, F, false, _>(&mut table, start, data, out) else {
+            return Err(Error::UnexpectedBufferEnd);
+        };
+        return slice_marker(left.rest);
     }
     let mut bytes = Bytes(data);
     image_to_buf::<Bytes, N, F>(&mut bytes, out)?;
-    Ok(bytes.0)
-}
-
-// Decodes an image into an empty vector with capacity for `size` bytes. Fewer than eight bytes are
-// refused as cut, before it grows.
-pub(super) fn slice_image_to_vec<'a, const N: usize, const F: usize>(
-    data: &'a [u8],
-    out: &mut Vec<u8>,
-    size: usize,
-) -> Result<&'a [u8]>
-    requires channels { IsChannels N }
-    requires whole { size % N ≡ 0 }
-    requires empty { vec_len out.old ≡ 0 }
-    requires room { size ≤ vec_capacity out.old }
-    ensures read { IfOk result (λ rest.
-        ReadsImage F N (size / N) (Some «data».entry.now) (Some rest.now) out.new.items) }
-    ensures refused { IfErr result (RefusesBytes (size / N) «data».entry.now) }
-{
-    if data.len() < QOI_PADDING_SIZE {
-        return Err(Error::UnexpectedBufferEnd);
-    }
-    let mut bytes = Bytes(data);
-    image_to_vec::<Bytes, N, F>(&mut bytes, out, size)?;
     Ok(bytes.0)
 }

@@ -186,13 +186,14 @@ impl<R: Read, const N: usize, const F: usize> Chunks<N, F> for R {
     }
 
     // First as long as any run has room, and then to the end, with every test.
-    fn all_chunks(&mut self, table: &mut TermTable, from: Reached, out: &mut [u8]) -> Result<()> {
+    fn rest_of_image(
+        &mut self,
+        table: &mut TermTable,
+        from: Reached,
+        out: &mut [u8],
+    ) -> Result<()> {
         let now = decode_chunks::<R, N, F, true>(self, table, from, out)?;
         decode_chunks::<R, N, F, false>(self, table, now, out)?;
-        Ok(())
-    }
-
-    fn marker(&mut self) -> Result<()> {
         stream_marker(self)
     }
 }

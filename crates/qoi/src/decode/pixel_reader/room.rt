@@ -98,6 +98,5 @@ pub(super) fn rest_of_image<R: Chunks<N, F>, const N: usize, const F: usize>(
         (filling table.old (reached last 0) (take size out.old))
         → IfErr result (RefusesChunks R.in_memory (length gone + n) start (R.ahead reader.new)) }
 {
-    reader.all_chunks(table, Reached { last, at: 0 }, &mut out[..size])?;
-    reader.marker()
+    reader.rest_of_image(table, Reached { last, at: 0 }, &mut out[..size])
 }

@@ -1,14 +1,12 @@
 -- Each step is filled, but for less than a run, before the vector grows.
-use Rattle.std.proofs.Common.{◌≡◌, [], ◌-◌, ◌/◌, ◌%◌, ◌<◌, ◌++◌, length, replicate, refl, sym, ap, ◌∙◌, subst, arith}
+use Rattle.std.proofs.Common.{◌≡◌, [], ◌-◌, ◌/◌, ◌%◌, ◌<◌, ◌++◌, length, replicate, refl, sym, ap, ◌∙◌, arith}
 use Rattle.std.specs.Io.KnownBytes.{Consumes}
 use Rattle.std.proofs.KnownBytes.{Consumes-nil}
-use Rattle.std.proofs.lemmas.Result.{err_from_is_err_and}
+use Rattle.std.proofs.lemmas.Result.{IfErr-weaker, err_from_is_err_and}
 use Rattle.qoi.specs.inner.Filling.{filling, DecoderBetween}
 use Rattle.qoi.proofs.decoding.Grown.{grown, growing_start, growing_on, lent_back, some_channels, between_fillable, whole_step, fewer_pixels, none_whole, at_most, written_most}
-use Rattle.qoi.specs.Decoding.{ReadsImage}
 use Rattle.qoi.proofs.Results.{on_ok_of}
-use Rattle.qoi.proofs.decoding.Progress.{none_more, first_streams, marker_taken}
-use Rattle.qoi.proofs.decoding.StreamReads.{after_refused}
+use Rattle.qoi.proofs.decoding.Progress.{none_more, reads_first}
 use Rattle.qoi.proofs.decode.chunks.image_to_vec.Given.{Over}
 use Rattle.qoi.proofs.decode.chunks.image_to_vec.Goals.{After-deref_mut, After-deref_mut-2}
 use Rattle.qoi.proofs.decode.chunks.image_to_vec.Goals as goal
@@ -76,28 +74,20 @@ loop-out-preserved g c =
       growing = growing_on c.some_chunks.new.out _ c.requires.channels (c.in_ok-now.ensures.read.goes_on.between [] _ _ (before g at)) left (lent_back _ _ _ size);
     }
 
-pub all_chunks-requires : goal.all_chunks-requires
-all_chunks-requires g c = between_fillable c.requires.channels (before_last g (goal.at.all_chunks-requires g c).After-deref_mut-2)
-
-pub returns-in_err-all_chunks-clause-refused : goal.returns-in_err-all_chunks-clause-refused
-returns-in_err-all_chunks-clause-refused g c =
-    let p = err_from_is_err_and c.from_residual-in_err-all_chunks.result c.from_residual-in_err-all_chunks.ensures.1 in
-    rw (p.1, p.2) (c.in_err-all_chunks.ensures.refused [] _ _ (before_last g (goal.at.returns-in_err-all_chunks-clause-refused g c).After-deref_mut-2) _ (omega arith))
+pub rest_of_image-requires : goal.rest_of_image-requires
+rest_of_image-requires g c = between_fillable c.requires.channels (before_last g (goal.at.rest_of_image-requires g c).After-deref_mut-2)
 
 pub returns-clause-read : goal.returns-clause-read
 returns-clause-read g c =
     let at = (goal.at.returns-clause-read g c).After-deref_mut-2 in
-    let out = c.all_chunks.new.out in
-    let start = g.R.Chunks.ahead c.args.reader.now in
-    let now = g.R.Chunks.ahead c.all_chunks.new.self in
-    let back = lent_back c.grow-2.new.out.len out c.grow-2.new.out.items (omega (arith, c.all_chunks.auto.out, c.deref_mut-2.ensures.len)) in
-    let pixels = first_streams (c.in_ok-all_chunks.ensures.read [] _ _ (before_last g at)) in
-    on_ok_of c.marker.result (λ took. subst (λ z. ReadsImage g.row.F g.row.N (c.args.size / g.row.N) start (g.R.Chunks.ahead c.marker.new.self) z) (sym back) (marker_taken pixels took)) c.marker.ensures.read
+    let out = c.rest_of_image.new.out in
+    let back = lent_back c.grow-2.new.out.len out c.grow-2.new.out.items (omega (arith, c.rest_of_image.auto.out, c.deref_mut-2.ensures.len)) in
+    rw back (on_ok_of c.rest_of_image.result (λ r. reads_first (r [] _ _ (before_last g at))) c.rest_of_image.ensures.read)
 
 pub returns-clause-refused : goal.returns-clause-refused
 returns-clause-refused g c =
     let at = (goal.at.returns-clause-refused g c).After-deref_mut-2 in
-    after_refused g.R.Chunks.in_memory g.row.F g.row.N (c.args.size / g.row.N) _ _ _ _ c.marker.result (first_streams (c.in_ok-all_chunks.ensures.read [] _ _ (before_last g at))) c.marker.ensures.refused
+    rw (← none_more (c.args.size / g.row.N)) (IfErr-weaker c.rest_of_image.result _ _ (λ e r. r [] _ _ (before_last g at)) c.rest_of_image.ensures.refused)
 
 pub returns-in_err-now-clause-grown : goal.returns-in_err-now-clause-grown
 returns-in_err-now-clause-grown g c =
@@ -107,9 +97,4 @@ returns-in_err-now-clause-grown g c =
 pub returns-clause-grown : goal.returns-clause-grown
 returns-clause-grown g c =
     let at = (goal.at.returns-clause-grown g c).After-deref_mut-2 in
-    at_most _ c.loop-out.now.at _ _ (omega (arith, c.loop-out.invariant.filled, c.loop-out-test.false, c.len.ensures, c.grow-2.ensures.len)) (written_most _ _ c.requires.channels (before_last g at))
-
-pub returns-in_err-all_chunks-clause-grown : goal.returns-in_err-all_chunks-clause-grown
-returns-in_err-all_chunks-clause-grown g c =
-    let at = (goal.at.returns-in_err-all_chunks-clause-grown g c).After-deref_mut-2 in
     at_most _ c.loop-out.now.at _ _ (omega (arith, c.loop-out.invariant.filled, c.loop-out-test.false, c.len.ensures, c.grow-2.ensures.len)) (written_most _ _ c.requires.channels (before_last g at))

@@ -1,5 +1,5 @@
 -- Each kind of chunk, by its first byte.
-use Rattle.std.proofs.Common.{◌≡◌, ◌+◌, ◌%◌, ◌<◌, ◌≤◌, get_or, arith, rules, refl, ap, ◌∙◌, subst, nat_le, nat_lt, ◌&&◌}
+use Rattle.std.proofs.Common.{◌≡◌, ◌+◌, ◌<◌, ◌≤◌, get_or, arith, rules, refl, subst, nat_le, nat_lt, ◌&&◌}
 use Rattle.std.proofs.lemmas.Bool.Decides.{nat_tests}
 use Rattle.qoi.specs.Qoi.{AreBytes}
 use Rattle.qoi.specs.inner.Hashed.{pixel_of_lanes}
@@ -7,19 +7,6 @@ use Rattle.qoi.specs.inner.Filling.{reached, filling}
 use Rattle.qoi.proofs.decoding.FirstChunk.{PutsCopies, size_of, decodes_short, decodes_full}
 use Rattle.qoi.proofs.decode.one_chunk.decode_chunk.Goals.{then-b1-lt-QOI_OP_RGB, else-b1-lt-QOI_OP_RGB}
 use Rattle.qoi.proofs.decode.one_chunk.decode_chunk.Goals as goal
-
-pub returns-clause-more : goal.returns-clause-more
-returns-clause-more g c =
-    let old = c.requires.room.fillable in
-    record {
-      fillable = record {
-        three_or_four = old.three_or_four;
-        within = c.fill-at.ensures.within.1;
-        whole = (ap (λ k. k % g.row.N) c.fill-at.auto.out ∙ old.whole.0, c.fill-at.ensures.whole);
-      };
-      on = c.fill-at.ensures.within.0;
-      below = c.fill-at.ensures.below;
-    }
 
 pub returns-clause-decodes : goal.returns-clause-decodes
 returns-clause-decodes g c =

@@ -45,20 +45,3 @@ returns-clause-filled g c n past h =
     (rw (c.min-all.ensures, quot, left, c.store_pixels.auto.out) ends)
     (filled_copies g.row.F g.row.N n c.args.out.now c.store_pixels.new.out at all _ past is c.requires.room.inside
     (rw (c.min-all.ensures, quot, left) (copies_fit g.row.N at c.args.count size is within)) c.store_pixels.auto.out c.store_pixels.ensures h)
-
--- the pixels of a run have fewer bytes than any run's vectors
-run_below : (c k : ℕ) → IsChannels c → k ≤ 62 → c * k ≤ 248
-run_below c k is = by_channels (λ d. k ≤ 62 → d * k ≤ 248) is (λ most. omega arith) (λ most. omega arith)
-
-pub returns-then-room-ge-VECTOR-clause-below : goal.returns-then-room-ge-VECTOR-clause-below
-returns-then-room-ge-VECTOR-clause-below g c room =
-    omega (arith, room, run_below g.row.N c.args.count c.requires.room.fillable.three_or_four c.requires.some.1, c.requires.size, c.store_vector.auto.out)
-
-pub returns-then-room-ge-RUN_ROOM-clause-below : goal.returns-then-room-ge-RUN_ROOM-clause-below
-returns-then-room-ge-RUN_ROOM-clause-below g c room =
-    omega (arith, room, run_below g.row.N c.args.count c.requires.room.fillable.three_or_four c.requires.some.1, c.requires.size, c.store_run.auto.out)
-
-pub returns-clause-below : goal.returns-clause-below
-returns-clause-below g c room =
-    let few : c.min-all.result ≤ 62 = omega (arith, c.min-all.ensures, pixels_of g.row.N c.args.count c.args.size c.requires.room.fillable.three_or_four c.requires.size, c.requires.some) in
-    omega (arith, room, run_below g.row.N c.min-all.result c.requires.room.fillable.three_or_four few, c.store_pixels.auto.out)

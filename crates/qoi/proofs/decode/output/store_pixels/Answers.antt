@@ -1,5 +1,5 @@
 -- More copies at each turn: those of a vector, or one.
-use Rattle.std.proofs.Common.{◌≡◌, ◌+◌, ◌*◌, arith}
+use Rattle.std.proofs.Common.{◌+◌, ◌*◌, arith}
 use Rattle.qoi.proofs.decoding.Vectors.{written_none, written_one, written_copies}
 use Rattle.qoi.proofs.decode.output.store_pixels.Goals as goal
 
@@ -20,8 +20,3 @@ loop-done-preserved g c =
       omega (arith, c.loop-done-test.true),
       written_copies _ c.args.at done 1 (done + 1) c.requires.channels (omega arith) c.loop-done.invariant.1 (written_one _ (c.args.at + g.row.N * done) c.store_pixel.ensures),
     )
-
-pub returns : goal.returns
-returns g c =
-    let all : c.loop-done.done ≡ c.args.count = omega (arith, c.loop-done.invariant.0, c.loop-done-test.false) in
-    rw (← all) c.loop-done.invariant.1

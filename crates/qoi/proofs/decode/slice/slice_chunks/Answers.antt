@@ -1,10 +1,9 @@
 -- The fast loop's chunks are taken, and then others.
-use Rattle.std.proofs.Common.{Some, take, ap, ◌++◌, ◌∙◌, sym, take-append-drop}
-use Rattle.std.specs.Io.KnownBytes.{Consumes}
+use Rattle.std.proofs.Common.{Some}
 use Rattle.qoi.proofs.Results.{if_some_of, if_none_of}
 use Rattle.qoi.specs.inner.Filling.{filling}
 use Rattle.qoi.specs.inner.Chunks.{TakesMore}
-use Rattle.qoi.proofs.decoding.Progress.{front_taken}
+use Rattle.qoi.proofs.decoding.Progress.{front_taken, split_taken, chunks_after}
 use Rattle.qoi.proofs.decode.slice.slice_chunks.Given.{Over}
 use Rattle.qoi.proofs.decode.slice.slice_chunks.Goals.{After-split_at}
 use Rattle.qoi.proofs.decode.slice.slice_chunks.Goals as goal
@@ -13,24 +12,14 @@ use Rattle.qoi.proofs.decode.slice.slice_chunks.Goals as goal
 after : (g : Over) (c : After-split_at g) → TakesMore g.row.F g.row.N (Some c.args.data.now) (Some c.split_at.result.1.now)
     (filling c.args.table.now c.args.from c.args.out.now) (filling c.fast_chunks-now.new.table c.fast_chunks-now.result.reached c.fast_chunks-now.new.out)
 after g c =
-    let bytes = c.args.data.now in
-    let size = c.fast_chunks-now.result.taken in
-    let took : Consumes (Some bytes) (Some c.split_at.result.1.now) (take size bytes) =
-    sym (take-append-drop size bytes) ∙ ap (λ z. take size bytes ++ z) (sym c.split_at.ensures.back) in
-    front_taken bytes size c.fast_chunks-now.ensures.between took
+    let fast = c.fast_chunks-now in
+    front_taken c.args.data.now fast.result.taken fast.ensures.between (split_taken fast.result.taken c.split_at.ensures.back)
 
 pub returns-clause-read : goal.returns-clause-read
 returns-clause-read g c =
-    let so_far = after g (goal.at.returns-clause-read g c).After-split_at in
-    if_some_of c.careful_chunks-2.result (λ left r. record {
-      goes_on = record { between = λ gone n start h. r.goes_on.between gone n start (so_far.between gone n start h) };
-      fillable = r.fillable;
-      below = λ fits inside. r.below fits (c.fast_chunks-now.ensures.on.below inside);
-      filled = r.filled;
-      full = r.full;
-    }) c.careful_chunks-2.ensures.read
+    if_some_of c.careful_chunks.result (λ left r. chunks_after (after g (goal.at.returns-clause-read g c).After-split_at) c.fast_chunks-now.ensures.on.below r) c.careful_chunks.ensures.read
 
 pub returns-clause-refused : goal.returns-clause-refused
 returns-clause-refused g c =
     let so_far = after g (goal.at.returns-clause-refused g c).After-split_at in
-    if_none_of c.careful_chunks-2.result (λ r gone n start h. r gone n start (so_far.between gone n start h)) c.careful_chunks-2.ensures.refused
+    if_none_of c.careful_chunks.result (λ r gone n start h. r gone n start (so_far.between gone n start h)) c.careful_chunks.ensures.refused

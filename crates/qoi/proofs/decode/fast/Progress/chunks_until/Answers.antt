@@ -33,6 +33,3 @@ loop-now-preserved g c =
 
 pub returns-else-leaves_room : goal.returns-else-leaves_room
 returns-else-leaves_room g c = rw c.by_fields.ensures (row g (goal.at.returns-else-leaves_room g c).After-short_row-now)
-
-pub returns : goal.returns
-returns g c = rw c.by_fields-2.ensures c.loop-now.invariant

@@ -23,6 +23,3 @@ loop-now-preserved-then-size-before g c = eight g (goal.at.loop-now-preserved-th
 
 pub loop-now-preserved : goal.loop-now-preserved
 loop-now-preserved g c = eight g (goal.at.loop-now-preserved g c).Joined-is_plain
-
-pub returns : goal.returns
-returns g c = rw c.by_fields.ensures c.loop-now.invariant

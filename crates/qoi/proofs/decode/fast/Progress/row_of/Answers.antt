@@ -10,6 +10,3 @@ loop-row-preserved g c =
           (omega (arith, more.step.written, c.loop-row-test.true, c.if-row-top.true, c.requires.room)),
       more.alpha,
     )
-
-pub returns : goal.returns
-returns g c = rw c.by_fields.ensures c.loop-row.invariant.0
