@@ -57,11 +57,6 @@ pub refused_after : {f c : ℕ} {in_memory : Bool} {ahead middle rest : Option (
     → GivesMore f c ahead middle old between out size → RefusesMore f c in_memory middle rest between fault → RefusesMore f c in_memory ahead rest old fault
 refused_after one two = record { refused = λ n start given h. two.refused n start _ (one.read n start given h) }
 
--- the same step, in values that are equal
-pub steps_as : {f g c k : ℕ} {ahead other : Option (List ℕ)} (in_memory : Bool) (rest : Option (List ℕ)) (old new : Unread) (out : List ℕ) (result : Result ℕ Refused)
-    → f ≡ g → c ≡ k → ahead ≡ other → Steps g k in_memory other rest old new out result → Steps f c in_memory ahead rest old new out result
-steps_as in_memory rest old new out result file channels same h = rw (file, channels, same) h
-
 -- a step into three channels of a file of four
 pub steps_in_three : (in_memory : Bool) (ahead rest : Option (List ℕ)) (old new : Unread) (out : List ℕ) (result : Result ℕ Refused) (k : Conversion)
     → k.channels ≡ Rgb → k.file_channels ≡ Rgba → Steps 3 3 in_memory ahead rest old new out result → StepsIn k in_memory ahead rest old new out result

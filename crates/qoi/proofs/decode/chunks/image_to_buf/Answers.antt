@@ -2,8 +2,7 @@
 use Rattle.std.proofs.Common.{[], ◌/◌, length, arith}
 use Rattle.std.specs.Io.KnownBytes.{Consumes}
 use Rattle.std.proofs.KnownBytes.{Consumes-nil}
-use Rattle.std.proofs.lemmas.Result.{err_from_is_err_and}
-use Rattle.qoi.proofs.Results.{on_ok_of}
+use Rattle.std.proofs.lemmas.Result.{err_from_is_err_and, on_ok_weaker}
 use Rattle.qoi.specs.inner.Filling.{reached, filling, DecoderBetween}
 use Rattle.qoi.proofs.decoding.Progress.{fillable_whole, first_streams, marker_taken, start_between}
 use Rattle.qoi.proofs.decoding.StreamReads.{after_refused}
@@ -28,7 +27,7 @@ returns-in_err-all_chunks-clause-refused g c =
 pub returns-clause-read : goal.returns-clause-read
 returns-clause-read g c =
     let start = before g (goal.at.returns-clause-read g c).After-start-last in
-    on_ok_of c.marker.result (λ took. marker_taken (first_streams (c.in_ok-all_chunks.ensures.read [] _ _ start)) took) c.marker.ensures.read
+    on_ok_weaker c.marker.result (λ took. marker_taken (first_streams (c.in_ok-all_chunks.ensures.read [] _ _ start)) took) c.marker.ensures.read
 
 pub returns-clause-refused : goal.returns-clause-refused
 returns-clause-refused g c =

@@ -2,11 +2,10 @@
 use Rattle.std.proofs.Common.{◌≡◌, [], ◌-◌, ◌/◌, ◌%◌, ◌<◌, ◌++◌, length, replicate, refl, sym, ap, ◌∙◌, subst, arith}
 use Rattle.std.specs.Io.KnownBytes.{Consumes}
 use Rattle.std.proofs.KnownBytes.{Consumes-nil}
-use Rattle.std.proofs.lemmas.Result.{err_from_is_err_and}
+use Rattle.std.proofs.lemmas.Result.{err_from_is_err_and, on_ok_weaker}
 use Rattle.qoi.specs.inner.Filling.{filling, DecoderBetween}
 use Rattle.qoi.proofs.decoding.Grown.{grown, growing_start, growing_on, lent_back, some_channels, between_fillable, whole_step, fewer_pixels, none_whole, at_most, written_most}
 use Rattle.qoi.specs.Decoding.{ReadsImage}
-use Rattle.qoi.proofs.Results.{on_ok_of}
 use Rattle.qoi.proofs.decoding.Progress.{none_more, first_streams, marker_taken}
 use Rattle.qoi.proofs.decoding.StreamReads.{after_refused}
 use Rattle.qoi.proofs.decode.chunks.image_to_vec.Given.{Over}
@@ -92,7 +91,7 @@ returns-clause-read g c =
     let now = g.R.Chunks.ahead c.all_chunks.new.self in
     let back = lent_back c.grow-2.new.out.len out c.grow-2.new.out.items (omega (arith, c.all_chunks.auto.out, c.deref_mut-2.ensures.len)) in
     let pixels = first_streams (c.in_ok-all_chunks.ensures.read [] _ _ (before_last g at)) in
-    on_ok_of c.marker.result (λ took. subst (λ z. ReadsImage g.row.F g.row.N (c.args.size / g.row.N) start (g.R.Chunks.ahead c.marker.new.self) z) (sym back) (marker_taken pixels took)) c.marker.ensures.read
+    on_ok_weaker c.marker.result (λ took. subst (λ z. ReadsImage g.row.F g.row.N (c.args.size / g.row.N) start (g.R.Chunks.ahead c.marker.new.self) z) (sym back) (marker_taken pixels took)) c.marker.ensures.read
 
 pub returns-clause-refused : goal.returns-clause-refused
 returns-clause-refused g c =

@@ -1,21 +1,20 @@
 -- The rest was sent, or refused.
 use Rattle.std.proofs.Common.{◌≡◌, ◌-◌, length, inl, inr, sym, ap, ◌∙◌, subst, arith}
-use Rattle.std.proofs.lemmas.Result.{err_from_is_err_and}
 use Rattle.std.specs.Io.KnownBytes.{Appends}
 use Rattle.qoi.specs.declared.error.Error.TheVariants.{InvalidImageLength}
 use Rattle.qoi.specs.declared.header.Header.{Header}
 use Rattle.qoi.specs.Raw.{image_byte_count}
 use Rattle.qoi.specs.Sent.{SendsFile}
 use Rattle.qoi.specs.pieces.PixelWriter.{HasTaken}
+use Rattle.qoi.proofs.decoding.Refusals.{handed_on}
 use Rattle.qoi.proofs.encode.pixel_writer.PixelWriter.finish.Goals as goal
 
 pub returns-in_err-send_rest-clause-refused : goal.returns-in_err-send_rest-clause-refused
 unfolding HasTaken
 returns-in_err-send_rest-clause-refused g c = λ e before t.
-    let p = err_from_is_err_and c.from_residual.result c.from_residual.ensures.1 in
     let error = c.in_err-send_rest.field-0.0 in
     let left = c.args.self.left in
-    rw (p.1, p.2) (elim c.in_err-send_rest.ensures.missing [
+    handed_on _ _ _ c.from_residual.ensures.1 (elim c.in_err-send_rest.ensures.missing [
       | inl fault ↦ inl (fault, omega (arith, t.size, (c.in_err-send_rest.ensures.part e before t fault).0))
       | inr few ↦ inr (
         subst (λ (h : Header). error ≡ InvalidImageLength (image_byte_count h - left) h.width h.height) t.header_is few.0
