@@ -24,7 +24,7 @@ use Rattle.std.specs.Io.KnownBytes.{Appends}
 use Rattle.qoi.specs.writers.Writes.{AppendsBeginning}
 use Rattle.qoi.specs.Sent.{HasFileLength, MakesFile, PutsFile, SendsFile, SendsPart}
 use Rattle.qoi.proofs.format.Appended.{length-bytes_of}
-use Rattle.qoi.proofs.format.WholePixels.{take_whole}
+use Rattle.qoi.proofs.format.WholePixels.{by_channels, take_whole}
 use Rattle.qoi.proofs.decoding.Ahead.{stands_after}
 use Rattle.qoi.proofs.decoding.FrontImage.{file_image_is, file_rest_is}
 use Rattle.qoi.proofs.decoding.ImageSize.{channels_are}
@@ -44,11 +44,9 @@ length-file h cs = omega (arith, length-append (header_bytes h) (chunk_bytes cs 
 
 -- the greatest length is exact for a valid header
 pub max_is_exact : (h : Header) → IsValid h → max_file_len h ≡ pixel_count h * channels_number h.channels + pixel_count h + 22
-max_is_exact h valid = exact h.channels (pixel_count h) valid.1
-  where
-    exact : (c : Channels) (n : ℕ) → n ≤ 400000000 → min (14 + n * channels_number c + n + 8) (2 ^ 64 - 1) ≡ n * channels_number c + n + 22
-    exact Rgb n l = omega arith
-    exact Rgba n l = omega arith
+max_is_exact h valid =
+    let n = pixel_count h in
+    by_channels (λ c. min (14 + n * c + n + 8) (2 ^ 64 - 1) ≡ n * c + n + 22) (channels_are h.channels (channels_number h.channels) refl) (omega (arith, valid.1)) (omega (arith, valid.1))
 
 -- at most four channels
 four_channels : (c : Channels) → channels_number c ≤ 4

@@ -9,20 +9,17 @@ use Rattle.qoi.specs.declared.chunk.Chunk.TheVariants.{Place, Diff, Luma, Run, R
 use Rattle.qoi.specs.Qoi.{positions, luma_tag, run_tag, rgb_tag, rgba_tag, Past, bytes_of, chunk_bytes, then_chunk, meaning, marker_size, header_size, header_of, channels_number, pixel_count}
 use Rattle.qoi.specs.Raw.{output}
 
--- the chunk whose first byte is b, and whose other bytes are the first of c, d, e and f, as many as
--- it has
-abbrev pub chunk_by : ℕ → ℕ → ℕ → ℕ → ℕ → Chunk
-chunk_by b c d e f =
-    if nat_lt b positions then Place b
-    else if nat_lt b luma_tag then Diff b
-    else if nat_lt b run_tag then Luma b c
-    else if nat_lt b rgb_tag then Run (b - (run_tag - 1))
-    else if nat_lt b rgba_tag then Rgb c d e
-    else Rgba c d e f
-
 -- the chunk that the bytes begin with
 abbrev pub front_chunk : List ℕ → Chunk
-front_chunk bytes = chunk_by (slice_index bytes 0) (slice_index bytes 1) (slice_index bytes 2) (slice_index bytes 3) (slice_index bytes 4)
+front_chunk bytes =
+    let at = slice_index bytes in
+    let b = at 0 in
+    if nat_lt b positions then Place b
+    else if nat_lt b luma_tag then Diff b
+    else if nat_lt b run_tag then Luma b (at 1)
+    else if nat_lt b rgb_tag then Run (b - (run_tag - 1))
+    else if nat_lt b rgba_tag then Rgb (at 1) (at 2) (at 3)
+    else Rgba (at 1) (at 2) (at 3) (at 4)
 
 -- the chunks after the pixels `past` until there are n pixels, but no more than `left` chunks
 unfoldable pub chunks_after : ℕ → ℕ → Past → List ℕ → List Chunk
@@ -43,29 +40,19 @@ front_image channels h bytes = output (channels_number h.channels) (channels_num
 unfoldable pub front_rest : Header → List ℕ → List ℕ
 front_rest h bytes = drop marker_size (drop (length (chunk_bytes (front_chunks h bytes))) bytes)
 
--- the image after a header, in the header's own channels; none if the header was refused
-abbrev pub image_by : Result Header Error → List ℕ → List ℕ
-image_by (Err e) bytes = []
-image_by (Ok h) bytes = front_image h.channels h bytes
-
--- what follows it
-abbrev pub rest_by : Result Header Error → List ℕ → List ℕ
-rest_by (Err e) bytes = []
-rest_by (Ok h) bytes = front_rest h bytes
+-- what a function gives for a header and the bytes behind it; nothing if the header was refused
+abbrev pub behind_header : (Header → List ℕ → List ℕ) → Result Header Error → List ℕ → List ℕ
+behind_header f (Err e) bytes = []
+behind_header f (Ok h) bytes = f h bytes
 
 -- the raw bytes, in the file's own channels, of the file that the bytes begin with
 unfoldable pub file_image : List ℕ → List ℕ
-file_image bytes = image_by (header_of bytes) (drop header_size bytes)
+file_image bytes = behind_header (λ h. front_image h.channels h) (header_of bytes) (drop header_size bytes)
 
 -- what follows that file
 unfoldable pub file_rest : List ℕ → List ℕ
-file_rest bytes = rest_by (header_of bytes) (drop header_size bytes)
-
--- the image after a header, in these channels; none if the header was refused
-abbrev pub image_in_by : Channels → Result Header Error → List ℕ → List ℕ
-image_in_by channels (Err e) bytes = []
-image_in_by channels (Ok h) bytes = front_image channels h bytes
+file_rest bytes = behind_header front_rest (header_of bytes) (drop header_size bytes)
 
 -- the raw bytes, in these channels, of the file that the bytes begin with
 unfoldable pub file_image_in : Channels → List ℕ → List ℕ
-file_image_in channels bytes = image_in_by channels (header_of bytes) (drop header_size bytes)
+file_image_in channels bytes = behind_header (front_image channels) (header_of bytes) (drop header_size bytes)

@@ -2,7 +2,7 @@
 ghost use Rattle.std.specs.Prelude.{◌≡◌, ℕ, ◌*◌, ◌-◌, ◌<◌, ◌≤◌, List, length, take, drop, Some, ◌+◌, IfOk, IfErr, IsErr, IsErrOf, IsTrue, ◌⊎◌, Ok, Err};
 ghost use Rattle.qoi.specs.declared.header.Header.{Header};
 ghost use Rattle.qoi.specs.declared.error.Error.{Error};
-ghost use Rattle.qoi.specs.Qoi.{header_of, file};
+ghost use Rattle.qoi.specs.Qoi.{header_of};
 ghost use Rattle.qoi.specs.Decoding.{RefusesBuffer};
 ghost use Rattle.qoi.specs.DecoderState.{output_byte_count};
 ghost use Rattle.qoi.specs.Decoded.{HasHeader, HasRefusedHeader, HasDecoded, HasRefused, HasDecodedFile, HasRefusedFile};
@@ -235,17 +235,6 @@ impl<R: Read + Drop> Decoder<R> {
     }
 }
 
-// The decoder goes on from the reader's buffer.
-fn over_buffer<R: BufRead>(decoder: Decoder<R>) -> Decoder<Buffered<R>>
-    ensures { result ≡ decoder }
-{
-    Decoder {
-        reader: Buffered::new(decoder.reader),
-        header: decoder.header,
-        channels: decoder.channels,
-    }
-}
-
 impl<R: BufRead + Drop> Decoder<Buffered<R>> {
     /// A decoder of the file that the reader gives next, whose header is decoded at once: fourteen
     /// bytes are taken and no more. The channels are the header's.
@@ -266,7 +255,11 @@ impl<R: BufRead + Drop> Decoder<Buffered<R>> {
         ensures refused { IfErr result (HasRefusedHeader (R.remaining reader)) }
     {
         let decoder = Decoder::from_stream(reader)?;
-        Ok(over_buffer(decoder))
+        Ok(Decoder {
+            reader: Buffered::new(decoder.reader),
+            header: decoder.header,
+            channels: decoder.channels,
+        })
     }
 
     /// The reader, as it stands: past the header at first, past the end marker after an image, and

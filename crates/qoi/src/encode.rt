@@ -34,11 +34,12 @@ pub(crate) mod runs;
 mod sparse;
 mod table;
 
+use crate::consts::{QOI_HEADER_SIZE, QOI_PADDING_SIZE};
 use crate::encode::chunks::{FEW_BYTES, encode_file, fill_few};
 use crate::encode::piece::{FEW_ROOM, FULL_ROOM, Piece, SMALL_ROOM, TINY_ROOM};
 pub use crate::encode::pixel_writer::PixelWriter;
 use crate::error::{Error, Result};
-use crate::header::{Header, max_len};
+use crate::header::Header;
 use crate::types::{Channels, ColorSpace, Style};
 use crate::writers::{BytesMut, GenericWriter, VecMut, Writer};
 use std::alloc::Global;
@@ -88,7 +89,10 @@ fn channels_found(data: &[u8], header: &Header) -> Result<Channels>
 pub fn encode_max_len(width: u32, height: u32, channels: u8) -> usize
     ensures { result ≡ max_len width height channels }
 {
-    max_len(width, height, channels)
+    let n_pixels = width as usize * height as usize;
+    n_pixels
+        .saturating_mul(usize::from(channels) + 1)
+        .saturating_add(QOI_HEADER_SIZE + QOI_PADDING_SIZE)
 }
 
 /// Encodes raw bytes into the front of the buffer, with color space `Srgb` and in style

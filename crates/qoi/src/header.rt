@@ -1,11 +1,12 @@
 //! The header of a file (QOI specification 1.0, "QOI Header").
-ghost use Rattle.qoi.specs.Encoded.{max_len, max_file_len};
+ghost use Rattle.qoi.specs.Encoded.{max_file_len};
 ghost use Rattle.qoi.specs.Qoi.{default_header, header_bytes, header_of, header_size, IsValid, number_at, pixel_count, tried_header};
 ghost use Rattle.qoi.specs.Raw.{capped_byte_count};
 ghost use Rattle.std.specs.Prelude.{◌≡◌, ◌+◌, ◌*◌, ◌≤◌, length, take, IfOk};
 ghost use Rattle.qoi.specs.declared.header.Header.{Header};
 
-use crate::consts::{QOI_HEADER_SIZE, QOI_MAGIC, QOI_PADDING_SIZE, QOI_PIXELS_MAX};
+use crate::consts::{QOI_HEADER_SIZE, QOI_MAGIC, QOI_PIXELS_MAX};
+use crate::encode::encode_max_len;
 use crate::error::{Error, Result};
 use crate::types::{Channels, ColorSpace};
 use std::simd::prelude::*;
@@ -143,7 +144,7 @@ impl Header {
     pub fn encode_max_len(&self) -> usize
         ensures { result ≡ max_file_len self.now }
     {
-        max_len(self.width, self.height, self.channels.as_u8())
+        encode_max_len(self.width, self.height, self.channels.as_u8())
     }
 }
 
@@ -155,15 +156,4 @@ fn number_at(bytes: &[u8], i: usize) -> u32
 {
     let four = &bytes[i..i + 4];
     u32::from_be_bytes([four[0], four[1], four[2], four[3]])
-}
-
-// The most bytes that the file of an image of this size has, or the greatest `usize` if that is
-// less.
-pub(crate) fn max_len(width: u32, height: u32, channels: u8) -> usize
-    ensures { result ≡ max_len width height channels }
-{
-    let n_pixels = width as usize * height as usize;
-    n_pixels
-        .saturating_mul(usize::from(channels) + 1)
-        .saturating_add(QOI_HEADER_SIZE + QOI_PADDING_SIZE)
 }

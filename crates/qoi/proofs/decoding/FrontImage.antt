@@ -14,11 +14,12 @@ use Rattle.qoi.specs.Raw.{output, without_fourth}
 use Rattle.qoi.specs.Verdicts.{IsWhole}
 use Rattle.qoi.specs.Decoding.{DecodesFile}
 use Rattle.qoi.specs.Reading.{IsImage}
-use Rattle.qoi.specs.Images.{file_image_in, image_in_by, front_chunk, chunks_after, front_chunks, front_image, front_rest, image_by, rest_by, file_image, file_rest}
+use Rattle.qoi.specs.Images.{file_image_in, front_chunk, chunks_after, front_chunks, front_image, front_rest, behind_header, file_image, file_rest}
 use Rattle.qoi.proofs.decoding.OneFile.{decodes_more}
 use Rattle.qoi.proofs.decoding.PieceSteps.{longer}
 use Rattle.qoi.proofs.decoding.StreamVerdicts.{rgb_is_without_fourth}
 use Rattle.qoi.proofs.format.Appended.{length-meaning}
+use Rattle.qoi.proofs.format.ChunkSteps.{times_some}
 use Rattle.qoi.proofs.format.OneVerdict.{StayBelowAfter}
 
 -- a chunk's bytes begin with it
@@ -30,20 +31,11 @@ front_is (Run n) y hc = grind (arith, nat_tests)
 front_is (Rgb r g b) y hc = refl
 front_is (Rgba r g b a) y hc = refl
 
--- each chunk gives a pixel at least
-some_times : (c : Chunk) → IsChunk c → 1 ≤ times c
-some_times (Place i) hc = omega arith
-some_times (Diff d) hc = omega arith
-some_times (Luma d e) hc = omega arith
-some_times (Run n) hc = hc.0
-some_times (Rgb r g b) hc = omega arith
-some_times (Rgba r g b a) hc = omega arith
-
--- so the pixels grow
+-- with each chunk the pixels grow
 grows : (past : Past) (c : Chunk) → IsChunk c → length past < length (then_chunk past c)
 grows past c hc =
     let p = pixel_after past c in
-    omega (arith, length-append (replicate (times c) p) past, length-replicate (times c) p, some_times c hc)
+    omega (arith, length-append (replicate (times c) p) past, length-replicate (times c) p, times_some c hc)
 
 -- a test of two numbers that holds, and one that doesn't
 if_holds : {A : Type 0} (m n : ℕ) (x y : A) → m ≤ n → (if nat_le m n then x else y) ≡ x
@@ -129,13 +121,13 @@ own_image bytes h rest out d = record { cs = d.cs; whole = d.whole; out_is = d.o
 pub file_image_is : (bytes : List ℕ) (h : Header) (rest out : List ℕ) → DecodesFile bytes h rest out → out ≡ file_image bytes
 unfolding file_image
 file_image_is bytes h rest out d =
-    image_is h.channels h (drop header_size bytes) rest out (own_image bytes h rest out d) ∙ ap (λ r. image_by r (drop header_size bytes)) (sym d.header)
+    image_is h.channels h (drop header_size bytes) rest out (own_image bytes h rest out d) ∙ ap (λ r. behind_header (λ h. front_image h.channels h) r (drop header_size bytes)) (sym d.header)
 
 -- and so is what follows it
 pub file_rest_is : (bytes : List ℕ) (h : Header) (rest out : List ℕ) → DecodesFile bytes h rest out → rest ≡ file_rest bytes
 unfolding file_rest
 file_rest_is bytes h rest out d =
-    rest_is h.channels h (drop header_size bytes) rest out (own_image bytes h rest out d) ∙ ap (λ r. rest_by r (drop header_size bytes)) (sym d.header)
+    rest_is h.channels h (drop header_size bytes) rest out (own_image bytes h rest out d) ∙ ap (λ r. behind_header front_rest r (drop header_size bytes)) (sym d.header)
 
 -- what is appended to a file is left, too
 pub file_rest_then : (bytes more : List ℕ) (h : Header) (rest out : List ℕ) → DecodesFile bytes h rest out → file_rest (bytes ++ more) ≡ file_rest bytes ++ more
@@ -148,20 +140,20 @@ pub image_after : (channels : Channels) (h : Header) (bytes : List ℕ) → head
 unfolding file_image file_rest
 image_after channels h bytes read own =
     let after = drop header_size bytes in (
-      ap (λ c. front_image c h after) own ∙ ap (λ r. image_by r after) (sym read),
-      ap (λ r. rest_by r after) (sym read),
+      ap (λ c. front_image c h after) own ∙ ap (λ r. behind_header (λ h. front_image h.channels h) r after) (sym read),
+      ap (λ r. behind_header front_rest r after) (sym read),
     )
 
 -- after a header stands the file's image, in any channels
 pub image_in_after : (channels : Channels) (h : Header) (bytes : List ℕ) → header_of bytes ≡ Ok h
     → front_image channels h (drop header_size bytes) ≡ file_image_in channels bytes
 unfolding file_image_in
-image_in_after channels h bytes read = ap (λ r. image_in_by channels r (drop header_size bytes)) (sym read)
+image_in_after channels h bytes read = ap (λ r. behind_header (front_image channels) r (drop header_size bytes)) (sym read)
 
 -- in its own channels it is the one that `file_image` gives
 pub image_in_own : (h : Header) (bytes : List ℕ) → header_of bytes ≡ Ok h → file_image_in h.channels bytes ≡ file_image bytes
 unfolding file_image
-image_in_own h bytes read = sym (image_in_after h.channels h bytes read) ∙ ap (λ r. image_by r (drop header_size bytes)) (sym read)
+image_in_own h bytes read = sym (image_in_after h.channels h bytes read) ∙ ap (λ r. behind_header (λ h. front_image h.channels h) r (drop header_size bytes)) (sym read)
 
 -- in three channels it is the image in four without each fourth byte
 pub three_of_front : (h : Header) (bytes : List ℕ) → front_image OfChannels.Rgb h bytes ≡ without_fourth (front_image OfChannels.Rgba h bytes)

@@ -17,17 +17,14 @@ use Rattle.qoi.specs.inner.Filling.{HasSeen, HasWritten, upto, reached, filling,
 use Rattle.qoi.specs.inner.Hashed.{pixel_of_lanes}
 use Rattle.qoi.specs.pieces.InPlace.{TakesPiece}
 use Rattle.qoi.specs.pieces.Unread.{kept_raw, bytes_left, copies, KeepsWithin, KeepsNothing, AreWhole, DecoderAfter, IsUnread}
-use Rattle.qoi.proofs.format.ChunkSteps.{times_some, reverse-replicate}
+use Rattle.qoi.proofs.format.ChunkSteps.{times_some, reverse-replicate, length-then_chunks}
 use Rattle.qoi.proofs.format.WholePixels.{by_channels, whole_pixels, length-output, take_whole}
 use Rattle.qoi.proofs.decoding.Progress.{fewer, none_written}
 use Rattle.qoi.proofs.decoding.StreamReads.{take-read}
 
 -- chunks give no fewer pixels
 pub longer : (past : Past) (cs : List Chunk) → length past ≤ length (then_chunks past cs)
-longer past [] = omega arith
-longer past (c ∷ cs) =
-    let copies = replicate (times c) (pixel_after past c) in
-    omega (arith, longer (then_chunk past c) cs, length-append copies past)
+longer past cs = omega (arith, length-then_chunks past cs)
 
 -- each chunk stands before the pixels that all have
 stay_within : (m : ℕ) (past : Past) (cs : List Chunk) → AreChunks cs → length (then_chunks past cs) ≤ m → Each (λ past c. length past < m) past cs
@@ -70,21 +67,14 @@ none_kept p given same =
     let none : p.to - p.from ≡ 0 = omega (arith, same) in
     ap (λ k. given ++ take k (drop p.from p.bytes)) none ∙ append-nil given
 
--- as many pixels are gone as the given bytes have
+-- as many pixels are gone as the given bytes have: those of a rest are all others, and those of fewer bytes no more
 pub gone_count : (f c n m : ℕ) (gone : Past) (given : List ℕ) (undecoded : ℕ) → IsChannels c → given ≡ output f c (reverse gone)
-    → length given + undecoded ≡ c * n → undecoded ≡ c * m → length gone + m ≡ n
-gone_count f c n m gone given undecoded is so_far all some =
+    → length given + undecoded ≡ c * n → (undecoded ≡ c * m → length gone + m ≡ n) × (c * m ≤ undecoded → length gone + m ≤ n)
+gone_count f c n m gone given undecoded is so_far all =
     let size : length given ≡ c * length gone = ap length so_far ∙ length-output f c (reverse gone) is ∙ ap (λ k. c * k) (length-reverse gone) in
-    by_channels (λ k. length given ≡ k * length gone → length given + undecoded ≡ k * n → undecoded ≡ k * m → length gone + m ≡ n) is
-    (λ a b d. omega arith) (λ a b d. omega arith) size all some
-
--- whole pixels of fewer bytes
-pub gone_most : (f c n m : ℕ) (gone : Past) (given : List ℕ) (undecoded : ℕ) → IsChannels c → given ≡ output f c (reverse gone)
-    → length given + undecoded ≡ c * n → c * m ≤ undecoded → length gone + m ≤ n
-gone_most f c n m gone given undecoded is so_far all some =
-    let size : length given ≡ c * length gone = ap length so_far ∙ length-output f c (reverse gone) is ∙ ap (λ k. c * k) (length-reverse gone) in
-    by_channels (λ k. length given ≡ k * length gone → length given + undecoded ≡ k * n → k * m ≤ undecoded → length gone + m ≤ n) is
-    (λ a b d. omega arith) (λ a b d. omega arith) size all some
+    by_channels (λ k. length given ≡ k * length gone → length given + undecoded ≡ k * n
+    → (undecoded ≡ k * m → length gone + m ≡ n) × (k * m ≤ undecoded → length gone + m ≤ n)) is
+    (λ a b. (λ d. omega arith, λ d. omega arith)) (λ a b. (λ d. omega arith, λ d. omega arith)) size all
 
 -- from the beginning on
 none_off : (n : ℕ) → n - 0 ≡ n
@@ -97,14 +87,6 @@ from_none n = omega arith
 -- no bytes, no copies
 pub no_copies : (c run last : ℕ) (gone : Past) → IsChannels c → run ≡ 0 → copies c run last ++ gone ≡ gone
 no_copies c run last gone is none = ap (λ z. z ++ gone) (by_channels (λ d. run ≡ 0 → copies d run last ≡ []) is (λ e. rw e refl) (λ e. rw e refl) none)
-
--- with nothing kept, what is left isn't decoded
-only_undecoded : (g l u t : ℕ) → l ≡ 0 → g + (l + u) ≡ t → g + u ≡ t
-only_undecoded g l u t none e = omega arith
-
--- bytes that were not decoded are kept
-kept_size : (g l u a t : ℕ) → l ≡ 0 → g + (l + u) ≡ t → a ≤ u → g + (a - 0 + (u - a)) ≡ t
-kept_size g l u a t none e le = omega arith
 
 -- the whole pixels in so many bytes
 whole_within : (c size : ℕ) → IsChannels c → size / c * c ≤ size
@@ -162,7 +144,7 @@ run_lent {f} {c} {n} {start} {old} {given} p m out is h same some size fits whol
       gone = gone;
       before = begun m p.run out is stands size whole inside bytes;
       so_far = so_far;
-      most = gone_most f c n m gone given p.undecoded is so_far (only_undecoded (length given) (p.to - p.from) p.undecoded (c * n) (omega (arith, same)) h.size) (subst (λ k. k ≤ p.undecoded) size fits);
+      most = (gone_count f c n m gone given p.undecoded is so_far (omega (arith, same, h.size))).1 (subst (λ k. k ≤ p.undecoded) size fits);
     }
 
 -- with no run
@@ -198,7 +180,7 @@ run_kept {f} {c} {n} {start} {now} {given} p bytes is h same some whole room wri
     let many : p.run ≡ c * (p.run / c) = whole_pixels c p.run is whole.1 in
     let stored : take (p.run - 0) bytes ≡ output f c recent = ap (λ k. take k bytes) (none_off p.run ∙ many ∙ from_none (c * (p.run / c))) ∙ written.same in
     record {
-      size = kept_size (length given) (p.to - p.from) p.undecoded p.run (c * n) (omega (arith, same)) h.size (omega (arith, fits));
+      size = omega (arith, same, h.size, fits);
       goes_on = λ _. (
         recent ++ gone,
         subst (DecoderAfter (Consumes start now) p.table p.last) (sym (no_copies c 0 p.last (recent ++ gone) is refl)) stands,
@@ -206,12 +188,6 @@ run_kept {f} {c} {n} {start} {now} {given} p bytes is h same some whole room wri
       );
       ends = λ none. absurd (omega (arith, none, fits));
     }
-
--- whole pixels at the front of an output
-pub whole_front : (c : ℕ) (out : List ℕ) → IsChannels c → length (take (length out / c * c) out) ≡ c * (length out / c)
-whole_front c out is =
-    length-take-le (length out / c * c) out (whole_within c (length out) is)
-    ∙ whole_times c (length out) is
 
 -- most of an output
 pub front_most : (c : ℕ) (out : List ℕ) → IsChannels c → (length (take (length out / c * c) out) ≤ length out) × (length out < length (take (length out / c * c) out) + 4)
@@ -227,11 +203,7 @@ pub front_lent : {f c n : ℕ} {start old : Option (List ℕ)} {given : List ℕ
     → Lent f c n (length out / c) start old given p (take (length out / c * c) out) 0
 front_lent {c = c} p out is h none fits some =
     let most = front_most c out is in
-    lent (length out / c) (take (length out / c * c) out) is h none (omega (arith, none, fits, some)) (whole_front c out is) (omega (arith, none, fits, most.0))
-
--- sizes before and after
-pub moved_size : (g k l u a t : ℕ) → g + (l + u) ≡ t → a ≤ u → k ≡ a → (g + k) + (l + (u - a)) ≡ t
-moved_size g k l u a t e le same = omega arith
+    lent (length out / c) (take (length out / c * c) out) is h none (omega (arith, none, fits, some)) (length-take-le (length out / c * c) out (whole_within c (length out) is) ∙ whole_times c (length out) is) (omega (arith, none, fits, most.0))
 
 -- no more than the output's bytes are lent
 pub placed_most : (c : ℕ) (before out : List ℕ) → IsChannels c → length (take (length before / c * c) out) ≤ length before
@@ -251,7 +223,7 @@ piece_read {f} {c} {n} {start} {old} {new} {given} {p} {table} gone now rest pla
     let more = given ++ take at (now ++ rest) in
     let size : length more ≡ length given + at = length-append given (take at (now ++ rest)) ∙ ap (λ k. length given + k) (ap length front ∙ length-take-le at now inside) in
     record {
-      size = ap (λ k. k + (p.to - p.from + (p.undecoded - at))) size ∙ moved_size (length given) at (p.to - p.from) p.undecoded at (c * n) h.size (omega (arith, fits)) refl;
+      size = omega (arith, size, h.size, fits);
       goes_on = λ some. (t.all, t.after, none_kept then more same ∙ ap (λ z. given ++ z) front ∙ ap (λ z. z ++ take at now) so_far ∙ t.bytes_are);
       ends = λ none. absurd (omega (arith, none, fits));
     }
@@ -276,7 +248,7 @@ pub kept_read : {f c n m : ℕ} {start old new : Option (List ℕ)} {given : Lis
 kept_read {f} {c} {n} {m} {start} {old} {new} {given} {p} {out} {table} {to} now rest is h same l after inside fits =
     let (all, stands, e) = closes given now is after inside l.so_far in
     record {
-      size = kept_size (length given) (p.to - p.from) p.undecoded to.at (c * n) (omega (arith, same)) h.size (omega (arith, inside, fits));
+      size = omega (arith, same, h.size, inside, fits);
       goes_on = λ some. (all, subst (DecoderAfter (Consumes start new) table to.last) (sym (no_copies c p.run to.last all is same.1)) stands, ap (λ k. given ++ take k (now ++ rest)) (none_off to.at) ∙ ap (λ z. given ++ z) (take-append-le to.at now rest (omega (arith, inside))) ∙ e);
       ends = λ none. absurd (omega (arith, none, inside, fits));
     }
@@ -285,7 +257,7 @@ kept_read {f} {c} {n} {m} {start} {old} {new} {given} {p} {out} {table} {to} now
 pub rest_count : {f c n m : ℕ} {start old : Option (List ℕ)} {given : List ℕ} {p : Unread} {out : List ℕ} → IsChannels c → IsUnread f c n start old given p
     → KeepsNothing p → (l : Lent f c n m start old given p out 0) → p.undecoded ≡ c * m → length l.gone + m ≡ n
 rest_count {f} {c} {n} {m} {start} {old} {given} {p} is h same l all =
-    gone_count f c n m l.gone given p.undecoded is l.so_far (only_undecoded (length given) (p.to - p.from) p.undecoded (c * n) (omega (arith, same)) h.size) all
+    (gone_count f c n m l.gone given p.undecoded is l.so_far (omega (arith, same, h.size))).0 all
 
 -- the rest of the image was decoded and is kept, and the end marker was taken
 pub rest_read : {f c n m : ℕ} {start old new : Option (List ℕ)} {given : List ℕ} {p : Unread} {out : List ℕ} {table : List ℕ} {last : ℕ}
@@ -297,14 +269,11 @@ rest_read {f} {c} {n} {m} {start} {old} {new} {given} {p} {out} {table} {last} n
     let none : p.to - p.from ≡ 0 = omega (arith, same) in
     let count : length l.gone + m ≡ n = rest_count is h same l all in
     record {
-      size = rest_size (length given) (p.to - p.from) p.undecoded (c * n) none h.size;
+      size = omega (arith, none, h.size);
       goes_on = λ some. absurd (omega arith);
       ends = λ _. subst (ReadsImage f c n start new) (ap (λ z. z ++ take p.undecoded now) (sym l.so_far) ∙ ap (λ k. given ++ take k now) (sym (none_off p.undecoded)))
           (subst (λ k. ReadsImage f c k start new (output f c (reverse l.gone) ++ take p.undecoded now)) count read);
     }
-  where
-    rest_size : (g l u t : ℕ) → l ≡ 0 → g + (l + u) ≡ t → g + (u - 0 + 0) ≡ t
-    rest_size g l u t none e = omega arith
 
 -- the rest of the image are whole pixels
 pub rest_whole : {f c n : ℕ} {start now : Option (List ℕ)} {given : List ℕ} {p : Unread} → IsChannels c → IsUnread f c n start now given p → p.from ≡ p.to
@@ -330,13 +299,10 @@ gives {f} {c} {n} {start} {now} {given} p new k is few within h =
     let all : (given ++ take k (kept_raw p)) ++ kept_raw then ≡ given ++ kept_raw p = append_assoc given (take k (kept_raw p)) (kept_raw then) ∙ ap (λ z. given ++ z) whole in
     let long : length (take k (kept_raw p)) ≡ k = length-take-le k (kept_raw p) (omega (arith, few, length-take-le (p.to - p.from) rest (omega (arith, within, length-drop p.from p.bytes)))) in
     subst (IsUnread f c n start now (given ++ take k (kept_raw p))) (sym is) (record {
-      size = ap (λ z. z + (m + p.undecoded)) (length-append given (take k (kept_raw p)) ∙ ap (λ z. length given + z) long) ∙ given_size (length given) k (p.to - p.from) m p.undecoded (c * n) parts h.size;
+      size = omega (arith, length-append given (take k (kept_raw p)), long, parts, h.size);
       goes_on = λ some. let (gone, stands, e) = h.goes_on some in (gone, stands, all ∙ e);
       ends = λ none. subst (ReadsImage f c n start now) (sym all) (h.ends none);
     })
-  where
-    given_size : (g k l m u t : ℕ) → l ≡ k + m → g + (l + u) ≡ t → (g + k) + (m + u) ≡ t
-    given_size g k l m u t parts e = omega arith
 
 -- how many bytes are kept
 pub kept_long : (p : Unread) → KeepsWithin p → length (kept_raw p) ≡ p.to - p.from

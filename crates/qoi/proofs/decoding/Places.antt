@@ -51,7 +51,7 @@ place_stands channels h file p m s (is, given, r) =
       pixels = stands.pixels ∙ ap (λ z. z ++ gone) (sym (copies_of c p.unread.run p.unread.last m.run m.last run s.last));
       table = s.table (then_chunks [] stands.cs) (subst (HoldsSeen p.unread.table) (sym stands.pixels) stands.table_is);
       last = s.last ∙ stands.last_is ∙ ap previous (sym stands.pixels);
-      left = gone_count f c (pixel_count h) m.left gone (given ++ kept_raw p.unread) p.unread.undecoded is_c so_far size some;
+      left = (gone_count f c (pixel_count h) m.left gone (given ++ kept_raw p.unread) p.unread.undecoded is_c so_far size).0 some;
     }
 
 -- the bytes of all pixels are those before the place and behind it

@@ -10,7 +10,7 @@ use Rattle.qoi.specs.DecoderState.{DecoderState}
 use Rattle.qoi.specs.Qoi.{channels_number, pixel_count, header_of, header_size, meaning, chunk_bytes, end_marker}
 use Rattle.qoi.specs.Reading.{IsImage, StandsAhead}
 use Rattle.qoi.specs.Raw.{output}
-use Rattle.qoi.specs.Images.{file_image, image_by}
+use Rattle.qoi.specs.Images.{file_image, front_image, behind_header}
 use Rattle.qoi.specs.pieces.PixelReader.{PixelsState, pixels_left, HasGiven, HasRows, RefusesPixels}
 use Rattle.qoi.specs.pieces.RowIndex.{file_decoder, row_size, PlaceState, StandsAt, ArePlaces, ReadsFile, IsRowIndex, IsDecoderOf}
 use Rattle.qoi.proofs.format.HeaderBytes.{header_front, header_split}
@@ -164,7 +164,7 @@ image_size h file places is index =
     let (cs, rest, whole) = index_whole h file places is index in
     let ps = take n (meaning cs) in
     let image : IsImage h.channels bytes h rest (output f f ps) = record { cs = cs; whole = whole; out_is = refl } in
-    ap length (ap (λ r. image_by r bytes) is ∙ sym (image_is h.channels h bytes rest (output f f ps) image)) ∙ length-output f f ps (channels_are h.channels f refl)
+    ap length (ap (λ r. behind_header (λ h. front_image h.channels h) r bytes) is ∙ sym (image_is h.channels h bytes rest (output f f ps) image)) ∙ length-output f f ps (channels_are h.channels f refl)
     ∙ ap (λ k. f * k) (length-take-le n (meaning cs) whole.enough) ∙ mul_comm f n
     ∙ mul_assoc h.width h.height f ∙ ap (λ k. h.width * k) (mul_comm h.height f) ∙ sym (mul_assoc h.width f h.height)
 

@@ -22,7 +22,7 @@ use std::simd::prelude::*;
 
 // A whole image of fewer bytes is decoded chunk by chunk, with every test: to set the fast loop's
 // table to zero would take longer.
-const SMALL_OUTPUT: usize = 160;
+const SMALL_IMAGE: usize = 160;
 
 // What is left between two chunks: what they reached, and the bytes ahead.
 #[derive(Clone, Copy)]
@@ -160,7 +160,7 @@ pub(super) fn slice_image<'a, const N: usize, const F: usize>(
         ReadsImage F N (length out.old / N) (Some «data».entry.now) (Some rest.now) out.new) }
     ensures refused { IfErr result (RefusesBytes (length out.old / N) «data».entry.now) }
 {
-    if out.len() < SMALL_OUTPUT {
+    if out.len() < SMALL_IMAGE {
         let mut table = SmallTermTable::new_small();
         let last = Hashed::start();
         let start = Reached { last, at: 0 };

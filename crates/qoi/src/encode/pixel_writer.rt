@@ -1,9 +1,8 @@
 //! Encoding of one image whose raw bytes come piece by piece.
-ghost use Rattle.std.specs.Prelude.{◌≡◌, ℕ, ◌+◌, ◌-◌, ◌*◌, ◌%◌, ◌<◌, ◌≤◌, List, [], Option, length, ◌⊎◌, Err, IfOk, IfErr, IsErrAnd, IsTrue, OnErr, OnOk, false};
+ghost use Rattle.std.specs.Prelude.{◌≡◌, ℕ, ◌+◌, ◌-◌, ◌*◌, ◌%◌, ◌^◌, ◌<◌, ◌≤◌, List, [], Option, length, ◌⊎◌, Err, IfOk, IfErr, IsErrAnd, IsTrue, OnErr, OnOk, false};
 ghost use Rattle.std.specs.Io.KnownBytes.{Appends};
 ghost use Rattle.qoi.specs.declared.error.Error.{Error};
-ghost use Rattle.qoi.specs.declared.types.Channels.{Channels};
-ghost use Rattle.qoi.specs.Qoi.{IsValid, channels_number, tried_header};
+ghost use Rattle.qoi.specs.Qoi.{IsValid, tried_header};
 ghost use Rattle.qoi.specs.Raw.{image_byte_count};
 ghost use Rattle.qoi.specs.EncoderState.{EncoderState};
 ghost use Rattle.qoi.specs.Errors.{IsIoError};
@@ -169,8 +168,7 @@ impl<W: Write + Drop> PixelWriter<W> {
             return Err(failed_before());
         }
         if raw.len() > self.left {
-            let size = self.taken() + raw.len();
-            return Err(wrong_length(&self.header, size));
+            return Err(self.wrong_length(raw.len()));
         }
         // It stays set if a fault ends the call.
         self.failed = true;
@@ -181,11 +179,18 @@ impl<W: Write + Drop> PixelWriter<W> {
         Ok(())
     }
 
-    // How many raw bytes came.
-    fn taken(&self) -> usize
-        ensures { result + self.now.left ≡ image_byte_count self.now.header }
+    // The refusal of so many raw bytes more than came.
+    fn wrong_length(&self, more: usize) -> Error
+        requires { image_byte_count self.now.header - self.now.left + more < 2 ^ 64 }
+        ensures { result ≡ Error.InvalidImageLength
+            (image_byte_count self.now.header - self.now.left + more)
+            self.now.header.width self.now.header.height }
     {
-        self.header.n_bytes() - self.left
+        Error::InvalidImageLength {
+            size: self.header.n_bytes() - self.left + more,
+            width: self.header.width,
+            height: self.header.height,
+        }
     }
 
     /// Sends the rest of the file, and gives the writer back.
@@ -246,8 +251,7 @@ impl<W: Write + Drop> PixelWriter<W> {
             return Err(failed_before());
         }
         if self.left > 0 {
-            let size = self.taken();
-            return Err(wrong_length(&self.header, size));
+            return Err(self.wrong_length(0));
         }
         // It stays set: no call follows.
         self.failed = true;
@@ -262,17 +266,6 @@ impl<W: Write + Drop> PixelWriter<W> {
             → SendsSome e before (W.contents result) }
     {
         self.writer
-    }
-}
-
-// The refusal of so many raw bytes.
-fn wrong_length(header: &Header, size: usize) -> Error
-    ensures { result ≡ Error.InvalidImageLength size header.now.width header.now.height }
-{
-    Error::InvalidImageLength {
-        size,
-        width: header.width,
-        height: header.height,
     }
 }
 

@@ -1,12 +1,10 @@
 //! Places in images, from which decoding goes on.
-ghost use Rattle.std.specs.Prelude.{◌≡◌, ℕ, ◌-◌, ◌<◌, ◌≤◌, List, ◌++◌, length, drop, Some, false, Ok, Err, IsOk, IfOk};
+ghost use Rattle.std.specs.Prelude.{◌≡◌, ℕ, ◌-◌, ◌<◌, ◌≤◌, List, ◌++◌, length, drop, Some, Ok, Err, IsOk, IfOk};
 ghost use Rattle.qoi.specs.DecoderState.{DecoderState};
 ghost use Rattle.qoi.specs.Decoded.{HasHeader};
-ghost use Rattle.qoi.specs.Qoi.{channels_number, IsValid};
 ghost use Rattle.qoi.specs.declared.error.Error.{Error};
 ghost use Rattle.qoi.specs.pieces.Mark.{mark_of, reader_at, marked_left, MarksGiven, MarksRows};
 ghost use Rattle.qoi.specs.pieces.PixelReader.{pixels_left, HasGiven, HasRows};
-ghost use Rattle.qoi.specs.pieces.Unread.{KeepsPixels};
 
 use crate::decode::Decoder;
 use crate::decode::pixel_reader::PixelReader;
@@ -61,22 +59,6 @@ impl Model for Mark {
 }
 
 impl<'a> PixelReader<Bytes<'a>> {
-    // A mark of the state, in this slice.
-    fn marked(&self, file: &[u8]) -> Mark
-        ensures state { result ≡ mark_of (length file.now - length self.now.reader) self.now }
-        ensures valid { IsValid result.header }
-        ensures keeps { result.refused ≡ false
-            → KeepsPixels (channels_number result.channels) result.unread }
-    {
-        Mark {
-            at: file.len().saturating_sub(self.decoder.reader.0.len()),
-            header: self.decoder.header,
-            channels: self.decoder.channels,
-            unread: self.unread.copied(),
-            refused: self.refused,
-        }
-    }
-
     /// A mark of the place where the reader stands in `file`, the slice that it reads. The mark
     /// counts from the front of the slice, so bytes may be appended behind the file.
     ///
@@ -104,7 +86,13 @@ impl<'a> PixelReader<Bytes<'a>> {
             → MarksRows d (bytes ++ more) stride k result }
         ensures left { marked_left result ≡ pixels_left self.now }
     {
-        self.marked(file)
+        Mark {
+            at: file.len().saturating_sub(self.decoder.reader.0.len()),
+            header: self.decoder.header,
+            channels: self.decoder.channels,
+            unread: self.unread.copied(),
+            refused: self.refused,
+        }
     }
 }
 
@@ -117,41 +105,11 @@ impl Mark {
         self.unread.left()
     }
 
-    // A reader that goes on over these bytes.
-    fn over<'a>(&self, rest: &'a [u8]) -> PixelReader<Bytes<'a>>
-        ensures { result ≡ reader_at self.now rest.entry.now }
-    {
-        PixelReader {
-            decoder: Decoder {
-                reader: Bytes(rest),
-                header: self.header,
-                channels: self.channels,
-            },
-            unread: self.unread.copied(),
-            refused: self.refused,
-        }
-    }
-
-    // The reader that goes on over the bytes of a slice behind the mark.
-    #[tactic(auto, unfolding(crate::specs::pieces::Mark::marked_left, crate::specs::pieces::PixelReader::pixels_left))]
-    fn goes_on<'a>(&self, file: &'a [u8]) -> Result<PixelReader<Bytes<'a>>>
-        ensures same { self.now.at ≤ length file.entry.now
-            → result ≡ Ok (reader_at self.now (drop self.now.at file.entry.now)) }
-        ensures refused { length file.entry.now < self.now.at
-            → result ≡ Err Error.UnexpectedBufferEnd }
-        ensures left { IfOk result (λ p. pixels_left p ≡ marked_left self.now) }
-    {
-        if file.len() < self.at {
-            return Err(Error::UnexpectedBufferEnd);
-        }
-        let (_, rest) = file.split_at(self.at);
-        Ok(self.over(rest))
-    }
-
     /// A reader that goes on from the mark in the slice that was marked, or in one that begins with
     /// it. In another slice it reads what the bytes there decode to, if it isn't refused.
     ///
     /// `UnexpectedBufferEnd` if the slice ends before the mark.
+    #[tactic(auto, unfolding(crate::specs::pieces::Mark::marked_left, crate::specs::pieces::PixelReader::pixels_left))]
     pub fn resume<'a>(&self, file: &'a [u8]) -> Result<PixelReader<Bytes<'a>>>
         // The reader that was marked, with the bytes of the slice behind the mark ahead.
         ensures same { self.now.at ≤ length file.entry.now
@@ -171,6 +129,18 @@ impl Mark {
             → IsOk result }
         ensures left { IfOk result (λ p. pixels_left p ≡ marked_left self.now) }
     {
-        self.goes_on(file)
+        if file.len() < self.at {
+            return Err(Error::UnexpectedBufferEnd);
+        }
+        let (_, rest) = file.split_at(self.at);
+        Ok(PixelReader {
+            decoder: Decoder {
+                reader: Bytes(rest),
+                header: self.header,
+                channels: self.channels,
+            },
+            unread: self.unread.copied(),
+            refused: self.refused,
+        })
     }
 }

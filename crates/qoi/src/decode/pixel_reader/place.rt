@@ -121,29 +121,6 @@ impl Place {
         self.left
     }
 
-    // A reader that goes on there, by a decoder that stands there.
-    fn over<'a>(&self, decoder: Decoder<Bytes<'a>>) -> PixelReader<Bytes<'a>>
-        requires { self.now.left ≤ pixel_count decoder.header }
-        ensures { GoesOnAt decoder.entry.channels decoder.entry.header decoder.entry.reader
-            self.now result }
-    {
-        let channels = decoder.channels;
-        PixelReader {
-            decoder,
-            unread: Unread {
-                table: table_of(&self.table),
-                last: hashed(self.last),
-                bytes: [0; DECODED_AHEAD],
-                from: 0,
-                to: 0,
-                run: size_in(channels, self.run),
-                undecoded: size_in(channels, self.left),
-                fault: None,
-            },
-            refused: false,
-        }
-    }
-
     /// A reader that goes on there in a file, by a decoder of it.
     pub(super) fn resume<'a>(
         &self,
@@ -160,6 +137,20 @@ impl Place {
         }
         let (_, rest) = file.split_at(self.at);
         decoder.reader = Bytes(rest);
-        Ok(self.over(decoder))
+        let channels = decoder.channels;
+        Ok(PixelReader {
+            decoder,
+            unread: Unread {
+                table: table_of(&self.table),
+                last: hashed(self.last),
+                bytes: [0; DECODED_AHEAD],
+                from: 0,
+                to: 0,
+                run: size_in(channels, self.run),
+                undecoded: size_in(channels, self.left),
+                fault: None,
+            },
+            refused: false,
+        })
     }
 }

@@ -23,16 +23,6 @@ pub(super) const DECODED_AHEAD: usize = 3072;
 /// A piece of at least so many bytes is decoded in place.
 pub(super) const IN_PLACE: usize = 512;
 
-/// How many bytes are worth decoding in place, of a piece of which so many are done.
-#[inline(always)]
-pub(super) fn least_room(done: usize) -> usize
-    ensures first { done ≡ 0 → result ≡ IN_PLACE }
-    ensures rest { 0 < done → result ≡ RUN_ROOM }
-    ensures run { (RUN_ROOM ≤ result) × (result ≤ IN_PLACE) }
-{
-    if done == 0 { IN_PLACE } else { RUN_ROOM }
-}
-
 /// How many bytes to decode at once, and to keep, for a piece of `size` bytes of which so many are
 /// done: just enough after chunks in place, else all that can be kept.
 #[inline]
@@ -61,15 +51,12 @@ pub(super) fn front_of_image<R: Chunks<N, F>, const N: usize, const F: usize>(
     size: usize,
 ) -> Result<Reached>
     requires channels { IsChannels N }
-    requires some { 0 < size }
     requires within { size ≤ length out.old }
     requires whole { size % N ≡ 0 }
     ensures read { IfOk result (λ now. TakesChunks F N true
         (R.ahead reader.old) (R.ahead reader.new)
         (filling table.old (reached last 0) (take size out.old))
         (filling table.new now (take size out.new))) }
-    ensures below { IfOk result (λ now. now.at < size) }
-    ensures filled { IfOk result (λ now. size < now.at + RUN_ROOM) }
     ensures refused { IfErr result (RefusesFilling F N R.in_memory
         (R.ahead reader.old) (R.ahead reader.new)
         (filling table.old (reached last 0) (take size out.old))) }

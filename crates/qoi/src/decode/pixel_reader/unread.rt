@@ -9,7 +9,7 @@ use crate::decode::chunks::Chunks;
 use crate::decode::hashed::Hashed;
 use crate::decode::output::{RUN_ROOM, store_run};
 use crate::decode::pixel_reader::room::{
-    DECODED_AHEAD, IN_PLACE, front_of_image, kept_room, least_room, rest_of_image,
+    DECODED_AHEAD, IN_PLACE, front_of_image, kept_room, rest_of_image,
 };
 use crate::decode::reached::Reached;
 use crate::decode::table::TermTable;
@@ -254,7 +254,7 @@ impl Unread {
             → length out.new < size + (RUN_ROOM + 3)) }
         ensures none { OnOk result (KeepsNothing self.new) }
     {
-        if out.len() < least_room(done) {
+        if out.len() < RUN_ROOM || (done == 0 && out.len() < IN_PLACE) {
             return Ok(0);
         }
         let size = out.len() / N * N;

@@ -149,6 +149,6 @@ pub(super) fn write_held<W: Write>(writer: &mut W, kept: &mut Kept) -> Result<()
     let piece = Piece::<FULL_ROOM>::new(&mut kept.piece_bytes).open();
     let mut stream = GenericWriter::new(writer);
     let (left, piece) = send_whole(&mut stream, pending, piece, kept.came.held.bytes())?;
-    let mut last = piece.piece;
-    write_end(&mut stream, pending, &mut last, left)
+    let mut last_piece = piece.piece;
+    write_end(&mut stream, pending, &mut last_piece, left)
 }

@@ -2,10 +2,9 @@
 use Rattle.std.proofs.Common.{◌≡◌, [], ◌-◌, ◌/◌, ◌%◌, ◌<◌, ◌++◌, length, replicate, refl, sym, ap, ◌∙◌, arith}
 use Rattle.std.specs.Io.KnownBytes.{Consumes}
 use Rattle.std.proofs.KnownBytes.{Consumes-nil}
-use Rattle.std.proofs.lemmas.Result.{IfErr-weaker, err_from_is_err_and}
+use Rattle.std.proofs.lemmas.Result.{IfErr-weaker, err_from_is_err_and, on_ok_weaker}
 use Rattle.qoi.specs.inner.Filling.{filling, DecoderBetween}
 use Rattle.qoi.proofs.decoding.Grown.{grown, growing_start, growing_on, lent_back, some_channels, between_fillable, whole_step, fewer_pixels, none_whole, at_most, written_most}
-use Rattle.qoi.proofs.Results.{on_ok_of}
 use Rattle.qoi.proofs.decoding.Progress.{none_more, reads_first}
 use Rattle.qoi.proofs.decode.chunks.image_to_vec.Given.{Over}
 use Rattle.qoi.proofs.decode.chunks.image_to_vec.Goals.{After-deref_mut, After-deref_mut-2}
@@ -82,7 +81,7 @@ returns-clause-read g c =
     let at = (goal.at.returns-clause-read g c).After-deref_mut-2 in
     let out = c.rest_of_image.new.out in
     let back = lent_back c.grow-2.new.out.len out c.grow-2.new.out.items (omega (arith, c.rest_of_image.auto.out, c.deref_mut-2.ensures.len)) in
-    rw back (on_ok_of c.rest_of_image.result (λ r. reads_first (r [] _ _ (before_last g at))) c.rest_of_image.ensures.read)
+    rw back (on_ok_weaker c.rest_of_image.result (λ r. reads_first (r [] _ _ (before_last g at))) c.rest_of_image.ensures.read)
 
 pub returns-clause-refused : goal.returns-clause-refused
 returns-clause-refused g c =

@@ -1,20 +1,9 @@
--- What was sent is the file, or a beginning of it.
+-- What was sent is the file.
 use Rattle.std.proofs.Common.{rules}
-use Rattle.std.proofs.lemmas.Result.{err_from_is_err_and}
 use Rattle.qoi.specs.writers.GenericWriter.{stream_writer}
-use Rattle.qoi.proofs.FileOf.{sends_file, sends_part}
+use Rattle.qoi.proofs.FileOf.{sends_file}
 use Rattle.qoi.proofs.encoding.piece.StreamSent.{appends_as}
 use Rattle.qoi.proofs.encode.Encoder.encode_to_stream.Goals as goal
-
-pub returns-in_err-n-clause-refused : goal.returns-in_err-n-clause-refused
-returns-in_err-n-clause-refused g c =
-    let e = err_from_is_err_and c.from_residual.result c.from_residual.ensures.1 in
-    let r = c.in_err-n.ensures.refused in
-    let went = r.1.2.1.went in
-    let same = went.same_writer in
-    let front = appends_as g.W.Write.contents (g.W.Write.contents
-    (stream_writer c.write_file.new.writer)) r.1.2.1.front c.new-writer.ensures.value went.appended in
-    rw (e.1, e.2) (r.0, sends_part _ r.1.0 _ _ r.1.1 (r.1.2.1.front, r.1.2.0, r.1.2.1.split, search rules))
 
 pub returns-clause-sent : goal.returns-clause-sent
 returns-clause-sent g c =

@@ -1,10 +1,10 @@
 -- The file of an image that has no block: all of it is in a piece.
 use Rattle.std.proofs.Common.{length, sym, ap, ◌∙◌, arith, subst}
 use Rattle.std.proofs.lemmas.List.{length-take-le}
-use Rattle.std.proofs.lemmas.Result.{err_from_is_err_and}
 use Rattle.qoi.specs.Encoded.{IsFileOf, image_file}
 use Rattle.qoi.specs.EncoderState.{EncoderState}
 use Rattle.qoi.proofs.FileOf.{file_of_image}
+use Rattle.qoi.proofs.decoding.Refusals.{handed_on}
 use Rattle.qoi.proofs.encode.Encoder.write_few.Given.{Over}
 use Rattle.qoi.proofs.encode.Encoder.write_few.Goals.{After-front}
 use Rattle.qoi.proofs.encode.Encoder.write_few.Goals as goal
@@ -22,9 +22,8 @@ write_many-requires g c = omega (arith, (file g (goal.at.write_many-requires g c
 
 pub returns-in_err-write_many-clause-refused : goal.returns-in_err-write_many-clause-refused
 returns-in_err-write_many-clause-refused g c =
-    let e = err_from_is_err_and c.from_residual.result c.from_residual.ensures.1 in
     let r = c.in_err-write_many.ensures.refused in
-    rw (e.1, e.2) (r.0, (_, file g (goal.at.returns-in_err-write_many-clause-refused g c).After-front, r.1))
+    handed_on _ _ _ c.from_residual.ensures.1 (r.0, (_, file g (goal.at.returns-in_err-write_many-clause-refused g c).After-front, r.1))
 
 pub returns-clause-written : goal.returns-clause-written
 returns-clause-written g c =

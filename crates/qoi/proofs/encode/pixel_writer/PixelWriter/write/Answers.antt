@@ -1,6 +1,5 @@
 -- Raw bytes more.
 use Rattle.std.proofs.Common.{◌≡◌, ◌++◌, [], inl, length, refl, sym, ap, ◌∙◌, List, ℕ, subst, arith, append_assoc, length-append}
-use Rattle.std.proofs.lemmas.Result.{err_from_is_err_and}
 use Rattle.std.proofs.KnownBytes.{Appends-trans}
 use Rattle.qoi.specs.Qoi.{IsValid, AreBytes}
 use Rattle.qoi.specs.declared.encode.pixel_writer.kept.Kept.{Kept}
@@ -10,6 +9,7 @@ use Rattle.qoi.specs.pieces.PixelWriter.{and_raw, HasTaken}
 use Rattle.qoi.proofs.FileOf.{file_of_image, sends_part}
 use Rattle.qoi.proofs.encoding.piece.ImagePieces.{image_on, image_off, begins_appended}
 use Rattle.qoi.proofs.decoding.StreamReads.{bytes_append}
+use Rattle.qoi.proofs.decoding.Refusals.{handed_on}
 use Rattle.qoi.proofs.encode.pixel_writer.PixelWriter.write.Given.{Over}
 use Rattle.qoi.proofs.encode.pixel_writer.PixelWriter.write.Goals.{After-deref_mut-kept}
 use Rattle.qoi.proofs.encode.pixel_writer.PixelWriter.write.Goals as goal
@@ -33,10 +33,9 @@ unfolding HasTaken
 returns-in_err-take_any-clause-refused g c = λ e before taken.
     let t = subst (HasTaken g.W.Write.contents e before) (sym c.self.view_is) taken in
     let raw = c.args.raw.now in
-    let err = err_from_is_err_and c.from_residual.result c.from_residual.ensures.1 in
     let r = c.in_err-take_any.ensures.refused in
     let raw_are : AreBytes raw = λ i. omega (arith, c.type_inv.raw i) in
-    rw (err.1, err.2) (inl (
+    handed_on _ _ _ c.from_residual.ensures.1 (inl (
       r.0,
       record {
         header_is = t.header_is;

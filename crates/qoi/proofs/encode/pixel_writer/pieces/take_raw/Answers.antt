@@ -1,6 +1,5 @@
 -- What came is written or held.
 use Rattle.std.proofs.Common.{rules, ◌++◌, [], refl, sym, ◌∙◌, arith, subst, append-nil}
-use Rattle.std.proofs.lemmas.Result.{err_from_is_err_and}
 use Rattle.std.proofs.KnownBytes.{Appends-trans}
 use Rattle.std.specs.Io.KnownBytes.{Appends}
 use Rattle.qoi.specs.writers.Writes.{AppendsBeginning}
@@ -8,13 +7,13 @@ use Rattle.qoi.specs.inner.Piece.{kept_bytes}
 use Rattle.qoi.specs.inner.Sending.{appended, GoesOn}
 use Rattle.qoi.proofs.encoding.piece.BytesAhead.{then_on, then_breaks, stands, sent_on, sent_part}
 use Rattle.qoi.proofs.encoding.piece.StreamSent.{but_sent}
+use Rattle.qoi.proofs.decoding.Refusals.{handed_on}
 use Rattle.qoi.proofs.encode.pixel_writer.pieces.take_raw.Goals as goal
 
 pub returns-in_err-rest-clause-refused : goal.returns-in_err-rest-clause-refused
 returns-in_err-rest-clause-refused g c =
-    let e = err_from_is_err_and c.from_residual.result c.from_residual.ensures.1 in
     let r = c.in_err-rest.ensures.refused in
-    rw (e.1, e.2) (
+    handed_on _ _ _ c.from_residual.ensures.1 (
       r.0,
       then_breaks Appends-trans c.loop-writer.invariant.written (record {
         off = λ ahead more s.
@@ -45,10 +44,9 @@ loop-writer-preserved g c =
 
 pub returns-in_err-send_bytes-clause-refused : goal.returns-in_err-send_bytes-clause-refused
 returns-in_err-send_bytes-clause-refused g c =
-    let e = err_from_is_err_and c.from_residual-in_err-send_bytes.result c.from_residual-in_err-send_bytes.ensures.1 in
     let r = c.in_err-send_bytes.ensures.refused in
     let some = subst (AppendsBeginning (g.W.Write.contents c.loop-writer.writer) (g.W.Write.contents c.send_bytes.new.writer)) c.kept.ensures r.1 in
-    rw (e.1, e.2) (
+    handed_on _ _ _ c.from_residual-in_err-send_bytes.ensures.1 (
       r.0,
       then_breaks Appends-trans c.loop-writer.invariant.written
           (sent_part stands (some.1, record { front = some.0; split = some.2; went = some.3 })),

@@ -1,6 +1,6 @@
 -- All that was ahead, and the end marker, was sent.
 use Rattle.std.proofs.Common.{rules, List, ℕ, ◌++◌, [], sym, ◌∙◌, subst}
-use Rattle.std.proofs.lemmas.Result.{err_from_is_err_and, IfErr-weaker, on_ok_weaker}
+use Rattle.std.proofs.lemmas.Result.{IfErr-weaker, on_ok_weaker}
 use Rattle.qoi.specs.Qoi.{end_marker}
 use Rattle.qoi.specs.inner.Piece.{kept_bytes}
 use Rattle.qoi.specs.inner.Sending.{Between}
@@ -8,6 +8,7 @@ use Rattle.qoi.specs.writers.GenericWriter.{stream_writer, stream_laws}
 use Rattle.qoi.proofs.encoding.piece.BytesAhead.{then_ends, ends_early}
 use Rattle.qoi.proofs.encoding.piece.StreamSent.{appends_as, but_sent}
 use Rattle.qoi.proofs.encoding.piece.WriterProgress.{begins_after}
+use Rattle.qoi.proofs.decoding.Refusals.{handed_on}
 use Rattle.qoi.proofs.encode.pixel_writer.pieces.write_held.Given.{Over}
 use Rattle.qoi.proofs.encode.pixel_writer.pieces.write_held.Goals.{After-bytes}
 use Rattle.qoi.proofs.encode.pixel_writer.pieces.write_held.Goals as goal
@@ -22,10 +23,9 @@ starts g c ahead s =
 
 pub returns-in_err-left-clause-refused : goal.returns-in_err-left-clause-refused
 returns-in_err-left-clause-refused g c =
-    let e = err_from_is_err_and c.from_residual.result c.from_residual.ensures.1 in
     let r = c.in_err-left.ensures.refused in
     let here = (goal.at.returns-in_err-left-clause-refused g c).After-bytes in
-    rw (e.1, e.2) (
+    handed_on _ _ _ c.from_residual.ensures.1 (
       r.0,
       record {
         all = λ ahead s.

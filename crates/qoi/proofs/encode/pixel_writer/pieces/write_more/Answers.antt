@@ -1,8 +1,8 @@
 -- Whole pixels are written: of what is held, or of what came.
 use Rattle.std.proofs.Common.{◌≡◌, ◌++◌, sym, ap, ◌∙◌, arith, append_assoc, take-append-drop}
-use Rattle.std.proofs.lemmas.Result.{err_from_is_err_and}
 use Rattle.qoi.proofs.encoding.piece.BytesAhead.{goes_within, breaks_within}
 use Rattle.qoi.proofs.encoding.piece.ImagePieces.{none_held}
+use Rattle.qoi.proofs.decoding.Refusals.{handed_on}
 use Rattle.qoi.proofs.encode.pixel_writer.pieces.write_more.Given.{Over}
 use Rattle.qoi.proofs.encode.pixel_writer.pieces.write_more.Goals.{After-send_whole, After-send_whole-2}
 use Rattle.qoi.proofs.encode.pixel_writer.pieces.write_more.Goals as goal
@@ -24,9 +24,8 @@ held g c =
 
 pub returns-in_err-left-clause-refused : goal.returns-in_err-left-clause-refused
 returns-in_err-left-clause-refused g c =
-    let e = err_from_is_err_and c.from_residual.result c.from_residual.ensures.1 in
     let r = c.in_err-left.ensures.refused in
-    rw (e.1, e.2) (r.0, breaks_within c.split_at.result.1.now r.1 (came g (goal.at.returns-in_err-left-clause-refused g c).After-send_whole))
+    handed_on _ _ _ c.from_residual.ensures.1 (r.0, breaks_within c.split_at.result.1.now r.1 (came g (goal.at.returns-in_err-left-clause-refused g c).After-send_whole))
 
 pub returns-then-len-eq0-clause-written : goal.returns-then-len-eq0-clause-written
 returns-then-len-eq0-clause-written g c =
@@ -37,9 +36,8 @@ returns-then-len-eq0-clause-written g c =
 
 pub returns-in_err-left-2-clause-refused : goal.returns-in_err-left-2-clause-refused
 returns-in_err-left-2-clause-refused g c =
-    let e = err_from_is_err_and c.from_residual-in_err-left-2.result c.from_residual-in_err-left-2.ensures.1 in
     let r = c.in_err-left-2.ensures.refused in
-    rw (e.1, e.2) (r.0, breaks_within c.split_at-2.result.1.now r.1 (held g (goal.at.returns-in_err-left-2-clause-refused g c).After-send_whole-2))
+    handed_on _ _ _ c.from_residual-in_err-left-2.ensures.1 (r.0, breaks_within c.split_at-2.result.1.now r.1 (held g (goal.at.returns-in_err-left-2-clause-refused g c).After-send_whole-2))
 
 pub returns-clause-written : goal.returns-clause-written
 returns-clause-written g c =

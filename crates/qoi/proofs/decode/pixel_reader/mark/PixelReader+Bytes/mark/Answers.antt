@@ -1,25 +1,38 @@
 -- What was read before the mark.
-use Rattle.std.proofs.Common.{ap}
+use Rattle.std.proofs.Common.{rules, List, ℕ, ◌≡◌, false, ap, subst}
+use Rattle.qoi.specs.Qoi.{channels_number, IsValid}
 use Rattle.qoi.specs.pieces.Mark.{marked_left}
-use Rattle.qoi.specs.pieces.PixelReader.{pixels_left}
-use Rattle.qoi.specs.pieces.Unread.{bytes_left}
+use Rattle.qoi.specs.pieces.PixelReader.{PixelsState, pixels_left}
+use Rattle.qoi.specs.pieces.Unread.{bytes_left, KeepsPixels}
 use Rattle.qoi.proofs.decoding.Marks.{marks_given, marks_rows, marks_then, marks_rows_then}
+use Rattle.qoi.proofs.decode.pixel_reader.mark.PixelReader+Bytes.mark.Goals.{After-copied}
 use Rattle.qoi.proofs.decode.pixel_reader.mark.PixelReader+Bytes.mark.Goals as goal
 
+-- the header is valid
+valid : (c : After-copied) → IsValid c.args.self.now.header
+valid c = subst (λ (s : PixelsState (List ℕ)). IsValid s.header) c.self.view_is c.self.invariant.0
+
+-- whole pixels are unread
+keeps : (c : After-copied) → c.args.self.now.refused ≡ false → KeepsPixels (channels_number c.args.self.now.channels) c.args.self.now.unread
+keeps c =
+    subst (λ (s : PixelsState (List ℕ)). s.refused ≡ false → KeepsPixels (channels_number s.channels) s.unread) c.self.view_is
+    (λ going. (c.self.invariant.1, c.self.invariant.3 going))
+
+pub returns-clause-state : goal.returns-clause-state
+returns-clause-state c = search rules
+
 pub returns-clause-given : goal.returns-clause-given
-returns-clause-given c d e bytes given made h = marks_given d e _ bytes given _ _ c.marked.ensures.state made h
+returns-clause-given c d e bytes given made h = marks_given d e _ bytes given _ _ (returns-clause-state c) made h
 
 pub returns-clause-rows : goal.returns-clause-rows
-returns-clause-rows c d e bytes stride k made h = marks_rows d e _ bytes stride k _ _ c.marked.ensures.state made h
+returns-clause-rows c d e bytes stride k made h = marks_rows d e _ bytes stride k _ _ (returns-clause-state c) made h
 
 pub returns-clause-given_then : goal.returns-clause-given_then
-returns-clause-given_then c d e bytes given more made h =
-    marks_then d bytes given more _ c.marked.ensures.valid c.marked.ensures.keeps (marks_given d e _ bytes given _ _ c.marked.ensures.state made h)
+returns-clause-given_then c d e bytes given more made h = marks_then d e _ bytes given more _ _ (returns-clause-state c) (valid c) (keeps c) made h
 
 pub returns-clause-rows_then : goal.returns-clause-rows_then
-returns-clause-rows_then c d e bytes more stride k made h =
-    marks_rows_then d bytes more stride k _ c.marked.ensures.valid c.marked.ensures.keeps (marks_rows d e _ bytes stride k _ _ c.marked.ensures.state made h)
+returns-clause-rows_then c d e bytes more stride k made h = marks_rows_then d e _ bytes more stride k _ _ (returns-clause-state c) (valid c) (keeps c) made h
 
 pub returns-clause-left : goal.returns-clause-left
 unfolding marked_left pixels_left
-returns-clause-left c = ap (λ m. bytes_left m.unread) c.marked.ensures.state
+returns-clause-left c = ap (λ m. bytes_left m.unread) (returns-clause-state c)

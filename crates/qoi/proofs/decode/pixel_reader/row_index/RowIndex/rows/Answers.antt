@@ -1,7 +1,7 @@
 -- The image is that of the file, of so many bytes, in the file's own channels.
 use Rattle.std.proofs.Common.{◌≡◌, Some, IfOk, sym, ap, subst, drop}
 use Rattle.qoi.specs.declared.header.Header.{Header}
-use Rattle.qoi.specs.Images.{file_image, image_by}
+use Rattle.qoi.specs.Images.{file_image, front_image, behind_header}
 use Rattle.qoi.specs.Qoi.{header_size}
 use Rattle.qoi.specs.pieces.PixelReader.{HasRows}
 use Rattle.qoi.specs.pieces.RowIndex.{file_decoder, row_size}
@@ -18,7 +18,7 @@ returns-clause-rows c h is index =
 
 pub returns-clause-image : goal.returns-clause-image
 unfolding file_image
-returns-clause-image c h is = sym (ap (λ r. image_by r (drop header_size c.args.file.now)) is)
+returns-clause-image c h is = sym (ap (λ r. behind_header (λ h. front_image h.channels h) r (drop header_size c.args.file.now)) is)
 
 pub returns-clause-size : goal.returns-clause-size
 returns-clause-size c h is index = image_size h _ _ is index

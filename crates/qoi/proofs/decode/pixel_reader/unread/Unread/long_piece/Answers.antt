@@ -7,13 +7,13 @@ use Rattle.qoi.proofs.decode.pixel_reader.unread.Unread.long_piece.Goals as goal
 
 pub returns-in-Err-clause-step : goal.returns-in-Err-clause-step
 returns-in-Err-clause-step g c =
-    refuses_lent (λ n start given h. front_lent c.args.self.now c.args.out.now c.requires.channels h (c.requires.asks.none, c.requires.run) c.requires.asks.fits (omega (arith, c.if-out-least_room.false, c.least_room.ensures.run)))
+    refuses_lent (λ n start given h. front_lent c.args.self.now c.args.out.now c.requires.channels h (c.requires.asks.none, c.requires.run) c.requires.asks.fits (omega (arith, c.if-out-lt-RUN_ROOM.false)))
     c.in-Err.ensures.refused c.fail.ensures
 
 pub returns-clause-step : goal.returns-clause-step
 returns-clause-step g c =
     let out = c.args.out.now in
-    let long : 256 ≤ length out = omega (arith, c.if-out-least_room.false, c.least_room.ensures.run) in
+    let long : 256 ≤ length out = omega (arith, c.if-out-lt-RUN_ROOM.false) in
     let most = front_most g.row.N out c.requires.channels in
     let same : KeepsNothing c.args.self.now = (c.requires.asks.none, c.requires.run) in
     let size : length c.some_chunks.new.out ≡ length (take (length out / g.row.N * g.row.N) out) = c.some_chunks.auto.out in
