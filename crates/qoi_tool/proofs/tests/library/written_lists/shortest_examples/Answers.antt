@@ -3,7 +3,7 @@ use Rattle.std.proofs.Common.{refl}
 use Rattle.qoi.specs.Qoi.{pixel_eq, start, blank, hash, after_diff, after_luma}
 use Rattle.qoi.specs.Shortest.{some_diff, some_luma, some_rgb, least, cost, slack}
 use Rattle.qoi.specs.Tight.{least_unseen, least0}
-use Rattle.qoi.proofs.laws.writing.shortest_examples.Goals as goal
+use Rattle.qoi_tool.proofs.tests.library.written_lists.shortest_examples.Goals as goal
 
 pub returns : goal.returns
 unfolding pixel_eq start blank hash after_diff after_luma some_diff some_luma some_rgb least cost slack least_unseen least0
