@@ -106,10 +106,6 @@ named past before (Run n) cs i e = go (is_placed past before n cs) refl e
 named past before (Place j) cs i e = ap position e
 named past before c cs i e = absurd (let x = e in cc)
 
--- the test for the same position passes
-same_names : (i j k : ℕ) → j ≡ i → k ≡ i → not (names (Some (Place j)) k) ≡ true → ⊥
-same_names i j k e f h = true≢false (sym h ∙ ap not (eq-eqb j k (e ∙ sym f)))
-
 -- after a single run its pixel's index position holds the last pixel
 repeated : (past : Past) (n : ℕ) (i : ℕ) → n ≡ 1 → hash (previous past) ≡ i → seen (then_chunk past (Run n)) i ≡ previous (then_chunk past (Run n))
 repeated past n i one at = rw one (seen_same past (previous past) i at)
@@ -118,7 +114,7 @@ repeated past n i one at = rw one (seen_same past (previous past) i at)
 apart_first : (Choice : Past → RgbaPixel → Chunk → Type 0) (past : Past) (before : Option Chunk) (c d : Chunk) (cs : List Chunk) (i : ℕ)
     → IsAllowedAfter Choice (then_chunk past c) d → Named past before (d ∷ cs) i c → Named (then_chunk past c) (Some c) cs i d → ⊥
 apart_first Choice past before (Place j) (Place k) cs i right e f = right.is_fresh (ap (λ x. seen (seen past j ∷ past) x) (f ∙ sym e) ∙ seen_again past j)
-apart_first Choice past before (Place j) (Run n) cs i right e f = same_names i j _ e f.1 f.0.other
+apart_first Choice past before (Place j) (Run n) cs i right e f = true≢false (sym f.0.other ∙ ap not (eq-eqb j (hash (previous (seen past j ∷ past))) (e ∙ sym f.1)))
 apart_first Choice past before (Run n) (Place k) cs i right e f =
     right.is_fresh (ap (seen (then_chunk past (Run n))) f ∙ repeated past n i e.0.single e.1)
 apart_first Choice past before (Run n) (Run m) cs i right e f = true≢false (sym e.0.next)

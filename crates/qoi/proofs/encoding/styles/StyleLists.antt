@@ -13,12 +13,11 @@ use Rattle.qoi.specs.Written.{IsChoice, WrittenBy, Written}
 use Rattle.qoi.specs.Regular.{Regular}
 use Rattle.qoi.specs.Styles.{choice_in, in_style, placed_after, WrittenIn}
 use Rattle.qoi.specs.WrittenList.{chosen, list_after, written_list}
-use Rattle.qoi.proofs.encoding.styles.Choices.{Chooses}
 use Rattle.qoi.proofs.encoding.styles.PlacedLists.{placed_chunks, placed_then, placed_length, placed_regular, placed_apart}
 use Rattle.qoi.proofs.encoding.styles.TightChoice.{tight_chooses}
 use Rattle.qoi.proofs.encoding.lists.WrittenOnce.{unique_by}
 use Rattle.qoi.proofs.encoding.lists.WrittenShape.{stay_below, apart_by, fits_by}
-use Rattle.qoi.proofs.encoding.lists.WrittenExists.{chooses, image_written}
+use Rattle.qoi.proofs.encoding.lists.WrittenExists.{Chooses, chooses, image_written}
 use Rattle.qoi.proofs.shortness.Upper.{upper}
 use Rattle.qoi.proofs.shortness.TightLists.{tight_exact, floor0_high}
 use Rattle.qoi.proofs.shortness.RegularLists.{written_regular}
