@@ -32,10 +32,10 @@ use Rattle.qoi.proofs.decoding.OneFile.{decodes_file}
 use Rattle.qoi.proofs.decoding.Tiles.{tile_put, sent_image, sent_kept, sent_known, sent_stay}
 use Rattle.qoi.proofs.format.ImageHeader.{accepted_says}
 use Rattle.qoi.proofs.format.RawPixels.{pixels_of_are, pixels_of_have, length-pixels_of, output-pixels_of}
-use Rattle.qoi.proofs.encoding.styles.StyleLists.{list_written, style_chunks, style_means, style_unique, style_reaches, style_fits, style_length, style_apart, style_regular, style_upper}
+use Rattle.qoi.proofs.encoding.styles.StyleLists.{list_written, style_chunks, style_means, style_unique, style_reaches, style_fits, style_length, style_exact, style_apart, style_regular, style_upper}
 use Rattle.qoi.proofs.shortness.RegularLists.{no_blank_regular}
 use Rattle.qoi.proofs.shortness.Lower.{lower}
-use Rattle.qoi.proofs.shortness.TightLists.{lower0, tight_exact}
+use Rattle.qoi.proofs.shortness.TightLists.{lower0}
 use Rattle.qoi.proofs.shortness.SlackSteps.{slack_most, slack_opens}
 
 -- the bytes of a file are the header's, the chunks' and the end marker's
@@ -49,11 +49,6 @@ max_is_exact h valid = exact h.channels (pixel_count h) valid.1
     exact : (c : Channels) (n : ℕ) → n ≤ 400000000 → min (14 + n * channels_number c + n + 8) (2 ^ 64 - 1) ≡ n * channels_number c + n + 22
     exact Rgb n l = omega arith
     exact Rgba n l = omega arith
-
--- at most four channels
-four_channels : (c : Channels) → channels_number c ≤ 4
-four_channels Rgb = omega arith
-four_channels Rgba = omega arith
 
 module _ (h : Header) (raw : List ℕ) (valid : IsValid h) (size : length raw ≡ image_byte_count h) where
   abbrev image : List RgbaPixel
@@ -142,7 +137,7 @@ module _ (h : Header) (raw : List ℕ) (valid : IsValid h) (size : length raw �
           floor_is_below = λ others s regular. lower image others s.covers.0 regular s.covers.1;
           near_floor = omega arith;
           near_others = λ others s regular. omega (arith, least others s regular);
-          four_at_most = λ others s regular. omega (arith, least others s regular, slack_most image each, four_channels h.channels);
+          four_at_most = λ others s regular. grind (arith, least others s regular, slack_most image each, channels);
           none_shorter = λ other others s regular. omega (arith, least others s regular, slack_opens image each other);
           all_regular = λ no_blank others s. no_blank_regular image others (subst (λ n. Reaches n others) (sym count) s.reaches) s.covers.1 no_blank;
         }
@@ -162,7 +157,7 @@ module _ (h : Header) (raw : List ℕ) (valid : IsValid h) (size : length raw �
   short_in Places cs w = as_reference Places cs w (λ e. absurd (let x = e in cc)) w.written
   short_in Tight cs w =
       let size_is = length-file h cs in
-      let exact = style_length Tight image cs w ∙ tight_exact image w.list w.written in
+      let exact = style_exact image cs w in
       record { floor0_is = omega arith; shortest = λ others s. omega (arith, lower0 image others s.covers.0 s.covers.1, length-file h others) }
 
   -- the list that is written

@@ -72,24 +72,16 @@ module _ (Choice : Past → RgbaPixel → Chunk → Type 0) where
         full = full;
       }
 
-  -- 62 repeats are written as a full run, and a run may follow
-  full_run : (past : Past) (cs : List Chunk) → WrittenBy Choice (reverse past) cs → RunMayFollow cs
-      → WrittenBy Choice (reverse (replicate 62 (previous past) ++ past)) (cs ++ Run 62 ∷ []) × RunMayFollow (cs ++ Run 62 ∷ [])
-  full_run past cs w may = (
-    written_append past (replicate 62 (previous past) ++ past) cs (Run 62 ∷ []) w ((omega arith, omega arith), tt) refl (tt, tt) (may 62),
-    λ n. rw append_assoc (full_join cs (Run n ∷ []) (Run 62) (may 62) (refl, (tt, tt))),
-  )
-
-  -- and `m` times 62 as `m` runs
+  -- `m` times 62 repeats are written as `m` full runs, and a run may follow
   full_runs : (m : ℕ) (past : Past) (q : RgbaPixel) (cs : List Chunk) → q ≡ previous past → WrittenBy Choice (reverse past) cs → RunMayFollow cs
       → WrittenBy Choice (reverse (replicate (m * 62) q ++ past)) (cs ++ replicate m (Run 62)) × RunMayFollow (cs ++ replicate m (Run 62))
   full_runs zero past q cs is w may = rw (append-nil cs) (w, may)
   full_runs (suc m) past q cs is w may =
-      let one = full_run past cs w may in
-      let first : WrittenBy Choice (reverse (replicate 62 q ++ past)) (cs ++ Run 62 ∷ []) =
-      subst (λ p. WrittenBy Choice (reverse (replicate 62 p ++ past)) (cs ++ Run 62 ∷ [])) (sym is) one.0 in
       let again : q ≡ previous (replicate 62 q ++ past) = refl in
-      let more = full_runs m (replicate 62 q ++ past) q (cs ++ Run 62 ∷ []) again first one.1 in
+      let first = written_append past (replicate 62 q ++ past) cs (Run 62 ∷ []) w ((omega arith, omega arith), tt)
+      (ap (λ p. replicate 62 p ++ past) (sym is)) (tt, tt) (may 62) in
+      let follows : RunMayFollow (cs ++ Run 62 ∷ []) = (λ n. rw append_assoc (full_join cs (Run n ∷ []) (Run 62) (may 62) (refl, (tt, tt)))) in
+      let more = full_runs m (replicate 62 q ++ past) q (cs ++ Run 62 ∷ []) again first follows in
       let count : m * 62 + 62 ≡ suc m * 62 = omega arith in
       let pixels : replicate (m * 62) q ++ (replicate 62 q ++ past) ≡ replicate (suc m * 62) q ++ past = repeats_after (m * 62) 62 q past
       ∙ ap (λ k. replicate k q ++ past) count in

@@ -33,10 +33,8 @@ same_kind : (past : Past) (p : RgbaPixel) (c d : Chunk) → IsChunk c → IsChun
     → pixel_after past c ≡ p → pixel_after past d ≡ p → c ≡ d
 same_kind past p (Diff d) (Diff e) ic id rc rd l g s t = ap (λ (n : ℕ). Diff n) (diff_unique (previous past) d e ic.0 ic.1 id.0 id.1 (s ∙ sym t))
 same_kind past p (Luma d e) (Luma x y) ic id rc rd l g s t = luma_unique (previous past) d e x y ic id (s ∙ sym t)
-same_kind past p (Rgb r g b) (Rgb x y z) ic id rc rd l h s t =
-    let e = s ∙ sym t in cc (ap (λ p. p.r) e, ap (λ p. p.g) e, ap (λ p. p.b) e)
-same_kind past p (Rgba r g b a) (Rgba x y z w) ic id rc rd l h s t =
-    let e = s ∙ sym t in cc (ap (λ p. p.r) e, ap (λ p. p.g) e, ap (λ p. p.b) e, ap (λ p. p.a) e)
+same_kind past p (Rgb r g b) (Rgb x y z) ic id rc rd l h s t = let e = s ∙ sym t in λ i. Rgb (e i).r (e i).g (e i).b
+same_kind past p (Rgba r g b a) (Rgba x y z w) ic id rc rd l h s t = let e = s ∙ sym t in λ i. Rgba (e i).r (e i).g (e i).b (e i).a
 same_kind past p c d ic id rc rd l g s t = absurd (omega arith)
 
 -- the first chunk that spells a pixel out is unique
@@ -56,8 +54,8 @@ given_some past c cs h e =
 given_other : (past : Past) (c : Chunk) (cs : List Chunk) → is_run c ≡ false → given past (c ∷ cs) ≡ pixel_after past c ∷ given (then_chunk past c) cs
 given_other past c cs h = rw (times_other c h) refl
 
--- the first pixels of equal lists are equal
-same_first : {A : Type 0} (a b : A) (x y : List A) → a ∷ x ≡ b ∷ y → a ≡ b
+-- the first members of equal lists are equal
+pub same_first : {A : Type 0} (a b : A) (x y : List A) → a ∷ x ≡ b ∷ y → a ≡ b
 same_first a b x y e = cc
 
 -- chunks that may be written next

@@ -1,6 +1,6 @@
 -- The list in style Places: it means the same in as many bytes, and names no index position twice
 -- in a row.
-use Rattle.std.proofs.Common.{◌≡◌, ℕ, Bool, true, false, not, ◌&&◌, ◌==◌, if◌then◌else◌, List, [], ◌∷◌, ◌++◌, length, Option, Some, refl, sym, ap, ◌∙◌, subst, arith, length-append}
+use Rattle.std.proofs.Common.{◌≡◌, ℕ, Bool, true, false, not, ◌&&◌, ◌==◌, if◌then◌else◌, List, [], ◌∷◌, ◌++◌, length, drop, Option, Some, refl, sym, ap, ◌∙◌, subst, arith, length-append}
 use Rattle.std.proofs.lemmas.Bool.{and_parts, cond_both, eqb-true, eq-eqb, true≢false}
 use Rattle.qoi.specs.declared.chunk.Chunk.{Chunk}
 use Rattle.qoi.specs.declared.chunk.Chunk.TheVariants.{Place, Run}
@@ -11,6 +11,7 @@ use Rattle.qoi.specs.Styles.{fresh_next, some_fresh, names, is_placed, place_for
 use Rattle.qoi.proofs.format.SamePixels.{hash_below}
 use Rattle.qoi.proofs.encoding.lists.NotedPixels.{seen_same}
 use Rattle.qoi.proofs.encoding.lists.WrittenShape.{seen_again}
+use Rattle.qoi.proofs.encoding.lists.WrittenOnce.{same_first}
 
 -- What a run that is placed stands between.
 record Placed (past : Past) (before : Option Chunk) (n : ℕ) (cs : List Chunk) : Type 0 where
@@ -128,17 +129,8 @@ pub placed_apart : (Choice : Past → RgbaPixel → Chunk → Type 0) (past : Pa
 placed_apart Choice past before [] [] rest i right e = absurd (let x = e in cc)
 placed_apart Choice past before [] (x ∷ front) rest i right e = absurd (let x = e in cc)
 placed_apart Choice past before (c ∷ cs) (x ∷ front) rest i right e =
-    placed_apart Choice (then_chunk past c) (Some c) cs front rest i right.1 (rest_of e)
-  where
-    rest_of : place_for past before c cs ∷ placed_after (then_chunk past c) (Some c) cs ≡ x ∷ (front ++ Place i ∷ Place i ∷ rest)
-        → placed_after (then_chunk past c) (Some c) cs ≡ front ++ Place i ∷ Place i ∷ rest
-    rest_of e = cc
+    placed_apart Choice (then_chunk past c) (Some c) cs front rest i right.1 (ap (drop 1) e)
 placed_apart Choice past before (c ∷ []) [] rest i right e = absurd (let x = e in cc)
 placed_apart Choice past before (c ∷ d ∷ cs) [] rest i right e =
-    apart_first Choice past before c d cs i right.1.0 (named past before c (d ∷ cs) i (first e)) (named (then_chunk past c) (Some c) d cs i (second e))
-  where
-    first : {xs ys : List Chunk} {x y : Chunk} → x ∷ xs ≡ y ∷ ys → x ≡ y
-    first e = cc
-
-    second : {xs ys : List Chunk} {x y z w : Chunk} → x ∷ z ∷ xs ≡ y ∷ w ∷ ys → z ≡ w
-    second e = cc
+    apart_first Choice past before c d cs i right.1.0 (named past before c (d ∷ cs) i (same_first _ _ _ _ e))
+    (named (then_chunk past c) (Some c) d cs i (same_first _ _ _ _ (ap (drop 1) e)))

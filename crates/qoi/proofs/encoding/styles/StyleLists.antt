@@ -8,6 +8,7 @@ use Rattle.qoi.specs.declared.types.Style.{Style}
 use Rattle.qoi.specs.declared.types.Style.TheVariants.{Reference, Places, Tight}
 use Rattle.qoi.specs.Raw.{HasChannels}
 use Rattle.qoi.specs.Shortest.{floor, slack}
+use Rattle.qoi.specs.Tight.{floor0}
 use Rattle.qoi.specs.Qoi.{RgbaPixel, IsPixel, AreChunks, chunk_bytes, Reaches, meaning, then_chunks}
 use Rattle.qoi.specs.Written.{IsChoice, WrittenBy, Written}
 use Rattle.qoi.specs.Regular.{Regular}
@@ -47,6 +48,10 @@ style_means style image cs w = by_style (λ x. meaning x ≡ image) style image 
 pub style_length : (style : Style) (image : List RgbaPixel) (cs : List Chunk) (w : WrittenIn style image cs)
     → length (chunk_bytes cs) ≡ length (chunk_bytes w.list)
 style_length style image cs w = by_style (λ x. length (chunk_bytes x) ≡ length (chunk_bytes w.list)) style image cs w refl (placed_length [] None w.list)
+
+-- in style Tight that is the least
+pub style_exact : (image : List RgbaPixel) (cs : List Chunk) → WrittenIn Tight image cs → length (chunk_bytes cs) ≡ floor0 image
+style_exact image cs w = style_length Tight image cs w ∙ tight_exact image w.list w.written
 
 -- there is one list
 pub style_unique : (style : Style) (image : List RgbaPixel) (cs ds : List Chunk) → WrittenIn style image cs → WrittenIn style image ds → cs ≡ ds
