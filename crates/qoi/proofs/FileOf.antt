@@ -32,10 +32,10 @@ use Rattle.qoi.proofs.decoding.OneFile.{decodes_file}
 use Rattle.qoi.proofs.decoding.Tiles.{tile_put, sent_image, sent_kept, sent_known, sent_stay}
 use Rattle.qoi.proofs.format.ImageHeader.{accepted_says}
 use Rattle.qoi.proofs.format.RawPixels.{pixels_of_are, pixels_of_have, length-pixels_of, output-pixels_of}
-use Rattle.qoi.proofs.encoding.styles.StyleLists.{list_written, style_chunks, style_means, style_unique, style_reaches, style_fits, style_length, style_apart, style_regular, style_upper, places_as_long}
+use Rattle.qoi.proofs.encoding.styles.StyleLists.{list_written, style_chunks, style_means, style_unique, style_reaches, style_fits, style_length, style_exact, style_apart, style_regular, style_upper}
 use Rattle.qoi.proofs.shortness.RegularLists.{no_blank_regular}
 use Rattle.qoi.proofs.shortness.Lower.{lower}
-use Rattle.qoi.proofs.shortness.TightLists.{lower0, tight_exact}
+use Rattle.qoi.proofs.shortness.TightLists.{lower0}
 use Rattle.qoi.proofs.shortness.SlackSteps.{slack_most, slack_opens}
 
 -- the bytes of a file are the header's, the chunks' and the end marker's
@@ -47,16 +47,6 @@ pub max_is_exact : (h : Header) → IsValid h → max_file_len h ≡ pixel_count
 max_is_exact h valid =
     let n = pixel_count h in
     by_channels (λ c. min (14 + n * c + n + 8) (2 ^ 64 - 1) ≡ n * c + n + 22) (channels_are h.channels (channels_number h.channels) refl) (omega (arith, valid.1)) (omega (arith, valid.1))
-
--- at most four channels
-four_channels : (c : Channels) → channels_number c ≤ 4
-four_channels Rgb = omega arith
-four_channels Rgba = omega arith
-
--- if a list means pixels, it has a byte
-text_some : (cs : List Chunk) → 0 < length (meaning cs) → 0 < length (chunk_bytes cs)
-text_some [] none = none
-text_some (c ∷ cs) some = omega (arith, length-append (bytes_of c) (chunk_bytes cs), length-bytes_of c)
 
 module _ (h : Header) (raw : List ℕ) (valid : IsValid h) (size : length raw ≡ image_byte_count h) where
   abbrev image : List RgbaPixel
@@ -86,7 +76,11 @@ module _ (h : Header) (raw : List ℕ) (valid : IsValid h) (size : length raw �
 
     -- the list has a byte
     text_long : 0 < length (chunk_bytes cs)
-    text_long = text_some cs (omega (arith, count, ap length means, valid.0))
+    text_long = some cs (omega (arith, count, ap length means, valid.0))
+      where
+        some : (cs : List Chunk) → 0 < length (meaning cs) → 0 < length (chunk_bytes cs)
+        some [] none = none
+        some (c ∷ cs) _ = omega (arith, length-append (bytes_of c) (chunk_bytes cs), length-bytes_of c)
 
     -- it is that of a file
     is_list : IsFile h cs
@@ -141,7 +135,7 @@ module _ (h : Header) (raw : List ℕ) (valid : IsValid h) (size : length raw �
           floor_is_below = λ others s regular. lower image others s.covers.0 regular s.covers.1;
           near_floor = omega arith;
           near_others = λ others s regular. omega (arith, least others s regular);
-          four_at_most = λ others s regular. omega (arith, least others s regular, slack_most image each, four_channels h.channels);
+          four_at_most = λ others s regular. grind (arith, least others s regular, slack_most image each, channels);
           none_shorter = λ other others s regular. omega (arith, least others s regular, slack_opens image each other);
           all_regular = λ no_blank others s. no_blank_regular image others (subst (λ n. Reaches n others) (sym count) s.reaches) s.covers.1 no_blank;
         }
@@ -161,7 +155,7 @@ module _ (h : Header) (raw : List ℕ) (valid : IsValid h) (size : length raw �
   short_in Places cs w = as_reference Places cs w (λ e. absurd (let x = e in cc)) w.written
   short_in Tight cs w =
       let size_is = length-file h cs in
-      let exact = style_length Tight image cs w ∙ tight_exact image w.list w.written in
+      let exact = style_exact image cs w in
       record { floor0_is = omega arith; shortest = λ others s. omega (arith, lower0 image others s.covers.0 s.covers.1, length-file h others) }
 
   -- the list that is written
@@ -203,24 +197,6 @@ file_spans style h raw bytes f =
       reaches = style_reaches style image (pixel_count h) e.cs e.written (count h raw f.is_file.valid f.is_file.size);
     }
 
--- so in no style is the file shorter than in style Tight
-pub shortest_is_least : {own style : Style} (h : Header) (raw tight bytes : List ℕ) → own ≡ Tight → IsFileOf own h raw tight → IsFileOf style h raw bytes
-    → length tight ≤ length bytes
-shortest_is_least {style = style} h raw tight bytes is t f =
-    let s = (subst (λ own. IsFileOf own h raw tight) is t).shortness in
-    let e = f.is_file.encoded in
-    subst (λ z. length tight ≤ length z) (sym e.bytes_are) (s.shortest e.cs (file_spans style h raw bytes f))
-
--- in style Places it is as long as in style Reference
-pub places_length : {own : Style} (h : Header) (raw placed bytes : List ℕ) → own ≡ Places → IsFileOf own h raw placed → IsFileOf Reference h raw bytes
-    → length placed ≡ length bytes
-places_length h raw placed bytes is p f =
-    let d = (subst (λ own. IsFileOf own h raw placed) is p).is_file.encoded in
-    let e = f.is_file.encoded in
-    let written = subst (λ cs. Written (image_pixels h raw) cs) (sym e.written.is) e.written.written in
-    let as_long = places_as_long (image_pixels h raw) e.cs d.cs written d.written in
-    ap length d.bytes_are ∙ length-file h d.cs ∙ ap (λ k. 22 + k) as_long ∙ sym (length-file h e.cs) ∙ sym (ap length e.bytes_are)
-
 -- the file is one
 one_file : {style : Style} {h : Header} {raw bytes others : List ℕ} → IsFileOf style h raw bytes → IsFileOf style h raw others → bytes ≡ others
 one_file {bytes = bytes} f g = g.is_file.only bytes f.is_file.encoded
@@ -230,10 +206,16 @@ counts_file : (e : EncoderState) (bytes : List ℕ) (n : ℕ) → IsFileOf e.sty
 counts_file e bytes n f is = record {
   same = λ others g. is ∙ ap length (one_file f g);
   within = rw is (f.is_file.long, f.is_file.fits);
-  shortest = λ tight. subst (IsShortest e.header e.raw) (sym is) (subst (λ s. IsFileOf s e.header e.raw bytes) tight f).shortness;
-  no_longer = λ tight other others g. rw is (shortest_is_least e.header e.raw bytes others tight f g);
-  as_long = λ places others g. is ∙ places_length e.header e.raw bytes others places f g;
+  shortest = shortest;
+  no_longer = λ tight other others g. let c = g.is_file.encoded in
+      subst (λ z. n ≤ length z) (sym c.bytes_are) ((shortest tight).shortest c.cs (file_spans other e.header e.raw others g));
+  as_long = λ places others g. let s = (subst (λ own. IsFileOf own e.header e.raw bytes) places f).shortness in
+      is ∙ s.as_long ∙ ap length (g.is_file.only (file e.header s.list)
+      (record { cs = s.list; written = record { list = s.list; written = s.written; is = refl }; bytes_are = refl }));
 }
+  where
+    shortest : e.style ≡ Tight → IsShortest e.header e.raw n
+    shortest tight = subst (IsShortest e.header e.raw) (sym is) (subst (λ s. IsFileOf s e.header e.raw bytes) tight f).shortness
 
 -- what holds of the file
 pub makes_file : (e : EncoderState) (bytes : List ℕ) → IsFileOf e.style e.header e.raw bytes → MakesFile e bytes

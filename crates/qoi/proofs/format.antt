@@ -2,8 +2,6 @@
 pub mod AddedTerms
 pub mod Appended
 pub mod ChunkSteps
-pub mod ChunksApart
-pub mod EncodedAgain
 pub mod Entries
 pub mod HashedPixels
 pub mod HeaderBytes

@@ -17,16 +17,13 @@ some_diff q p = some_below 64 (λ d. pixel_eq (after_diff q (diff_tag + d)) p)
 unfoldable pub some_luma : RgbaPixel → RgbaPixel → Bool
 some_luma q p = some_below 64 (λ d. some_below 256 (λ e. pixel_eq (after_luma q (luma_tag + d) e) p))
 
--- some Rgb gives p after q
-unfoldable pub some_rgb : RgbaPixel → RgbaPixel → Bool
-some_rgb q p = p.a == q.a
-
--- how many bytes the shortest chunk has that gives the fresh pixel p, if a chunk list is regular
+-- how many bytes the shortest chunk has that gives the fresh pixel p, if a chunk list is regular; an
+-- Rgb keeps alpha
 unfoldable pub least : Past → RgbaPixel → ℕ
 least past p =
     if pixel_eq (seen past (hash p)) p || some_diff (previous past) p then 1
     else if some_luma (previous past) p then 2
-    else if some_rgb (previous past) p then 4
+    else if p.a == (previous past).a then 4
     else 5
 
 -- how many repeats the pixels end with

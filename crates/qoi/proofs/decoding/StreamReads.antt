@@ -8,7 +8,7 @@ use Rattle.qoi.specs.declared.error.Error.TheVariants.{InvalidPadding, IoError, 
 use Rattle.qoi.specs.declared.chunk.Chunk.{Chunk}
 use Rattle.qoi.specs.declared.chunk.Chunk.TheVariants.{Place, Diff, Run, Rgb, Rgba}
 use Rattle.qoi.specs.inner.Filling.{Filling, DecodesChunk}
-use Rattle.qoi.proofs.format.ChunksApart.{chunks_apart}
+use Rattle.qoi.proofs.format.OneVerdict.{chunks_apart}
 use Rattle.std.proofs.lemmas.Bool.{cases_lt}
 use Rattle.qoi.specs.Qoi.{AreBytes, IsChunk, AreChunks, bytes_of, chunk_bytes, Reaches, marker_size, end_marker}
 use Rattle.qoi.specs.Verdicts.{IsPartOfChunk, EndsBefore, AreCut, AreWrongThen}

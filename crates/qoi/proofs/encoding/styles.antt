@@ -1,5 +1,4 @@
 -- Lemmas on what each style chooses.
-pub mod Choices
 pub mod PlacedLists
 pub mod StyleLists
 pub mod StyledGroup

@@ -2,6 +2,7 @@
 use Rattle.std.proofs.Common.{◌≡◌, ℕ, ◌+◌, ◌-◌, ◌*◌, ◌/◌, ◌%◌, ◌^◌, ◌<◌, ◌≤◌, ◌⊎◌, inl, inr, List, arith, refl, sym, subst, ap, ◌∙◌}
 use Rattle.std.specs.Int.Bits.{bit_and, and_zero_r}
 use Rattle.std.proofs.lemmas.Bool.{cases_lt}
+use Rattle.std.proofs.lemmas.Grind.{and_high_numeral}
 use Rattle.std.proofs.lemmas.Nat.{and_block, and_mask}
 use Rattle.qoi.specs.Qoi.{RgbaPixel, Past, pixel, blank, hash, moved, seen, after_diff, after_luma}
 use Rattle.qoi.specs.inner.Hashed.{pixel_of_lanes, IsHashed, IsPlain, IsAdded, IsAfterShort, HoldsSeen, step, lane_mask, alpha_mask, top_mask}
@@ -96,13 +97,7 @@ after_rgba s keep w is_keep hashed =
 
 -- the mask leaves the index position alone
 top_alone : (s : ℕ) → s < 2 ^ 64 → bit_and s top_mask ≡ s / 2 ^ 56 * 2 ^ 56
-top_alone s l =
-    ap (λ z. bit_and z top_mask) split
-    ∙ and_block 56 (s / 2 ^ 56) 0xff (s % 2 ^ 56) 0 (omega arith) (omega arith)
-    ∙ omega (arith, l, and_mask (s / 2 ^ 56) 8, and_zero_r (s % 2 ^ 56))
-  where
-    split : s ≡ s / 2 ^ 56 * 2 ^ 56 + s % 2 ^ 56
-    split = omega arith
+top_alone s l = omega (arith, and_high_numeral s 0xfeffffffffffffff refl l)
 
 -- four lanes with the index position that their product has
 pub record PlacedLanes (t l : ℕ) : Type 0 where

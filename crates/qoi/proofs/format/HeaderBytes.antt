@@ -171,30 +171,28 @@ stream_header old new bytes (Ok h) size came e own = (bytes, came, size, sym e, 
 stream_header old new bytes (Err (IoError i)) size came e own = absurd (grind (arith, e))
 stream_header old new bytes (Err x) size came e own = (bytes, came, (size, sym e))
 
--- what bytes say, their first fourteen say with any bytes after them
-says_front : (bytes rest : List ℕ) (h : Header) → SaysHeader bytes h → SaysHeader (take 14 bytes ++ rest) h
-says_front (m0 ∷ m1 ∷ m2 ∷ m3 ∷ w0 ∷ w1 ∷ w2 ∷ w3 ∷ h0 ∷ h1 ∷ h2 ∷ h3 ∷ c ∷ s ∷ more) rest h says = record {
-  long = omega arith;
-  channels = says.channels;
-  colorspace = says.colorspace;
-  magic = says.magic;
-  width = says.width;
-  height = says.height;
-  valid = says.valid;
-}
-says_front bytes rest h says = let long = says.long in absurd (omega arith)
+-- what bytes are read as depends on the first fourteen
+reads_front : (bytes rest : List ℕ) → 14 ≤ length bytes → header_of (take 14 bytes ++ rest) ≡ header_of bytes
+reads_front bytes rest long =
+    rw (
+      le-ltb (length bytes) 14 long,
+      le-ltb (length (take 14 bytes ++ rest)) 14 (omega (arith, length-append (take 14 bytes) rest, length-take-le 14 bytes long)),
+    ) (same bytes long)
+  where
+    same : (bytes : List ℕ) → 14 ≤ length bytes → with_channels_read (take 14 bytes ++ rest) (channels_of (slice_index (take 14 bytes ++ rest) 12))
+        ≡ with_channels_read bytes (channels_of (slice_index bytes 12))
+    same (m0 ∷ m1 ∷ m2 ∷ m3 ∷ w0 ∷ w1 ∷ w2 ∷ w3 ∷ h0 ∷ h1 ∷ h2 ∷ h3 ∷ c ∷ s ∷ more) long = refl
+    same bytes long = absurd (omega arith)
 
 -- the fourteen bytes at the front of bytes that are read as a header
 pub header_front : (bytes : List ℕ) (h : Header) → header_of bytes ≡ Ok h → (length (take 14 bytes) ≡ 14) × (header_of (take 14 bytes) ≡ Ok h)
 header_front bytes h e =
-    let says = says_from bytes h e in
-    let read = header_from_says (take 14 bytes ++ []) h (says_front bytes [] h says) in
-    (length-take-le 14 bytes says.long, subst (λ z. header_of z ≡ Ok h) (append-nil (take 14 bytes)) read)
+    let long = (says_from bytes h e).long in
+    (length-take-le 14 bytes long, ap header_of (sym (append-nil (take 14 bytes))) ∙ reads_front bytes [] long ∙ e)
 
 -- bytes whose front is read as a header, and what follows it
 pub header_split : (bytes taken rest : List ℕ) (h : Header) → bytes ≡ taken ++ rest → length taken ≡ 14 → header_of taken ≡ Ok h
     → (header_of bytes ≡ Ok h) × (rest ≡ drop 14 bytes)
 header_split bytes taken rest h split size read =
-    let same : take 14 taken ++ rest ≡ bytes = ap (λ z. z ++ rest) (take_whole 14 taken size) ∙ sym split in
-    let whole = header_from_says (take 14 taken ++ rest) h (says_front taken rest h (says_from taken h read)) in
-    (subst (λ z. header_of z ≡ Ok h) same whole, sym (ap (drop 14) split ∙ drop_at taken rest 14 size))
+    let same : bytes ≡ take 14 taken ++ rest = split ∙ ap (λ z. z ++ rest) (sym (take_whole 14 taken size)) in
+    (ap header_of same ∙ reads_front taken rest (omega arith) ∙ read, sym (ap (drop 14) split ∙ drop_at taken rest 14 size))

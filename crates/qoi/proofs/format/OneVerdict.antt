@@ -1,11 +1,31 @@
--- At most one verdict holds of any bytes, with one chunk list.
-use Rattle.std.proofs.Common.{◌≡◌, ℕ, ◌<◌, ◌≤◌, ◌⊎◌, inl, inr, List, [], ◌∷◌, ◌++◌, length, take, drop, arith, refl, ap, sym, ◌∙◌, subst, append_assoc, length-append}
-use Rattle.std.proofs.lemmas.List.{append_cancel_left, drop_at, take_at}
+-- No chunk's bytes begin another's. So at most one verdict holds of any bytes, with one chunk list.
+use Rattle.std.proofs.Common.{◌≡◌, ℕ, ◌+◌, ◌<◌, ◌≤◌, ◌⊎◌, inl, inr, List, [], ◌∷◌, ◌++◌, length, get_or, take, drop, arith, refl, ap, sym, ◌∙◌, subst, append_assoc, length-append}
+use Rattle.std.proofs.lemmas.List.{append-nil, append_cancel_left, drop_at, take_at}
 use Rattle.qoi.specs.declared.chunk.Chunk.{Chunk}
+use Rattle.qoi.specs.declared.chunk.Chunk.TheVariants.{Place, Diff, Luma, Run, Rgb, Rgba}
 use Rattle.qoi.specs.Qoi.{Past, IsChunk, AreChunks, bytes_of, chunk_bytes, then_chunk, Each, then_chunks, meaning, end_marker}
 use Rattle.qoi.specs.Verdicts.{IsPartOfChunk, HasChunks, IsWhole, IsCut, IsWrong}
 use Rattle.qoi.proofs.format.Appended.{length-meaning}
-use Rattle.qoi.proofs.format.ChunksApart.{chunks_apart, part_begins_none}
+
+-- equal bytes begin with the same chunk, and go on the same
+pub chunks_apart : (c d : Chunk) (x y : List ℕ) → IsChunk c → IsChunk d → bytes_of c ++ x ≡ bytes_of d ++ y → (c ≡ d) × (x ≡ y)
+chunks_apart (Place i) (Place j) x y hc hd e = (cc, cc)
+chunks_apart (Diff i) (Diff j) x y hc hd e = (cc, cc)
+chunks_apart (Luma i j) (Luma k l) x y hc hd e = (cc, cc)
+chunks_apart (Run n) (Run m) x y hc hd e =
+    let f : 191 + n ≡ 191 + m = ap (λ l. get_or l 0 0) e in
+    let g : n ≡ m = omega arith in
+    (ap Run g, cc)
+chunks_apart (Rgb r g b) (Rgb s h c) x y hc hd e = (cc, cc)
+chunks_apart (Rgba r g b a) (Rgba s h c d) x y hc hd e = (cc, cc)
+chunks_apart c d x y hc hd e = let f = ap (λ l. get_or l 0 0) e in absurd (omega arith)
+
+-- a beginning of a chunk's bytes, at least one byte short, begins with no whole chunk
+pub part_begins_none : (c : Chunk) (x : List ℕ) → IsChunk c → IsPartOfChunk (bytes_of c ++ x) → ⊥
+part_begins_none c x hc (d, next, more, hd, e) =
+    let f : bytes_of c ++ (x ++ next ∷ more) ≡ bytes_of d ++ [] = sym (append_assoc (bytes_of c) x (next ∷ more)) ∙ sym e ∙ sym (append-nil (bytes_of d)) in
+    let both = chunks_apart c d (x ++ next ∷ more) [] hc hd f in
+    omega (arith, length-append x (next ∷ more), ap length both.1)
 
 -- fewer than n pixels stand before each chunk, if these pixels stand before the first one
 abbrev pub StayBelowAfter : ℕ → Past → List Chunk → Type 0
@@ -55,19 +75,11 @@ enough {cs = cs} has h = record { has = has; ends = inl (omega (arith, h, length
 
 -- so are the chunks of cut bytes
 cut : {n : ℕ} {bytes : List ℕ} {cs : List Chunk} {x : List ℕ} → IsCut n bytes cs x → Reads n bytes cs x
-cut {n = n} {cs = cs} {x = x} c = record { has = c.has; ends = ends c.ends }
-  where
-    ends : ((length (meaning cs) < n) × IsPartOfChunk x) ⊎ ((n ≤ length (meaning cs)) × (length x < 8)) → EndsChunks n (then_chunks [] cs) x
-    ends (inl (short, part)) = inr (omega (arith, short, length-meaning cs), part)
-    ends (inr (many, few)) = inl (omega (arith, many, length-meaning cs))
+cut {cs = cs} c = record { has = c.has; ends = grind (arith, c.ends, length-meaning cs) }
 
 -- cut bytes whose chunks reach n pixels have fewer than eight bytes after them
 cut_is_short : (n : ℕ) (bytes : List ℕ) (cs : List Chunk) (x : List ℕ) → IsCut n bytes cs x → n ≤ length (meaning cs) → length x < 8
-cut_is_short n bytes cs x h many = short h.ends
-  where
-    short : ((length (meaning cs) < n) × IsPartOfChunk x) ⊎ ((n ≤ length (meaning cs)) × (length x < 8)) → length x < 8
-    short (inl (below, part)) = absurd (omega (arith, below, many))
-    short (inr (above, few)) = few
+cut_is_short n bytes cs x h many = grind (arith, h.ends, many)
 
 -- lists of one length that begin the same bytes are one, and so is what follows
 same_front : (a b x y : List ℕ) → length a ≡ length b → a ++ x ≡ b ++ y → (a ≡ b) × (x ≡ y)

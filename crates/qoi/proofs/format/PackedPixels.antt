@@ -1,8 +1,9 @@
 -- Pixels as single numbers of 32 bits.
-use Rattle.std.proofs.Common.{◌≡◌, ℕ, ◌+◌, ◌*◌, ◌/◌, ◌%◌, ◌^◌, ◌<◌, ◌≤◌, List, ◌∷◌, length, take, arith, ap, ◌∙◌}
+use Rattle.std.proofs.Common.{◌≡◌, ℕ, ◌+◌, ◌*◌, ◌/◌, ◌%◌, ◌^◌, ◌<◌, ◌≤◌, List, ◌∷◌, length, take, arith, refl, ap, ◌∙◌}
 use lib.Lanes.{number_l}
-use Rattle.std.specs.Int.Bits.{bit_and, bit_or, and_zero_r, or_zero_l, or_zero_r}
-use Rattle.std.proofs.lemmas.Nat.{and_block, and_mask, or_block}
+use Rattle.std.specs.Int.Bits.{bit_and, bit_or, and_zero_r}
+use Rattle.std.proofs.lemmas.Grind.{or_after_shift}
+use Rattle.std.proofs.lemmas.Nat.{and_block, and_mask}
 use Rattle.qoi.specs.Qoi.{AreBytes, RgbaPixel, IsPixel, rgba, hash}
 use Rattle.qoi.proofs.format.SamePixels.{same_pixel}
 use Rattle.qoi.specs.inner.Packed.{word, pixel_of_word}
@@ -43,21 +44,13 @@ first_bytes a b g r lb lg lr =
     ∙ ap (λ z. (z * 2 ^ 8 + bit_and g 0) * 2 ^ 8 + bit_and r 0xff) (and_block 8 a 0 b 0xff lb (omega arith))
     ∙ omega (arith, and_mask b 8, and_mask r 8, and_zero_r a, and_zero_r g)
 
--- they stand side by side
-joined : (x y : ℕ) → y < 2 ^ 32 → bit_or (x * 2 ^ 32) y ≡ x * 2 ^ 32 + y
-joined x y l =
-    let left : x * 2 ^ 32 ≡ x * 2 ^ 32 + 0 = omega arith in
-    let right : y ≡ 0 * 2 ^ 32 + y = omega arith in
-    ap (λ z. bit_or z y) left ∙ ap (λ z. bit_or (x * 2 ^ 32 + 0) z) right ∙ or_block 32 x 0 0 y (omega arith) l ∙ omega (arith, or_zero_r x, or_zero_l y)
-
 -- a word whose bytes are taken apart is the spread number of its pixel
 pub word_spread : (w : ℕ) → w < 2 ^ 32 → bit_or (bit_and w 0xff00ff00 * 2 ^ 32 % 2 ^ 64) (bit_and w 0xff00ff) ≡ spread (pixel_of_word w)
 word_spread w l =
     ap (λ z. bit_or (bit_and z 0xff00ff00 * 2 ^ 32 % 2 ^ 64) (bit_and z 0xff00ff)) split
     ∙ ap (λ z. bit_or (z * 2 ^ 32 % 2 ^ 64) (bit_and bytes 0xff00ff)) (second_bytes a b g r (omega arith) (omega arith) (omega arith))
     ∙ ap (λ z. bit_or (((a % 2 ^ 8 * 2 ^ 8) * 2 ^ 8 + g) * 2 ^ 8 * 2 ^ 32 % 2 ^ 64) z) (first_bytes a b g r (omega arith) (omega arith) (omega arith))
-    ∙ ap (λ z. bit_or z (b * 2 ^ 16 + r)) fits
-    ∙ joined (((a * 2 ^ 8) * 2 ^ 8 + g) * 2 ^ 8) (b * 2 ^ 16 + r) (omega arith)
+    ∙ or_after_shift (((a % 2 ^ 8 * 2 ^ 8) * 2 ^ 8 + g) * 2 ^ 8) (2 ^ 32) (2 ^ 64) (b * 2 ^ 16 + r) refl (omega arith) (omega arith)
     ∙ omega arith
   where
     a : ℕ
@@ -77,9 +70,6 @@ word_spread w l =
 
     split : w ≡ bytes
     split = omega arith
-
-    fits : ((a % 2 ^ 8 * 2 ^ 8) * 2 ^ 8 + g) * 2 ^ 8 * 2 ^ 32 % 2 ^ 64 ≡ ((a * 2 ^ 8) * 2 ^ 8 + g) * 2 ^ 8 * 2 ^ 32
-    fits = omega arith
 
 -- the product gives the hash
 pub product_is_hash : (p : RgbaPixel) → IsPixel p → product_hash p ≡ hash p

@@ -1,12 +1,11 @@
 -- Rows and rectangles of raw bytes: what they hold, how they are put together, and what is put in.
-use Rattle.std.proofs.Common.{◌≡◌, ◌<◌, ◌≤◌, ◌+◌, ◌-◌, ◌*◌, ◌/◌, ◌%◌, ◌⊎◌, ℕ, zero, suc, List, ◌++◌, length, take, drop, get_or, inl, inr, ⊎_elim, refl, sym, subst, ◌∙◌, ap, arith}
+use Rattle.std.proofs.Common.{◌≡◌, ◌<◌, ◌≤◌, ◌+◌, ◌-◌, ◌*◌, ◌/◌, ◌%◌, ◌⊎◌, ℕ, zero, suc, List, ◌++◌, length, take, drop, get_or, inl, refl, sym, subst, ◌∙◌, ap, arith}
 use Rattle.std.proofs.lemmas.List.{ext_get_or, append_assoc, append-nil, length-append, length-drop, length-take, take-append-drop, drop-drop, drop-take, take-take, take_all, take_at, drop_at, take-append-le, drop-append-le, get_or-take, get_or-drop}
 use Rattle.std.proofs.Math.Nat.{add-suc, div-add-mod, mod-lt, mul-add, mul-suc, mul-zero, mul_comm, zero-mul, zero-add}
 use Rattle.std.proofs.Math.Seq.{take-add}
-use Rattle.std.proofs.lemmas.Bool.{cases_lt}
 use Rattle.std.proofs.lemmas.Grind.{common_steps}
 use Rattle.std.proofs.lemmas.Nat.{mul-le, row_fits, row-Below}
-use Rattle.qoi.specs.Rectangles.{row_bytes, rectangle, with_tile, IsOutside, KeepsOutside}
+use Rattle.qoi.specs.Rectangles.{row_bytes, rectangle, with_tile, KeepsOutside}
 
 -- one row more ends within the rows
 pub row_end : (stride k rows : ℕ) → k < rows → stride * k + stride ≤ stride * rows
@@ -89,14 +88,11 @@ length-part_of_picture stride height top left rows size raw many below fits =
 -- whole rows are one stretch of the raw bytes
 pub whole_rows : (stride top rows : ℕ) (raw : List ℕ) → rectangle stride top 0 rows stride raw ≡ take (stride * rows) (drop (stride * top) raw)
 whole_rows stride top zero raw = ap (λ n. take n (drop (stride * top) raw)) (sym (mul-zero stride))
-whole_rows stride top (suc rows) raw =
-    let at : stride * (top + rows) ≡ stride * top + stride * rows = mul-add stride top rows in
-    ap (λ z. z ++ take stride (take stride (drop (stride * (top + rows)) raw))) (whole_rows stride top rows raw)
-    ∙ ap (λ z. take (stride * rows) (drop (stride * top) raw) ++ z) (take-take stride stride (drop (stride * (top + rows)) raw) (omega arith))
-    ∙ ap (λ n. take (stride * rows) (drop (stride * top) raw) ++ take stride (drop n raw)) at
-    ∙ ap (λ z. take (stride * rows) (drop (stride * top) raw) ++ take stride z) (sym (drop-drop (stride * rows) (stride * top) raw))
-    ∙ sym (take-add (stride * rows) stride (drop (stride * top) raw))
-    ∙ ap (λ n. take n (drop (stride * top) raw)) (sym (mul-suc stride rows))
+whole_rows stride top (suc rows) raw = next (whole_rows stride top rows raw)
+  where
+    next : rectangle stride top 0 rows stride raw ≡ take (stride * rows) (drop (stride * top) raw)
+        → rectangle stride top 0 (suc rows) stride raw ≡ take (stride * suc rows) (drop (stride * top) raw)
+    next before = grind (arith, common_steps, before, mul-add stride top rows, mul-suc stride rows, take-add (stride * rows) stride (drop (stride * top) raw))
 
 -- the whole picture is a rectangle of itself
 pub whole_picture : (stride rows : ℕ) (raw : List ℕ) → length raw ≡ stride * rows → rectangle stride 0 0 rows stride raw ≡ raw
@@ -205,47 +201,17 @@ module _ (stride top left rows size : ℕ) (old new row : List ℕ) (fits : left
       (part_stands stride left size (top + rows) new fits ∙ ap (λ z. take size (drop at z)) is
       ∙ ap (take size) (drop_at front (row ++ later) at length-front) ∙ take_at row later size many)
 
-  -- as many bytes as before
-  length-put : length new ≡ length old
-  length-put = grind (arith, common_steps, is, length-front, many, before_end)
-
-  -- a byte before them stays
-  before : (p : ℕ) → p < at → get_or new p 0 ≡ get_or old p 0
-  before p below = grind (arith, common_steps, is, length-front, below)
-
-  -- so does a byte behind them
-  behind : (p : ℕ) → at + size ≤ p → get_or new p 0 ≡ get_or old p 0
-  behind p above = grind (arith, common_steps, is, length-front, many, above)
-
-  -- a byte outside of the rectangle with this row stands before or behind them
-  apart : (i j : ℕ) → j < stride → IsOutside top left (rows + 1) size i j → (stride * i + j < at) ⊎ (at + size ≤ stride * i + j)
-  apart i j within out = elim (cases_lt i (top + rows)) as (λ _. (stride * i + j < at) ⊎ (at + size ≤ stride * i + j)) [
-    | inl earlier ↦ inl (omega (arith, within, row_end stride i (top + rows) earlier))
-    | inr from ↦ elim (cases_lt (top + rows) i) as (λ _. (stride * i + j < at) ⊎ (at + size ≤ stride * i + j)) [
-      | inl later ↦ inr (omega (arith, fits, row_end stride (top + rows) i later))
-      | inr to ↦ let same : i ≡ top + rows = omega (arith, from, to) in beside out (ap (λ k. stride * k) same) same
-    ]
-  ]
-    where
-      beside : IsOutside top left (rows + 1) size i j → stride * i ≡ stride * (top + rows) → i ≡ top + rows
-          → (stride * i + j < at) ⊎ (at + size ≤ stride * i + j)
-      beside (inl above) row same = absurd (omega (arith, above, same))
-      beside (inr (inl below)) row same = absurd (omega (arith, below, same))
-      beside (inr (inr (inl early))) row same = inl (omega (arith, early, row))
-      beside (inr (inr (inr late))) row same = inr (omega (arith, late, row))
-
-  -- it is outside of the rectangle without this row, too
-  outside_less : (i j : ℕ) → IsOutside top left (rows + 1) size i j → IsOutside top left rows size i j
-  outside_less i j (inl above) = inl above
-  outside_less i j (inr (inl below)) = inr (inl (omega (arith, below)))
-  outside_less i j (inr (inr next)) = inr (inr next)
+  -- a byte before or behind them stays
+  beside : (p : ℕ) → (p < at) ⊎ (at + size ≤ p) → get_or new p 0 ≡ get_or old p 0
+  beside p out = grind (arith, common_steps, is, length-front, many, before_end, out)
 
   -- all bytes outside of the rectangle stay, as they did before
   pub outside_put : {start : List ℕ} → KeepsOutside stride top left rows size start old → KeepsOutside stride top left (rows + 1) size start new
   outside_put k = record {
-    length_is = length-put ∙ k.length_is;
-    same = λ i j within out. ⊎_elim (before (stride * i + j)) (behind (stride * i + j)) (apart i j within out)
-        ∙ k.same i j within (outside_less i j out);
+    length_is = grind (arith, common_steps, is, length-front, many, before_end, k.length_is);
+    same = λ i j within out. let here : i ≡ top + rows → stride * i ≡ stride * (top + rows) = (λ e. ap (λ n. stride * n) e) in
+        beside (stride * i + j) (grind (arith, fits, within, out, row_end stride i (top + rows), row_end stride (top + rows) i, here))
+        ∙ k.same i j within (grind (arith, out));
   }
 
 -- nothing was put in yet

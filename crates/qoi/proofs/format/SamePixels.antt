@@ -1,6 +1,6 @@
 -- The test of two pixels says whether they are the same, and each has an index position.
-use Rattle.std.proofs.Common.{◌≡◌, ◌≢◌, ◌⊎◌, inl, inr, Bool, true, false, ◌<◌, arith, refl}
-use Rattle.std.proofs.lemmas.Bool.{true≢false, false_from_ne_true}
+use Rattle.std.proofs.Common.{◌≡◌, ◌≢◌, ◌⊎◌, inl, inr, true, false, ◌<◌, arith, sym, ◌∙◌}
+use Rattle.std.proofs.lemmas.Bool.{cases_Bool, true≢false, false_from_ne_true}
 use Rattle.qoi.specs.Qoi.{RgbaPixel, pixel, pixel_eq, hash}
 
 -- an index position is below 64
@@ -31,14 +31,9 @@ pixel_eq-true p q h =
 pub pixel_eq-ne : (p q : RgbaPixel) → p ≢ q → pixel_eq p q ≡ false
 pixel_eq-ne p q n = false_from_ne_true _ (λ h. n (pixel_eq-true p q h))
 
--- pixels that don't pass the test are different
-pixel_eq-false : (p q : RgbaPixel) → pixel_eq p q ≡ false → p ≢ q
-pixel_eq-false p q h e = true≢false (let t = pixel_eq-from p q e in cc)
-
 -- two pixels are the same or not
 pub cases_pixel : (p q : RgbaPixel) → (p ≡ q) ⊎ (p ≢ q)
-cases_pixel p q = go (pixel_eq p q) refl
-  where
-    go : (t : Bool) → pixel_eq p q ≡ t → (p ≡ q) ⊎ (p ≢ q)
-    go true h = inl (pixel_eq-true p q h)
-    go false h = inr (pixel_eq-false p q h)
+cases_pixel p q = elim (cases_Bool (pixel_eq p q)) [
+  | inl h ↦ inl (pixel_eq-true p q h)
+  | inr h ↦ inr (λ e. true≢false (sym (pixel_eq-from p q e) ∙ h))
+]

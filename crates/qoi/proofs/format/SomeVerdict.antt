@@ -36,26 +36,6 @@ rgba_front : (b : ℕ) (bytes : List ℕ) → AreBytes (b ∷ bytes) → b ≡ 2
 rgba_front x (r ∷ g ∷ b ∷ a ∷ rest) fits is = inl (Rgba r g b a, rest, (fits 1, fits 2, fits 3, fits 4), cc)
 rgba_front x bytes fits is = inr (part_rgba (x ∷ bytes) fits (omega arith) is)
 
--- bytes whose first byte is that of a run
-run_front : (b : ℕ) (bytes : List ℕ) → 192 ≤ b → b < 254 → BeginsWithChunk (b ∷ bytes) ⊎ IsPartOfChunk (b ∷ bytes)
-run_front b bytes low high =
-    let n : b ≡ 191 + (b - 191) = omega arith in
-    inl (Run (b - 191), bytes, (omega arith, omega arith), ap (λ x. x ∷ bytes) n)
-
--- bytes whose first byte is neither that of an index position nor that of a difference
-high_front : (b : ℕ) (bytes : List ℕ) → AreBytes (b ∷ bytes) → 128 ≤ b → BeginsWithChunk (b ∷ bytes) ⊎ IsPartOfChunk (b ∷ bytes)
-high_front b bytes fits low =
-    elim (cases_lt b 192) [
-      | inl h ↦ luma_front b bytes fits low h
-      | inr h ↦ elim (cases_lt b 254) [
-        | inl k ↦ run_front b bytes h k
-        | inr k ↦ elim (cases_lt b 255) [
-          | inl l ↦ rgb_front b bytes fits (omega arith)
-          | inr l ↦ let small = fits 0 in rgba_front b bytes fits (omega arith)
-        ]
-      ]
-    ]
-
 -- bytes begin with a whole chunk, or are part of one
 front : (bytes : List ℕ) → AreBytes bytes → BeginsWithChunk bytes ⊎ IsPartOfChunk bytes
 front [] fits = inr (part_empty [] (omega arith))
@@ -64,7 +44,16 @@ front (b ∷ bytes) fits =
       | inl h ↦ inl (Place b, bytes, h, refl)
       | inr h ↦ elim (cases_lt b 128) [
         | inl k ↦ inl (Diff b, bytes, (h, k), refl)
-        | inr k ↦ high_front b bytes fits k
+        | inr k ↦ elim (cases_lt b 192) [
+          | inl l ↦ luma_front b bytes fits k l
+          | inr l ↦ elim (cases_lt b 254) [
+            | inl m ↦ let n : b ≡ 191 + (b - 191) = omega arith in inl (Run (b - 191), bytes, (omega arith, omega arith), ap (λ x. x ∷ bytes) n)
+            | inr m ↦ elim (cases_lt b 255) [
+              | inl n ↦ rgb_front b bytes fits (omega arith)
+              | inr n ↦ rgba_front b bytes fits (omega (arith, fits 0))
+            ]
+          ]
+        ]
       ]
     ]
 
@@ -76,18 +65,6 @@ pub record Reading (n : ℕ) (past : Past) (bytes : List ℕ) : Type 0 where
   pub stays_below : StayBelowAfter n past found
   pub split : bytes ≡ chunk_bytes found ++ rest
   pub ends : EndsChunks n (then_chunks past found) rest
-
--- reading goes on after a chunk
-reading_goes_on : (n : ℕ) (past : Past) (bytes : List ℕ) (c : Chunk) (more : List ℕ) → length past < n → IsChunk c → bytes ≡ bytes_of c ++ more
-    → Reading n (then_chunk past c) more → Reading n past bytes
-reading_goes_on n past bytes c more below hc e r = record {
-  found = c ∷ r.found;
-  rest = r.rest;
-  chunks = (hc, r.chunks);
-  stays_below = (below, r.stays_below);
-  split = e ∙ ap (λ l. bytes_of c ++ l) r.split ∙ sym (append_assoc (bytes_of c) (chunk_bytes r.found) r.rest);
-  ends = r.ends;
-}
 
 -- reading ends at once
 reading_ends : (n : ℕ) (past : Past) (bytes : List ℕ) → EndsChunks n past bytes → Reading n past bytes
@@ -101,9 +78,18 @@ reading_of (suc fuel) n past bytes h fits =
       | inr enough ↦ reading_ends n past bytes (inl enough)
       | inl below ↦ elim (front bytes fits) [
         | inr part ↦ reading_ends n past bytes (inr (below, part))
-        | inl w ↦ reading_goes_on n past bytes w.0 w.1 below w.2 w.3 (reading_of fuel n (then_chunk past w.0) w.1
+        | inl w ↦
+            let r = reading_of fuel n (then_chunk past w.0) w.1
             (omega (arith, ap length w.3, length-append (bytes_of w.0) w.1, (length-bytes_of w.0).0))
-            (bytes_after_front (bytes_of w.0) w.1 (subst AreBytes w.3 fits)))
+            (bytes_after_front (bytes_of w.0) w.1 (subst AreBytes w.3 fits)) in
+            record {
+              found = w.0 ∷ r.found;
+              rest = r.rest;
+              chunks = (w.2, r.chunks);
+              stays_below = (below, r.stays_below);
+              split = w.3 ∙ ap (λ l. bytes_of w.0 ++ l) r.split ∙ sym (append_assoc (bytes_of w.0) (chunk_bytes r.found) r.rest);
+              ends = r.ends;
+            }
       ]
     ]
 

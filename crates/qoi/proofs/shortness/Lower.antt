@@ -1,26 +1,25 @@
 -- No regular chunk list of an image has fewer bytes than its pixels cost.
-use Rattle.std.proofs.Common.{◌≡◌, ◌⊎◌, inl, inr, ℕ, ◌+◌, ◌%◌, ◌≤◌, false, eqb, List, [], ◌∷◌, ◌++◌, length, reverse, refl, sym, ap, ◌∙◌, arith}
-use Rattle.std.proofs.lemmas.Bool.{cond_both}
+use Rattle.std.proofs.Common.{◌≡◌, ◌⊎◌, inl, inr, ℕ, ◌+◌, ◌≤◌, false, List, [], ◌∷◌, ◌++◌, length, reverse, refl, sym, ap, ◌∙◌, arith}
 use Rattle.std.proofs.lemmas.List.{length-append, reverse-append, reverse-reverse}
 use Rattle.qoi.specs.declared.chunk.Chunk.{Chunk}
 use Rattle.qoi.specs.declared.chunk.Chunk.TheVariants.{Place, Diff, Luma, Run, Rgb, Rgba}
 use Rattle.qoi.specs.Qoi.{RgbaPixel, Past, previous, seen, IsChunk, AreChunks, pixel_after, bytes_of, chunk_bytes, then_chunk, then_chunks, meaning, Each}
 use Rattle.qoi.specs.Regular.{NamesPixelThere, Regular, Begins}
-use Rattle.qoi.specs.Shortest.{least, trailing_repeats, cost, total_cost, floor}
+use Rattle.qoi.specs.Shortest.{least, cost, total_cost, floor}
 use Rattle.qoi.proofs.format.Appended.{length-bytes_of}
 use Rattle.qoi.proofs.format.SamePixels.{cases_pixel}
 use Rattle.qoi.specs.Styles.{is_run}
 use Rattle.qoi.proofs.format.ChunkSteps.{cases_run, then_other}
-use Rattle.qoi.proofs.shortness.Costs.{some_diff-from, some_luma-from, some_rgb-from, least_seen, least_diff, least_luma, least_rgb, least_high, cost_fresh, cost_repeat, cost_run}
+use Rattle.qoi.proofs.shortness.Costs.{some_diff-from, some_luma-from, bounds, cost_fresh, cost_repeat, cost_run}
 
 -- a chunk other than a run is no shorter than the least of its pixel
 pub least_bounds : (past : Past) (c : Chunk) → IsChunk c → NamesPixelThere past c → is_run c ≡ false → least past (pixel_after past c) ≤ length (bytes_of c)
-least_bounds past (Place i) k r o = least_seen past (seen past i) (ap (seen past) r)
-least_bounds past (Diff d) k r o = least_diff past _ (some_diff-from (previous past) _ d k refl)
-least_bounds past (Luma d e) k r o = least_luma past _ (some_luma-from (previous past) _ d e k refl)
+least_bounds past (Place i) k r o = (bounds past (seen past i)).place (ap (seen past) r)
+least_bounds past (Diff d) k r o = (bounds past _).diff (some_diff-from (previous past) _ d k refl)
+least_bounds past (Luma d e) k r o = (bounds past _).luma (some_luma-from (previous past) _ d e k refl)
 least_bounds past (Run n) k r o = absurd (cc)
-least_bounds past (Rgb x y z) k r o = least_rgb past _ (some_rgb-from (previous past) _ refl)
-least_bounds past (Rgba x y z w) k r o = least_high past (pixel_after past (Rgba x y z w))
+least_bounds past (Rgb x y z) k r o = (bounds past (pixel_after past (Rgb x y z))).rgb refl
+least_bounds past (Rgba x y z w) k r o = (bounds past (pixel_after past (Rgba x y z w))).high
 
 -- the pixels of a beginning cost no more
 cost_front : (shortest : Past → RgbaPixel → ℕ) (more past : Past) → total_cost shortest past ≤ total_cost shortest (more ++ past)
@@ -31,11 +30,14 @@ module _ (shortest : Past → RgbaPixel → ℕ) (Allowed : Past → Chunk → T
     (bounds : (past : Past) (c : Chunk) → IsChunk c → Allowed past c → is_run c ≡ false → shortest past (pixel_after past c) ≤ length (bytes_of c)) where
   -- a pixel costs no more than a chunk that gives it
   cost_other : (past : Past) (c : Chunk) → IsChunk c → Allowed past c → is_run c ≡ false → cost shortest past (pixel_after past c) ≤ length (bytes_of c)
-  cost_other past c k a o = elim (cases_pixel (pixel_after past c) (previous past)) as (λ _. cost shortest past (pixel_after past c) ≤ length (bytes_of c)) [
-    | inl e ↦ rw (cost_repeat shortest past (pixel_after past c) e)
-        (cond_both (eqb (trailing_repeats past % 62) 0) 1 0 (λ x. x ≤ length (bytes_of c)) (λ _. (length-bytes_of c).0) (λ _. omega arith))
-    | inr n ↦ rw (cost_fresh shortest past (pixel_after past c) n) (bounds past c k a o)
-  ]
+  cost_other past c k a o = grind (
+    arith,
+    cost_repeat shortest past (pixel_after past c),
+    cost_fresh shortest past (pixel_after past c),
+    cases_pixel (pixel_after past c) (previous past),
+    bounds past c k a o,
+    (length-bytes_of c).0,
+  )
 
   -- the pixels that a chunk gives cost no more than it
   cost_chunk : (past : Past) (c : Chunk) → IsChunk c → Allowed past c → total_cost shortest (then_chunk past c) ≤ total_cost shortest past + length (bytes_of c)

@@ -14,16 +14,12 @@ use Rattle.qoi.proofs.encoding.lists.NotedPixels.{seen_same, seen_other}
 use Rattle.qoi.proofs.format.ChunkSteps.{given, then_chunks_given}
 use Rattle.qoi.proofs.encoding.lists.WrittenGrows.{all_back, all_reverse}
 
--- an index chunk that is chosen names the index position of its pixel
-place_named : (past : Past) (i : ℕ) → IsChoice past (seen past i) (Place i) → hash (seen past i) ≡ i
-place_named past i w = elim (cases_pixel (noted past (hash (seen past i))) (seen past i)) as (λ _. hash (seen past i) ≡ i) [
-  | inl e ↦ let s = w.place e in cc
-  | inr n ↦ let s = (w.spelled n).spells in absurd (omega arith)
-]
-
 -- an index position that an allowed chunk names is its pixel's
 right_named : (past : Past) (c : Chunk) → IsAllowedAfter IsChoice past c → NamesPixelThere past c
-right_named past (Place i) r = place_named past i r.is_chosen
+right_named past (Place i) r = elim (cases_pixel (noted past (hash (seen past i))) (seen past i)) as (λ _. hash (seen past i) ≡ i) [
+  | inl e ↦ let s = r.is_chosen.place e in cc
+  | inr n ↦ let s = (r.is_chosen.spelled n).spells in absurd (omega arith)
+]
 right_named past c r = tt
 
 -- what follows from P holds of each chunk if P does

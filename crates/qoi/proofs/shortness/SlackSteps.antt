@@ -75,82 +75,57 @@ record Differs (past : Past) (i : ℕ) : Type 0 where
   pub nothing : first_at past ≡ None
   pub last : seen past i ≡ start
 
--- a repeat keeps the first fresh pixel
-first_at-repeat : (past : Past) (p : RgbaPixel) → p ≡ previous past → first_at (p ∷ past) ≡ first_at past
-first_at-repeat past p e = ap (λ x. find (λ p. eqb (hash p) (hash start)) (reverse x)) (fresh_repeat past p e)
-
--- so does a fresh pixel of another index position
-first_at-other : (past : Past) (p : RgbaPixel) → p ≢ previous past → hash p ≢ hash start → first_at past ≡ None → first_at (p ∷ past) ≡ None
-first_at-other past p n other h =
-    first_at-fresh past p n
-    ∙ find-append (λ p. eqb (hash p) (hash start)) (reverse (fresh past)) (p ∷ [])
-    ∙ ap (λ x. option_or x (find (λ p. eqb (hash p) (hash start)) (p ∷ []))) h
-    ∙ cond-false (eqb (hash p) (hash start)) (Some p) None (ne_eqb _ _ other)
-
 -- the seen pixel is the noted one, or they differ
 noted_or_differs : (past : Past) (i : ℕ) → (seen past i ≡ noted past i) ⊎ Differs past i
 noted_or_differs [] i = inl refl
 noted_or_differs (q ∷ past) i = go past (cases_pixel q (previous past)) (cases_eq (hash q) i) (noted_or_differs past i)
   where
-    still : (past : Past) → Differs past i → first_at (q ∷ past) ≡ None → seen (q ∷ past) i ≡ start → Differs (q ∷ past) i
-    still past d nothing last = record { place = d.place; opened = opens_more past q d.opened; nothing = nothing; last = last }
+    -- they still differ
+    still : (past : Past) → Differs past i → (q ≢ previous past → hash q ≢ hash start) → seen (q ∷ past) i ≡ start → Differs (q ∷ past) i
+    still past d other last = record { place = d.place; opened = opens_more past q d.opened; nothing = none (cases_pixel q (previous past)); last = last }
+      where
+        none : (q ≡ previous past) ⊎ (q ≢ previous past) → first_at (q ∷ past) ≡ None
+        none (inl e) = ap (λ x. find (λ p. eqb (hash p) (hash start)) (reverse x)) (fresh_repeat past q e) ∙ d.nothing
+        none (inr n) =
+            first_at-fresh past q n ∙ find-append (λ p. eqb (hash p) (hash start)) (reverse (fresh past)) (q ∷ [])
+            ∙ ap (λ x. option_or x (find (λ p. eqb (hash p) (hash start)) (q ∷ []))) d.nothing
+            ∙ cond-false (eqb (hash q) (hash start)) (Some q) None (ne_eqb _ _ (other n))
 
     repeat_here : (past : Past) → q ≡ previous past → hash q ≡ i → (seen past i ≡ noted past i) ⊎ Differs past i
         → (seen (q ∷ past) i ≡ noted (q ∷ past) i) ⊎ Differs (q ∷ past) i
     repeat_here [] e same h = inr (record {
       place = sym same ∙ ap hash e;
       opened = rw e (pixel_eq-same start);
-      nothing = first_at-repeat [] q e;
+      nothing = ap (λ x. find (λ p. eqb (hash p) (hash start)) (reverse x)) (fresh_repeat [] q e);
       last = seen_same [] q i same ∙ e;
     })
-    repeat_here (r ∷ past) e same (inl h) = inl (seen_same (r ∷ past) q i same ∙ e ∙ sym (seen_same past r i (ap hash (sym e) ∙ same)) ∙ h
-        ∙ sym (noted_repeat (r ∷ past) q i e))
-    repeat_here (r ∷ past) e same (inr d) = inr (still (r ∷ past) d (first_at-repeat (r ∷ past) q e ∙ d.nothing)
-        (seen_same (r ∷ past) q i same ∙ e ∙ sym (seen_same past r i (ap hash (sym e) ∙ same)) ∙ d.last))
-
-    noted_here : (past : Past) → q ≢ previous past → hash q ≡ i → noted (q ∷ past) i ≡ q
-    noted_here past n same = noted_fresh past q i n ∙ cond-true (eqb (hash q) i) q (noted past i) (eq-eqb _ _ same)
-
-    noted_there : (past : Past) → q ≢ previous past → hash q ≢ i → noted (q ∷ past) i ≡ noted past i
-    noted_there past n other = noted_fresh past q i n ∙ cond-false (eqb (hash q) i) q (noted past i) (ne_eqb _ _ other)
+    repeat_here (r ∷ past) e same (inl h) = inl (grind (arith, h, e, same, noted_repeat (r ∷ past) q i e))
+    repeat_here (r ∷ past) e same (inr d) = inr (still (r ∷ past) d (λ n. absurd (n e)) (grind (arith, d.last, e, same)))
 
     go : (past : Past) → (q ≡ previous past) ⊎ (q ≢ previous past) → (hash q ≡ i) ⊎ (hash q ≢ i) → (seen past i ≡ noted past i) ⊎ Differs past i
         → (seen (q ∷ past) i ≡ noted (q ∷ past) i) ⊎ Differs (q ∷ past) i
     go past (inl e) (inl same) h = repeat_here past e same h
+    go past n (inr other) (inr d) = inr (still past d (λ _ s. other (s ∙ sym d.place)) (seen_other past q i other ∙ d.last))
     go past (inl e) (inr other) (inl h) = inl (seen_other past q i other ∙ h ∙ sym (noted_repeat past q i e))
-    go past (inl e) (inr other) (inr d) = inr (still past d (first_at-repeat past q e ∙ d.nothing) (seen_other past q i other ∙ d.last))
-    go past (inr n) (inl same) h = inl (seen_same past q i same ∙ sym (noted_here past n same))
-    go past (inr n) (inr other) (inl h) = inl (seen_other past q i other ∙ h ∙ sym (noted_there past n other))
-    go past (inr n) (inr other) (inr d) =
-        inr (still past d (first_at-other past q n (λ s. other (s ∙ sym d.place)) d.nothing) (seen_other past q i other ∙ d.last))
-
--- if they differ there is no slack so far
-slack_before : (n : ℕ) (past : Past) (i : ℕ) → Differs past i → slack_at n past ≡ 0
-unfolding slack_at
-slack_before n past i d = cond-false (opens past && is_start (first_at past)) n 0 (and_right (opens past) _ (ap is_start d.nothing))
-
--- and if opaque black comes again there is
-slack_after : (n : ℕ) (past : Past) (i : ℕ) (p : RgbaPixel) → Differs past i → p ≢ previous past → p ≡ start → slack_at n (p ∷ past) ≡ n
-unfolding slack_at
-slack_after n past i p d f e = cond-true (opens (p ∷ past) && is_start (first_at (p ∷ past))) n 0
-    (and_from _ _ (opens_more past p d.opened) (ap is_start found ∙ pixel_eq-from p start e))
-  where
-    found : first_at (p ∷ past) ≡ Some p
-    found =
-        first_at-fresh past p f
-        ∙ find-append (λ p. eqb (hash p) (hash start)) (reverse (fresh past)) (p ∷ [])
-        ∙ ap (λ x. option_or x (find (λ p. eqb (hash p) (hash start)) (p ∷ []))) d.nothing
-        ∙ cond-true (eqb (hash p) (hash start)) (Some p) None (eq-eqb _ _ (ap hash e))
+    go past (inr n) (inl same) h = inl (seen_same past q i same ∙ sym (noted_fresh past q i n ∙ cond-true (eqb (hash q) i) q (noted past i) (eq-eqb _ _ same)))
+    go past (inr n) (inr other) (inl h) =
+        inl (seen_other past q i other ∙ h ∙ sym (noted_fresh past q i n ∙ cond-false (eqb (hash q) i) q (noted past i) (ne_eqb _ _ other)))
 
 -- So if a fresh pixel is seen at its index position, but not noted there, the slack grows from none
 -- to all.
 pub slack_grows : (n : ℕ) (past : Past) (p : RgbaPixel) → p ≢ previous past → noted past (hash p) ≢ p → seen past (hash p) ≡ p
     → slack_at n past + n ≡ slack_at n (p ∷ past)
+unfolding slack_at
 slack_grows n past p f other s = elim (noted_or_differs past (hash p)) as (λ _. slack_at n past + n ≡ slack_at n (p ∷ past)) [
   | inl e ↦ absurd (other (sym e ∙ s))
   | inr d ↦
-      let x = slack_before n past (hash p) d in
-      let y = slack_after n past (hash p) p d f (sym s ∙ d.last) in
+      let found : first_at (p ∷ past) ≡ Some p = first_at-fresh past p f
+      ∙ find-append (λ p. eqb (hash p) (hash start)) (reverse (fresh past)) (p ∷ [])
+      ∙ ap (λ x. option_or x (find (λ p. eqb (hash p) (hash start)) (p ∷ []))) d.nothing
+      ∙ cond-true (eqb (hash p) (hash start)) (Some p) None (eq-eqb _ _ d.place) in
+      let none = cond-false (opens past && is_start (first_at past)) n 0 (and_right (opens past) _ (ap is_start d.nothing)) in
+      let all = cond-true (opens (p ∷ past) && is_start (first_at (p ∷ past))) n 0
+      (and_from _ _ (opens_more past p d.opened) (ap is_start found ∙ pixel_eq-from p start (sym s ∙ d.last))) in
       omega arith
 ]
 

@@ -1,5 +1,5 @@
 -- No chunk list at all is shorter than the tight one.
-use Rattle.std.proofs.Common.{◌≡◌, ◌≢◌, ◌⊎◌, inl, inr, ℕ, ◌+◌, ◌≤◌, true, false, ◌&&◌, List, [], ◌∷◌, length, reverse, None, is_some, refl, sym, ap, ◌∙◌, append-nil, arith}
+use Rattle.std.proofs.Common.{◌≡◌, ◌⊎◌, inl, inr, ℕ, ◌+◌, ◌≤◌, true, false, ◌&&◌, List, [], ◌∷◌, length, reverse, None, is_some, refl, sym, ap, ◌∙◌, append-nil, arith}
 use Rattle.std.proofs.lemmas.Bool.{cond-true, and_from}
 use Rattle.qoi.specs.declared.chunk.Chunk.{Chunk}
 use Rattle.qoi.specs.declared.chunk.Chunk.TheVariants.{Place}
@@ -12,19 +12,19 @@ use Rattle.qoi.specs.Styles.{is_run}
 use Rattle.qoi.specs.Tight.{is_unseen, least_unseen, IsTightChoice, least0, floor0}
 use Rattle.qoi.proofs.format.SamePixels.{cases_pixel, pixel_eq-from, pixel_eq-true}
 use Rattle.qoi.proofs.encoding.styles.TightChoice.{unseen_blank, unseen_or, unseen_some, by_tight}
-use Rattle.qoi.proofs.shortness.Costs.{least_low, least_seen, cost_fresh, cost_repeat}
+use Rattle.qoi.proofs.shortness.Costs.{bounds, cost_fresh, cost_repeat}
 use Rattle.qoi.proofs.shortness.Lower.{least_bounds, lower_by}
 use Rattle.qoi.proofs.shortness.Upper.{first_least, upper_by}
 
 -- a fresh pixel costs at least a byte
 least0_low : (past : Past) (p : RgbaPixel) → 1 ≤ least0 past p
 unfolding least0
-least0_low past p = grind (arith, least_low past p)
+least0_low past p = grind (arith, bounds past p)
 
 -- and no more than in a regular list
 least0_high : (past : Past) (p : RgbaPixel) → least0 past p ≤ least past p
 unfolding least0
-least0_high past p = grind (arith, least_low past p)
+least0_high past p = grind (arith, bounds past p)
 
 -- transparent black costs a byte if a position is unseen
 least0_unseen : (past : Past) (p : RgbaPixel) → p ≡ blank → is_some (least_unseen past) ≡ true → least0 past p ≡ 1
@@ -42,7 +42,7 @@ least0_bounds past (Place i) k _ o = go (unseen_or past i)
   where
     go : (is_unseen past i ≡ true) ⊎ (hash (seen past i) ≡ i) → least0 past (seen past i) ≤ 1
     go (inl e) = let h = least0_unseen past (seen past i) (unseen_blank past i e) (unseen_some past i k e) in omega arith
-    go (inr h) = let a = least0_high past (seen past i) in let b = least_seen past (seen past i) (ap (seen past) h) in omega arith
+    go (inr h) = let a = least0_high past (seen past i) in let b = (bounds past (seen past i)).place (ap (seen past) h) in omega arith
 least0_bounds past c k _ o = let a = least0_high past (pixel_after past c) in let b = least_bounds past c k tt o in omega arith
 
 -- each list is allowed
@@ -74,11 +74,10 @@ tight_exact image cs w =
 -- if a pixel's shortest chunk is no longer, pixels cost no more
 costs_less : (s t : Past → RgbaPixel → ℕ) → ((past : Past) (p : RgbaPixel) → s past p ≤ t past p) → (past : Past) → total_cost s past ≤ total_cost t past
 costs_less s t less [] = omega arith
-costs_less s t less (p ∷ past) = let one = go (cases_pixel p (previous past)) in let more = costs_less s t less past in omega arith
+costs_less s t less (p ∷ past) = let more = costs_less s t less past in omega (arith, one)
   where
-    go : (p ≡ previous past) ⊎ (p ≢ previous past) → cost s past p ≤ cost t past p
-    go (inl e) = rw (cost_repeat s past p e, cost_repeat t past p e) (omega arith)
-    go (inr n) = rw (cost_fresh s past p n, cost_fresh t past p n) (less past p)
+    one : cost s past p ≤ cost t past p
+    one = grind (arith, cost_repeat s past p, cost_repeat t past p, cost_fresh s past p, cost_fresh t past p, cases_pixel p (previous past), less past p)
 
 -- so the floor isn't higher than for regular lists
 pub floor0_high : (image : List RgbaPixel) → floor0 image ≤ floor image

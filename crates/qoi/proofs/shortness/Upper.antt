@@ -1,20 +1,19 @@
 -- The written list has at most the bytes that the pixels cost and those of the slack.
-use Rattle.std.proofs.Common.{◌≡◌, ◌≢◌, ◌⊎◌, inl, inr, ℕ, zero, suc, ◌+◌, ◌*◌, ◌%◌, ◌<◌, ◌≤◌, false, List, [], ◌∷◌, ◌++◌, length, reverse, replicate, refl, sym, ap, ◌∙◌, arith}
+use Rattle.std.proofs.Common.{◌≡◌, ◌≢◌, ℕ, zero, suc, ◌+◌, ◌%◌, ◌<◌, ◌≤◌, false, List, [], ◌∷◌, ◌++◌, length, reverse, replicate, refl, sym, ap, ◌∙◌, arith}
 use Rattle.std.proofs.lemmas.Bool.{false_from_ne_true}
 use Rattle.std.proofs.lemmas.List.{length-append, reverse-reverse}
 use Rattle.qoi.specs.declared.chunk.Chunk.{Chunk}
-use Rattle.qoi.specs.declared.chunk.Chunk.TheVariants.{Place, Diff, Luma, Run, Rgb, Rgba}
+use Rattle.qoi.specs.declared.chunk.Chunk.TheVariants.{Diff, Luma, Run, Rgb, Rgba}
 use Rattle.qoi.specs.Qoi.{RgbaPixel, Past, previous, seen, hash, IsChunk, AreChunks, pixel_after, bytes_of, chunk_bytes, then_chunk, then_chunks, Each}
 use Rattle.qoi.specs.Raw.{HasChannels}
 use Rattle.qoi.specs.Written.{rank, noted, IsFirst, IsChoice, GivesFresh, IsAllowedAfter, IsFullBefore, RunsFollowFull, WrittenBy, Written}
-use Rattle.qoi.specs.Shortest.{some_diff, some_luma, some_rgb, least, trailing_repeats, total_cost, floor, slack}
+use Rattle.qoi.specs.Shortest.{some_diff, some_luma, least, trailing_repeats, total_cost, floor, slack}
 use Rattle.qoi.proofs.format.SamePixels.{cases_pixel, same_pixel}
 use Rattle.qoi.specs.Styles.{is_run}
 use Rattle.qoi.proofs.format.ChunkSteps.{times_other, right_other, then_other}
-use Rattle.qoi.proofs.encoding.lists.WrittenGrows.{all_reverse}
-use Rattle.qoi.proofs.shortness.Costs.{some_diff-true, some_luma-true, some_rgb-true, least_low, least_over_1, least_over_2, least_over_4, cost_fresh, cost_run, repeats_run, repeats_fresh}
+use Rattle.qoi.proofs.shortness.Costs.{some_diff-true, some_luma-true, bounds, cost_fresh, cost_run, repeats_run, repeats_fresh}
 use Rattle.qoi.proofs.shortness.SlackSteps.{slack_at, slack_is, slack_more, slack_grows}
-use Rattle.qoi.proofs.encoding.lists.WrittenShape.{channels_before, chunk_fits, choice_rgba}
+use Rattle.qoi.proofs.encoding.lists.WrittenShape.{channels_all, channels_before, chunk_fits, choice_rgba}
 
 -- if the first chunk is no Diff, no Diff gives the pixel
 no_diff : (past : Past) (p : RgbaPixel) (c : Chunk) → IsFirst past p c → 1 < rank c → some_diff (previous past) p ≡ false
@@ -31,53 +30,42 @@ no_luma past p c f h = false_from_ne_true _ (λ t.
     omega arith)
 
 -- if it is an Rgba, alpha changes
-no_rgb : (past : Past) (p : RgbaPixel) (c : Chunk) → IsChunk c → IsFirst past p c → 3 < rank c → some_rgb (previous past) p ≡ false
-no_rgb past p (Rgba r g b a) i f h = false_from_ne_true _ (λ t.
-    let w = some_rgb-true (previous past) p t in
+no_rgb : (past : Past) (p : RgbaPixel) (r g b a : ℕ) → IsChunk (Rgba r g b a) → IsFirst past p (Rgba r g b a) → p.a ≢ (previous past).a
+no_rgb past p r g b a i f stays =
     let l = f.first (Rgb r g b) (i.0, i.1, i.2) (omega arith)
-    (same_pixel _ p (ap (λ x. x.r) f.gives) (ap (λ x. x.g) f.gives) (ap (λ x. x.b) f.gives) (sym w)) in
-    omega arith)
-no_rgb past p c i f h = absurd (omega arith)
+    (same_pixel _ p (ap (λ x. x.r) f.gives) (ap (λ x. x.g) f.gives) (ap (λ x. x.b) f.gives) (sym stays)) in
+    omega arith
 
 -- the first chunk that spells a pixel out is no longer than the least, if the pixel isn't seen
 pub first_least : (past : Past) (p : RgbaPixel) (c : Chunk) → IsChunk c → IsFirst past p c → seen past (hash p) ≢ p → length (bytes_of c) ≤ least past p
-first_least past p (Diff d) i f n = least_low past p
-first_least past p (Luma d e) i f n = least_over_1 past p n (no_diff past p _ f (omega arith))
-first_least past p (Rgb r g b) i f n = least_over_2 past p n (no_diff past p _ f (omega arith)) (no_luma past p _ f (omega arith))
-first_least past p (Rgba r g b a) i f n = least_over_4 past p n (no_diff past p _ f (omega arith)) (no_luma past p _ f (omega arith))
-    (no_rgb past p _ i f (omega arith))
+first_least past p (Diff d) i f n = (bounds past p).low
+first_least past p (Luma d e) i f n = (bounds past p).no_diff n (no_diff past p _ f (omega arith))
+first_least past p (Rgb r g b) i f n = (bounds past p).no_luma n (no_diff past p _ f (omega arith)) (no_luma past p _ f (omega arith))
+first_least past p (Rgba r g b a) i f n = (bounds past p).no_rgb n (no_diff past p _ f (omega arith)) (no_luma past p _ f (omega arith))
+    (no_rgb past p r g b a i f)
 first_least past p c i f n = let s = f.spells in absurd (omega arith)
 
 -- a fresh pixel's chosen chunk is no longer than the least, but for what the slack grows by
 fresh_cost : (channels : ℕ) (past : Past) (c : Chunk) → IsChunk c → HasChannels (then_chunk past c) channels → is_run c ≡ false → GivesFresh IsChoice past c
     → IsAllowedAfter IsChoice past c → length (bytes_of c) + slack_at channels past ≤ least past (pixel_after past c) + slack_at channels (pixel_after past c ∷ past)
-fresh_cost channels past c i h o g r = go (cases_pixel (noted past (hash (pixel_after past c))) (pixel_after past c))
-    (cases_pixel (seen past (hash (pixel_after past c))) (pixel_after past c))
-  where
-    low : 1 ≤ least past (pixel_after past c)
-    low = least_low past (pixel_after past c)
-
-    grows : slack_at channels past ≤ slack_at channels (pixel_after past c ∷ past)
-    grows = slack_more channels past (pixel_after past c)
-
-    one : (d : Chunk) (j : ℕ) → d ≡ Place j → length (bytes_of d) ≡ 1
-    one d j e = rw e refl
-
-    go : (noted past (hash (pixel_after past c)) ≡ pixel_after past c) ⊎ (noted past (hash (pixel_after past c)) ≢ pixel_after past c)
-        → (seen past (hash (pixel_after past c)) ≡ pixel_after past c) ⊎ (seen past (hash (pixel_after past c)) ≢ pixel_after past c)
-        → length (bytes_of c) + slack_at channels past ≤ least past (pixel_after past c) + slack_at channels (pixel_after past c ∷ past)
-    go (inl e) s = let l = one c _ (g.is_chosen.place e) in let a = low in let b = grows in omega arith
-    go (inr n) (inl s) =
-        let x = slack_grows channels past (pixel_after past c) g.is_fresh n s in
-        let f = chunk_fits IsChoice choice_rgba channels past c i h r in
-        let t = times_other c o in
-        let f1 : length (bytes_of c) ≤ 1 * channels + 1 = rw t at f in
-        let a = low in
-        omega arith
-    go (inr n) (inr u) =
-        let f = first_least past (pixel_after past c) c i (g.is_chosen.spelled n) u in
-        let b = grows in
-        omega arith
+fresh_cost channels past c i h o g r =
+    let p = pixel_after past c in
+    let place : noted past (hash p) ≡ p → length (bytes_of c) ≡ 1 = (λ e. rw (g.is_chosen.place e) refl) in
+    let most = chunk_fits IsChoice choice_rgba channels past c i h r in
+    let least_is : noted past (hash p) ≢ p → seen past (hash p) ≢ p → length (bytes_of c) ≤ least past p
+    = (λ n u. first_least past p c i (g.is_chosen.spelled n) u) in
+    grind (
+      arith,
+      place,
+      most,
+      least_is,
+      times_other c o,
+      (bounds past p).low,
+      slack_more channels past p,
+      slack_grows channels past p g.is_fresh,
+      cases_pixel (noted past (hash p)) p,
+      cases_pixel (seen past (hash p)) p,
+    )
 
 -- a run begins at a multiple of 62 repeats
 abbrev Aligned : Past → List Chunk → Type 0
@@ -137,15 +125,10 @@ module _ (shortest : Past → RgbaPixel → ℕ) (Choice : Past → RgbaPixel �
       → length (chunk_bytes cs) ≤ total_cost shortest (reverse image) + extra (reverse image)
   upper_by image cs h w =
       let e : then_chunks [] cs ≡ reverse image = sym (reverse-reverse (then_chunks [] cs)) ∙ ap reverse w.means in
-      let k : HasChannels (then_chunks [] cs) channels = rw e (back h) in
-      let u = all_fit [] cs w.chunks k w.allowed w.full (at_start cs) in
+      let u = all_fit [] cs w.chunks (channels_all channels image cs w.means h) w.allowed w.full (at_start cs) in
       let v : length (chunk_bytes cs) + 0 + extra [] ≤ total_cost shortest (reverse image) + extra (reverse image) = rw e at u in
       omega arith
     where
-      back : HasChannels image channels → HasChannels (reverse image) channels
-      back (inl s) = inl s
-      back (inr s) = inr (s.0, all_reverse (λ p. p.a ≡ 255) image s.1)
-
       at_start : (cs : List Chunk) → Aligned [] cs
       at_start [] = tt
       at_start (Run n ∷ cs) = refl

@@ -1,7 +1,7 @@
 //! Laws of the chunk list that is written for an image. They compute whole images and files, so
 //! they import types and variants besides the definitions.
-ghost use Rattle.std.specs.Prelude.{◌≡◌, ◌≢◌, ◌↔◌, ℕ, ◌+◌, ◌-◌, ◌*◌, ◌/◌, ◌<◌, ◌≤◌, List, [], ◌∷◌, ◌++◌, length, replicate, map, None, Some};
-ghost use Rattle.std.specs.List.{AllByRecursion, range_with_len};
+ghost use Rattle.std.specs.Prelude.{◌≡◌, ◌≢◌, ◌↔◌, ℕ, ◌+◌, ◌-◌, ◌*◌, ◌/◌, ◌<◌, ◌≤◌, List, [], ◌∷◌, ◌++◌, length, replicate};
+ghost use Rattle.std.specs.List.{AllByRecursion};
 ghost use Rattle.qoi.specs.declared.chunk.Chunk.{Chunk};
 ghost use Rattle.qoi.specs.declared.header.Header.{Header};
 ghost use Rattle.qoi.specs.declared.types.Channels.{Channels};
@@ -14,7 +14,7 @@ ghost use Rattle.qoi.specs.Encoded.{max_len, image_file, IsFileLength, IsFileOf}
 ghost use Rattle.qoi.specs.Raw.{IsChannels, image_byte_count, output, pixels_of, HasChannels};
 ghost use Rattle.qoi.specs.Regular.{Begins, Covers, Regular};
 ghost use Rattle.qoi.specs.Shortest.{floor, trailing_repeats, slack, total_cost};
-ghost use Rattle.qoi.specs.Tight.{first_and_fresh, IsTightChoice, floor0, least_unseen};
+ghost use Rattle.qoi.specs.Tight.{first_and_fresh, IsTightChoice, floor0};
 ghost use Rattle.qoi.specs.Written.{WrittenBy, Written};
 ghost use Rattle.qoi.specs.Styles.{in_style, WrittenIn};
 
@@ -37,28 +37,6 @@ pub fn styles_are_written()
         → WrittenIn Places image ds → length (chunk_bytes ds) ≡ length (chunk_bytes cs) }
     ensures tight { (image : List RgbaPixel) (cs : List Chunk) → WrittenBy IsTightChoice image cs
         ↔ WrittenIn Tight image cs }
-{}
-
-/// The lists of style `Places` for the written lists of a few images.
-#[tactic(auto, unfolding(crate::specs::Qoi::pixel_eq, crate::specs::Qoi::start, crate::specs::Qoi::blank, crate::specs::Qoi::hash, crate::specs::Qoi::after_diff, crate::specs::Qoi::after_luma))]
-pub fn places_examples()
-    ensures single { in_style Places (Rgb 101 102 103 ∷ Run 1 ∷ Rgb 1 2 3 ∷ [])
-        ≡ Rgb 101 102 103 ∷ Place 51 ∷ Rgb 1 2 3 ∷ [] }
-    ensures after_its_place { in_style Places
-        (Rgb 101 102 103 ∷ Rgb 1 2 3 ∷ Place 51 ∷ Run 1 ∷ Place 23 ∷ [])
-        ≡ Rgb 101 102 103 ∷ Rgb 1 2 3 ∷ Place 51 ∷ Run 1 ∷ Place 23 ∷ [] }
-    ensures after_a_full_run { in_style Places (Rgb 101 102 103 ∷ Run 62 ∷ Run 1 ∷ Rgb 1 2 3 ∷ [])
-        ≡ Rgb 101 102 103 ∷ Run 62 ∷ Place 51 ∷ Rgb 1 2 3 ∷ [] }
-    ensures two { in_style Places (Rgb 101 102 103 ∷ Run 2 ∷ Rgb 1 2 3 ∷ [])
-        ≡ Rgb 101 102 103 ∷ Run 2 ∷ Rgb 1 2 3 ∷ [] }
-    ensures after_repeats { in_style Places (Run 62 ∷ Run 1 ∷ Rgb 101 102 103 ∷ [])
-        ≡ Run 62 ∷ Run 1 ∷ Rgb 101 102 103 ∷ [] }
-    ensures at_the_end { in_style Places (Rgb 101 102 103 ∷ Run 1 ∷ [])
-        ≡ Rgb 101 102 103 ∷ Run 1 ∷ [] }
-    ensures at_the_start { in_style Places (Run 1 ∷ Rgb 101 102 103 ∷ [])
-        ≡ Run 1 ∷ Rgb 101 102 103 ∷ [] }
-    ensures blank { in_style Places (Place 0 ∷ Run 1 ∷ Rgba 1 2 3 4 ∷ [])
-        ≡ Place 0 ∷ Run 1 ∷ Rgba 1 2 3 4 ∷ [] }
 {}
 
 /// Two neighbouring chunks of a written list never name the same index position.
@@ -146,28 +124,6 @@ pub fn group_cost()
     ensures { (shortest : Past → RgbaPixel → ℕ) (past : Past) (n : ℕ) → trailing_repeats past ≡ 0
         → total_cost shortest (replicate n (previous past) ++ past)
         ≡ total_cost shortest past + (n + (run_max - 1)) / run_max }
-{}
-
-/// The floors and the slack of a few images, and the least index position where no pixel was put.
-pub fn shortest_examples()
-    ensures black_again_rgb { (P : List RgbaPixel) → P ≡ start ∷ pixel 101 102 103 255 ∷ start ∷ []
-        → (floor0 P ≡ 6) × (floor P ≡ 6) × (slack P 3 ≡ 3) }
-    ensures black_again_rgba { (P : List RgbaPixel) → P ≡ start ∷ pixel 101 102 103 104 ∷ start ∷ []
-        → (floor0 P ≡ 7) × (floor P ≡ 7) × (slack P 4 ≡ 4) }
-    ensures black_overwritten { (P : List RgbaPixel) → P ≡ start ∷ pixel 1 99 2 255 ∷ start ∷ []
-        → (floor0 P ≡ 9) × (floor P ≡ 9) × (slack P 3 ≡ 0) }
-    ensures black_back_and_forth { floor (start ∷ pixel 101 102 103 255 ∷ start
-        ∷ pixel 101 102 103 255 ∷ start ∷ []) ≡ 8 }
-    ensures black_twice { floor (start ∷ start ∷ []) ≡ 1 }
-    ensures black_many { floor (replicate 63 start ++ pixel 101 102 103 104 ∷ start ∷ []) ≡ 8 }
-    ensures blank_without_place { (P : List RgbaPixel)
-        → P ≡ pixel 64 0 0 0 ∷ blank ∷ pixel 64 0 0 0 ∷ blank ∷ []
-        → (floor0 P ≡ 11) × (floor P ≡ 17) }
-    ensures opens_with_color { slack (pixel 101 102 103 255 ∷ start ∷ []) 3 ≡ 0 }
-    ensures first_unseen { least_unseen [] ≡ Some 0 }
-    ensures next_unseen { least_unseen (pixel 64 0 0 0 ∷ []) ≡ Some 1 }
-    ensures last_unseen { least_unseen (map (λ r. pixel r 0 0 0) (range_with_len 0 63)) ≡ Some 61 }
-    ensures none_unseen { least_unseen (map (λ r. pixel r 0 0 0) (range_with_len 0 64)) ≡ None }
 {}
 
 /// The slack is reached. Opaque black, a color and opaque black again are written in 9 bytes in

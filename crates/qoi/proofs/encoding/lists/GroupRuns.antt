@@ -22,19 +22,21 @@ none_of_few n (a ∷ b ∷ c ∷ d ∷ rest) (inr e) h = absurd (omega arith)
 none_of_few n _ (inl e) h = rw e refl
 none_of_few n _ (inr e) h = rw e refl
 
+-- the member at index k is the first after k members
+pub nth_first : (k : ℕ) (xs : List RgbaPixel) → slice_get xs k ≡ slice_get (drop k xs) 0
+nth_first zero xs = refl
+nth_first (suc k) [] = refl
+nth_first (suc k) (x ∷ xs) = nth_first k xs
+
 -- n pixels that are p, and then others
 pub count_of : (p : RgbaPixel) (pixels rest : List RgbaPixel) (n : ℕ) → pixels ≡ replicate n p ++ rest → slice_get rest 0 ≢ Some p → IsCount p pixels n
 count_of p pixels rest n e other = record {
   same = e ∙ ap (λ x. replicate n p ++ x) (sym later);
-  other = λ same. other (sym (first n) ∙ ap (λ x. slice_get x n) (sym e) ∙ same);
+  other = λ same. other (ap (λ x. slice_get x 0) (sym later) ∙ sym (nth_first n pixels) ∙ same);
 }
   where
     later : drop n pixels ≡ rest
     later = ap (drop n) e ∙ ap (λ k. drop k (replicate n p ++ rest)) (sym (length-replicate n p)) ∙ drop-append_seam (replicate n p) rest
-
-    first : (n : ℕ) → slice_get (replicate n p ++ rest) n ≡ slice_get rest 0
-    first zero = refl
-    first (suc n) = first n
 
 -- The first `count` of these pixels are p, and `rest` those after them; there are at most `most`.
 pub record RepeatsSoFar (most : ℕ) (pixels rest : List RgbaPixel) (p : RgbaPixel) (count : ℕ) : Type 0 where
@@ -48,12 +50,6 @@ repeats_on most n pixels rest after p count w size more = record {
   within = omega (arith, w.within);
   same = w.same ∙ ap (λ x. replicate count p ++ x) more ∙ repeats_after count n p after;
 }
-
--- the member at index k is the first after k members
-pub nth_first : (k : ℕ) (xs : List RgbaPixel) → slice_get xs k ≡ slice_get (drop k xs) 0
-nth_first zero xs = refl
-nth_first (suc k) [] = refl
-nth_first (suc k) (x ∷ xs) = nth_first k xs
 
 -- repeats, and those that are counted after them
 pub counted_on : (p : RgbaPixel) (pixels rest : List RgbaPixel) (n more : ℕ) → pixels ≡ replicate n p ++ rest → IsCount p rest more

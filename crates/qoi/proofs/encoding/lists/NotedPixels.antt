@@ -1,9 +1,9 @@
 -- What is noted at an index position: how it changes, and that it is seen there too.
-use Rattle.std.proofs.Common.{◌≡◌, ◌≢◌, ◌⊎◌, inl, inr, ℕ, eqb, [], ◌∷◌, ◌==◌, if◌then◌else◌, refl, sym, ap, ◌∙◌, arith}
-use Rattle.std.proofs.lemmas.Bool.{cond-true, cond-false, eq-eqb, ne_eqb, cases_eq}
+use Rattle.std.proofs.Common.{◌≡◌, ◌≢◌, ℕ, eqb, [], ◌∷◌, ◌==◌, if◌then◌else◌, refl, ap, arith}
+use Rattle.std.proofs.lemmas.Bool.{cond-true, cond-false, eq-eqb, ne_eqb}
 use Rattle.qoi.specs.Qoi.{RgbaPixel, Past, pixel_eq, start, blank, hash, previous, seen}
 use Rattle.qoi.specs.Written.{fresh, noted}
-use Rattle.qoi.proofs.format.SamePixels.{pixel_eq-from, pixel_eq-ne, cases_pixel}
+use Rattle.qoi.proofs.format.SamePixels.{pixel_eq-from, pixel_eq-true, pixel_eq-ne}
 
 -- a repeat is not fresh
 pub fresh_repeat : (past : Past) (p : RgbaPixel) → p ≡ previous past → fresh (p ∷ past) ≡ fresh past
@@ -39,28 +39,17 @@ hash_blank : hash blank ≡ 0
 unfolding hash blank
 hash_blank = refl
 
--- what is noted at the position of a pixel, if it is that pixel, is seen there
+-- what is noted at the position of a pixel, if it is that pixel, is seen there: after one pixel
+noted_first : (q p : RgbaPixel) → noted (q ∷ []) (hash p) ≡ p → seen (q ∷ []) (hash p) ≡ p
+noted_first q p e = grind (arith, e, hash_start, hash_blank, pixel_eq-true q start)
+
+-- after one more
+noted_next : (q r p : RgbaPixel) (past : Past) → (noted (r ∷ past) (hash p) ≡ p → seen (r ∷ past) (hash p) ≡ p) → noted (q ∷ r ∷ past) (hash p) ≡ p
+    → seen (q ∷ r ∷ past) (hash p) ≡ p
+noted_next q r p past before e = grind (arith, before, e, pixel_eq-true q r)
+
+-- after any
 pub noted_seen : (past : Past) (p : RgbaPixel) → noted past (hash p) ≡ p → seen past (hash p) ≡ p
 noted_seen [] p e = e
-noted_seen (q ∷ past) p e = go (cases_pixel q (previous past)) (cases_eq (hash q) (hash p)) (noted_seen past p)
-  where
-    first_repeat : (past : Past) → q ≡ previous past → hash q ≡ hash p → noted past (hash p) ≡ p → seen past (hash p) ≡ p → q ≡ p
-    first_repeat [] is same noted_is seen_is =
-        let b : hash q ≡ hash blank = same ∙ ap hash (sym noted_is) in
-        let s : hash q ≡ hash start = ap hash is in
-        let x = hash_start in
-        let y = hash_blank in
-        absurd (omega arith)
-    first_repeat (r ∷ past) is same noted_is seen_is =
-        is ∙ sym (seen_same past r (hash p) (ap hash (sym is) ∙ same)) ∙ seen_is
-
-    go : (q ≡ previous past) ⊎ (q ≢ previous past) → (hash q ≡ hash p) ⊎ (hash q ≢ hash p) → (noted past (hash p) ≡ p → seen past (hash p) ≡ p)
-        → seen (q ∷ past) (hash p) ≡ p
-    go (inl is) (inl same) h =
-        let n : noted past (hash p) ≡ p = sym (noted_repeat past q (hash p) is) ∙ e in
-        seen_same past q (hash p) same ∙ first_repeat past is same n (h n)
-    go (inl is) (inr other) h = seen_other past q (hash p) other ∙ h (sym (noted_repeat past q (hash p) is) ∙ e)
-    go (inr n) (inl same) h =
-        seen_same past q (hash p) same ∙ sym (cond-true (eqb (hash q) (hash p)) _ _ (eq-eqb _ _ same)) ∙ sym (noted_fresh past q (hash p) n) ∙ e
-    go (inr n) (inr other) h =
-        seen_other past q (hash p) other ∙ h (sym (cond-false (eqb (hash q) (hash p)) _ _ (ne_eqb _ _ other)) ∙ sym (noted_fresh past q (hash p) n) ∙ e)
+noted_seen (q ∷ []) p e = noted_first q p e
+noted_seen (q ∷ r ∷ past) p e = noted_next q r p past (noted_seen (r ∷ past) p) e

@@ -5,10 +5,10 @@ use Rattle.std.proofs.lemmas.List.{reverse-append}
 use Rattle.std.proofs.lemmas.Bool.{cond-true, cond-false}
 use Rattle.std.specs.List.{AllByRecursion}
 use Rattle.qoi.specs.declared.chunk.Chunk.{Chunk}
-use Rattle.qoi.specs.declared.chunk.Chunk.TheVariants.{Place, Run}
+use Rattle.qoi.specs.declared.chunk.Chunk.TheVariants.{Place, Run, Rgba}
 use Rattle.qoi.specs.Qoi.{RgbaPixel, IsPixel, Past, pixel_eq, previous, start, hash, IsChunk, pixel_after}
 use Rattle.qoi.specs.Runs.{runs_by}
-use Rattle.qoi.specs.Written.{noted, rank, IsChoice, WrittenBy}
+use Rattle.qoi.specs.Written.{noted, rank, IsFirst, IsChoice, WrittenBy}
 use Rattle.qoi.proofs.format.SamePixels.{cases_pixel, hash_below, pixel_eq-from, pixel_eq-ne}
 use Rattle.qoi.proofs.encoding.lists.NotedPixels.{noted_seen}
 use Rattle.qoi.proofs.encoding.coder.Spelled.{first_is}
@@ -17,9 +17,18 @@ use Rattle.qoi.specs.declared.types.Style.TheVariants.{Reference}
 use Rattle.qoi.specs.Styles.{is_run, names}
 use Rattle.qoi.proofs.format.ChunkSteps.{previous_repeats}
 use Rattle.qoi.proofs.encoding.lists.WrittenGrows.{RunMayFollow, chunks_split, written_none, written_runs, written_fresh}
-use Rattle.qoi.proofs.encoding.styles.Choices.{Chooses}
 use Rattle.qoi.proofs.encoding.lists.WrittenOnce.{choice_unique}
 use Rattle.qoi.proofs.encoding.lists.WrittenShape.{choice_rgba}
+
+-- What a choice has to offer: for each fresh pixel there is one chunk, which `choose` gives, it is no
+-- run and gives the pixel, and an Rgba stands only if no shorter chunk spells the pixel out.
+pub record Chooses (Choice : Past → RgbaPixel → Chunk → Type 0) (choose : Past → RgbaPixel → Chunk) : Type 0 where
+  pub some : (past : Past) (p : RgbaPixel) → IsPixel (previous past) → IsPixel p → IsChunk (choose past p) × Choice past p (choose past p)
+  pub only : (past : Past) (p : RgbaPixel) (c d : Chunk) → IsChunk c → IsChunk d → Choice past p c → Choice past p d → c ≡ d
+  pub no_run : (past : Past) (p : RgbaPixel) (c : Chunk) → Choice past p c → is_run c ≡ false
+  pub gives : (past : Past) (p : RgbaPixel) (c : Chunk) → Choice past p c → pixel_after past c ≡ p
+  pub rgba_first : (past : Past) (r g b a : ℕ) → Choice past (pixel_after past (Rgba r g b a)) (Rgba r g b a)
+      → IsFirst past (pixel_after past (Rgba r g b a)) (Rgba r g b a)
 
 -- the pixel before the first one is a pixel
 pub is_pixel_start : IsPixel start
@@ -51,18 +60,13 @@ pub spells_no_place : (c : Chunk) (i : ℕ) → 0 < rank c → names (Some c) i 
 spells_no_place (Place j) i h = absurd (omega arith)
 spells_no_place c i h = refl
 
--- the chosen chunk of a fresh pixel gives it
-choice_gives : (past : Past) (p : RgbaPixel) (c : Chunk) → IsChoice past p c → pixel_after past c ≡ p
-choice_gives past p c w = elim (cases_pixel (noted past (hash p)) p) as (λ _. pixel_after past c ≡ p) [
-  | inl is ↦ rw (w.place is) (noted_seen past p is)
-  | inr other ↦ (w.spelled other).gives
-]
-
--- and is no run
-choice_other : (past : Past) (p : RgbaPixel) (c : Chunk) → IsChoice past p c → is_run c ≡ false
-choice_other past p c w = elim (cases_pixel (noted past (hash p)) p) as (λ _. is_run c ≡ false) [
-  | inl is ↦ rw (w.place is) refl
-  | inr other ↦ spells_other c (w.spelled other).spells
+-- what holds of the index position where the pixel is noted, and of the first chunk, holds of the
+-- choice
+by_choice : (P : Chunk → Type 0) (past : Past) (p : RgbaPixel) (c : Chunk) → IsChoice past p c → (noted past (hash p) ≡ p → P (Place (hash p)))
+    → (IsFirst past p c → P c) → P c
+by_choice P past p c w f g = elim (cases_pixel (noted past (hash p)) p) as (λ _. P c) [
+  | inl is ↦ subst P (sym (w.place is)) (f is)
+  | inr other ↦ g (w.spelled other)
 ]
 
 -- `IsChoice` has what a choice has to offer
@@ -70,8 +74,8 @@ pub chooses : Chooses IsChoice (chosen Reference)
 chooses = record {
   some = choice_some;
   only = choice_unique;
-  no_run = choice_other;
-  gives = choice_gives;
+  no_run = λ past p c w. by_choice (λ c. is_run c ≡ false) past p c w (λ _. refl) (λ f. spells_other c f.spells);
+  gives = λ past p c w. by_choice (λ c. pixel_after past c ≡ p) past p c w (noted_seen past p) (λ f. f.gives);
   rgba_first = choice_rgba;
 }
 

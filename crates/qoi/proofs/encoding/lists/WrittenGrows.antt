@@ -30,43 +30,22 @@ pub all_reverse : {A : Type 0} (P : A → Type 0) (xs : List A) → AllByRecursi
 all_reverse P [] h = tt
 all_reverse P (x ∷ xs) h = rw (reverse-append (x ∷ []) xs) (all_append P (reverse xs) (x ∷ []) (all_reverse P xs h.1) (h.0, tt))
 
--- the list without chunks at its end
-full_front : (cs ds : List Chunk) → RunsFollowFull (cs ++ ds) → RunsFollowFull cs
-full_front [] ds h = tt
-full_front (c ∷ []) ds h = (alone c, tt)
-  where
-    alone : (c : Chunk) → IsFullBefore c []
-    alone (Run n) = tt
-    alone c = tt
-full_front (c ∷ d ∷ cs) ds h = (same c d h.0, full_front (d ∷ cs) ds h.1)
-  where
-    same : (c d : Chunk) → IsFullBefore c (d ∷ (cs ++ ds)) → IsFullBefore c (d ∷ cs)
-    same (Run m) (Run n) h = h
-    same c d h = tt
+-- what may follow a chunk depends on the next one alone
+same_next : (c d : Chunk) (cs ds : List Chunk) → IsFullBefore c (d ∷ cs) → IsFullBefore c (d ∷ ds)
+same_next (Run m) (Run n) cs ds h = h
+same_next c d cs ds h = tt
 
--- the list with a chunk other than a run at its end, and then any run
-full_push : (cs : List Chunk) (c : Chunk) (n : ℕ) → is_run c ≡ false → RunsFollowFull cs → RunsFollowFull (cs ++ c ∷ Run n ∷ [])
-full_push [] c n o h = (full_other c _ o, (tt, tt))
-full_push (d ∷ []) c n o h = (full_before d c _ o, (full_other c _ o, (tt, tt)))
-full_push (d ∷ e ∷ cs) c n o h = (same d e h.0, full_push (e ∷ cs) c n o h.1)
-  where
-    same : (d e : Chunk) → IsFullBefore d (e ∷ cs) → IsFullBefore d (e ∷ (cs ++ c ∷ Run n ∷ []))
-    same (Run m) (Run n) h = h
-    same d e h = tt
+-- a list whose last chunk begins another, which follows it
+full_join : (cs ds : List Chunk) (c : Chunk) → RunsFollowFull (cs ++ c ∷ []) → RunsFollowFull (c ∷ ds) → RunsFollowFull (cs ++ c ∷ ds)
+full_join [] ds c h k = k
+full_join (d ∷ []) ds c h k = (same_next d c [] ds h.0, k)
+full_join (d ∷ e ∷ cs) ds c h k = (same_next d e (cs ++ c ∷ []) (cs ++ c ∷ ds) h.0, full_join (e ∷ cs) ds c h.1 k)
 
--- the list with a full run at its end, and then any run
-full_62 : (cs : List Chunk) (n : ℕ) → RunsFollowFull (cs ++ Run 62 ∷ []) → RunsFollowFull (cs ++ Run 62 ∷ Run n ∷ [])
-full_62 [] n h = (refl, (tt, tt))
-full_62 (d ∷ []) n h = (same d h.0, (refl, (tt, tt)))
-  where
-    same : (d : Chunk) → IsFullBefore d (Run 62 ∷ []) → IsFullBefore d (Run 62 ∷ Run n ∷ [])
-    same (Run m) h = h
-    same d h = tt
-full_62 (d ∷ e ∷ cs) n h = (same d e h.0, full_62 (e ∷ cs) n h.1)
-  where
-    same : (d e : Chunk) → IsFullBefore d (e ∷ (cs ++ Run 62 ∷ [])) → IsFullBefore d (e ∷ (cs ++ Run 62 ∷ Run n ∷ []))
-    same (Run m) (Run n) h = h
-    same d e h = tt
+-- the list with a chunk other than a run at its end
+full_push : (cs : List Chunk) (c : Chunk) → is_run c ≡ false → RunsFollowFull cs → RunsFollowFull (cs ++ c ∷ [])
+full_push [] c o h = (full_other c [] o, tt)
+full_push (d ∷ []) c o h = (full_before d c [] o, (full_other c [] o, tt))
+full_push (d ∷ e ∷ cs) c o h = (same_next d e cs (cs ++ c ∷ []) h.0, full_push (e ∷ cs) c o h.1)
 
 -- chunks after chunks
 pub chunks_split : (a b d : List Chunk) (c : Chunk) → ((a ++ b) ++ c ∷ []) ++ d ≡ a ++ (b ++ c ∷ d)
@@ -93,24 +72,16 @@ module _ (Choice : Past → RgbaPixel → Chunk → Type 0) where
         full = full;
       }
 
-  -- 62 repeats are written as a full run, and a run may follow
-  full_run : (past : Past) (cs : List Chunk) → WrittenBy Choice (reverse past) cs → RunMayFollow cs
-      → WrittenBy Choice (reverse (replicate 62 (previous past) ++ past)) (cs ++ Run 62 ∷ []) × RunMayFollow (cs ++ Run 62 ∷ [])
-  full_run past cs w may = (
-    written_append past (replicate 62 (previous past) ++ past) cs (Run 62 ∷ []) w ((omega arith, omega arith), tt) refl (tt, tt) (may 62),
-    λ n. rw append_assoc (full_62 cs n (may 62)),
-  )
-
-  -- and `m` times 62 as `m` runs
+  -- `m` times 62 repeats are written as `m` full runs, and a run may follow
   full_runs : (m : ℕ) (past : Past) (q : RgbaPixel) (cs : List Chunk) → q ≡ previous past → WrittenBy Choice (reverse past) cs → RunMayFollow cs
       → WrittenBy Choice (reverse (replicate (m * 62) q ++ past)) (cs ++ replicate m (Run 62)) × RunMayFollow (cs ++ replicate m (Run 62))
   full_runs zero past q cs is w may = rw (append-nil cs) (w, may)
   full_runs (suc m) past q cs is w may =
-      let one = full_run past cs w may in
-      let first : WrittenBy Choice (reverse (replicate 62 q ++ past)) (cs ++ Run 62 ∷ []) =
-      subst (λ p. WrittenBy Choice (reverse (replicate 62 p ++ past)) (cs ++ Run 62 ∷ [])) (sym is) one.0 in
       let again : q ≡ previous (replicate 62 q ++ past) = refl in
-      let more = full_runs m (replicate 62 q ++ past) q (cs ++ Run 62 ∷ []) again first one.1 in
+      let first = written_append past (replicate 62 q ++ past) cs (Run 62 ∷ []) w ((omega arith, omega arith), tt)
+      (ap (λ p. replicate 62 p ++ past) (sym is)) (tt, tt) (may 62) in
+      let follows : RunMayFollow (cs ++ Run 62 ∷ []) = (λ n. rw append_assoc (full_join cs (Run n ∷ []) (Run 62) (may 62) (refl, (tt, tt)))) in
+      let more = full_runs m (replicate 62 q ++ past) q (cs ++ Run 62 ∷ []) again first follows in
       let count : m * 62 + 62 ≡ suc m * 62 = omega arith in
       let pixels : replicate (m * 62) q ++ (replicate 62 q ++ past) ≡ replicate (suc m * 62) q ++ past = repeats_after (m * 62) 62 q past
       ∙ ap (λ k. replicate k q ++ past) count in
@@ -148,9 +119,6 @@ module _ (Choice : Past → RgbaPixel → Chunk → Type 0) where
       → WrittenBy Choice (reverse (p ∷ past)) (cs ++ c ∷ []) × RunMayFollow (cs ++ c ∷ [])
   written_fresh past cs p c w fresh is other gives choice = (
     written_append past (p ∷ past) cs (c ∷ []) w (is, tt) (then_other past c other ∙ ap (λ x. x ∷ past) gives)
-        (right_from Choice past c (record { is_fresh = rw gives fresh; is_chosen = rw gives choice }), tt) (full_front (cs ++ c ∷ []) (Run 1 ∷ []) (may 1)),
-    may,
+        (right_from Choice past c (record { is_fresh = rw gives fresh; is_chosen = rw gives choice }), tt) (full_push cs c other w.full),
+    λ n. rw append_assoc (full_join cs (Run n ∷ []) c (full_push cs c other w.full) (full_other c _ other, (tt, tt))),
   )
-    where
-      may : RunMayFollow (cs ++ c ∷ [])
-      may n = rw append_assoc (full_push cs c n other w.full)

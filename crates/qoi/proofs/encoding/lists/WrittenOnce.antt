@@ -5,7 +5,7 @@ use Rattle.std.proofs.lemmas.List.{append_cancel_left, length-replicate, length-
 use Rattle.qoi.specs.declared.chunk.Chunk.{Chunk}
 use Rattle.qoi.specs.declared.chunk.Chunk.TheVariants.{Diff, Luma, Run, Rgb, Rgba}
 use Rattle.qoi.specs.Qoi.{RgbaPixel, Past, previous, hash, IsChunk, AreChunks, pixel_after, times, then_chunk, after_diff, after_luma, Each}
-use Rattle.qoi.specs.Written.{noted, rank, IsFirst, IsChoice, GivesFresh, IsAllowedAfter, IsFullBefore, RunsFollowFull, WrittenBy}
+use Rattle.qoi.specs.Written.{noted, rank, IsFirst, IsChoice, GivesFresh, IsAllowedAfter, RunsFollowFull, WrittenBy}
 use Rattle.qoi.proofs.format.SamePixels.{cases_pixel}
 use Rattle.qoi.specs.Styles.{is_run}
 use Rattle.qoi.proofs.format.ChunkSteps.{cases_run, times_other, right_other, times_some, given, meaning_given}
@@ -33,19 +33,8 @@ same_kind : (past : Past) (p : RgbaPixel) (c d : Chunk) → IsChunk c → IsChun
     → pixel_after past c ≡ p → pixel_after past d ≡ p → c ≡ d
 same_kind past p (Diff d) (Diff e) ic id rc rd l g s t = ap (λ (n : ℕ). Diff n) (diff_unique (previous past) d e ic.0 ic.1 id.0 id.1 (s ∙ sym t))
 same_kind past p (Luma d e) (Luma x y) ic id rc rd l g s t = luma_unique (previous past) d e x y ic id (s ∙ sym t)
-same_kind past p (Rgb r g b) (Rgb x y z) ic id rc rd l h s t =
-    let e = s ∙ sym t in
-    let er = ap (λ p. p.r) e in
-    let eg = ap (λ p. p.g) e in
-    let eb = ap (λ p. p.b) e in
-    cc
-same_kind past p (Rgba r g b a) (Rgba x y z w) ic id rc rd l h s t =
-    let e = s ∙ sym t in
-    let er = ap (λ p. p.r) e in
-    let eg = ap (λ p. p.g) e in
-    let eb = ap (λ p. p.b) e in
-    let ea = ap (λ p. p.a) e in
-    cc
+same_kind past p (Rgb r g b) (Rgb x y z) ic id rc rd l h s t = let e = s ∙ sym t in λ i. Rgb (e i).r (e i).g (e i).b
+same_kind past p (Rgba r g b a) (Rgba x y z w) ic id rc rd l h s t = let e = s ∙ sym t in λ i. Rgba (e i).r (e i).g (e i).b (e i).a
 same_kind past p c d ic id rc rd l g s t = absurd (omega arith)
 
 -- the first chunk that spells a pixel out is unique
@@ -65,91 +54,83 @@ given_some past c cs h e =
 given_other : (past : Past) (c : Chunk) (cs : List Chunk) → is_run c ≡ false → given past (c ∷ cs) ≡ pixel_after past c ∷ given (then_chunk past c) cs
 given_other past c cs h = rw (times_other c h) refl
 
--- the first pixels of equal lists are equal
-same_first : {A : Type 0} (a b : A) (x y : List A) → a ∷ x ≡ b ∷ y → a ≡ b
+-- the first members of equal lists are equal
+pub same_first : {A : Type 0} (a b : A) (x y : List A) → a ∷ x ≡ b ∷ y → a ≡ b
 same_first a b x y e = cc
 
-module _ (Choice : Past → RgbaPixel → Chunk → Type 0) where
-  -- what follows a run that isn't full is no repeat
-  follows_run : (past : Past) (m : ℕ) (cs : List Chunk) (more : List RgbaPixel) → 0 < m → m < 62 → AreChunks cs
-      → Each (IsAllowedAfter Choice) (then_chunk past (Run m)) cs → IsFullBefore (Run m) cs → given (then_chunk past (Run m)) cs ≡ previous past ∷ more → ⊥
-  follows_run past zero cs more h l a r f e = absurd (omega arith)
-  follows_run past (suc m) [] more h l a r f e = absurd (cc)
-  follows_run past (suc m) (Run n ∷ cs) more h l a r f e = absurd (omega arith)
-  follows_run past (suc m) c more h l a r f e = absurd (r.0.is_fresh (same_first _ _ _ _ e))
+-- chunks that may be written next
+record Next (Choice : Past → RgbaPixel → Chunk → Type 0) (past : Past) (cs : List Chunk) : Type 0 where
+  pub chunks : AreChunks cs
+  pub allowed : Each (IsAllowedAfter Choice) past cs
+  pub full : RunsFollowFull cs
 
-  -- so a list that begins with such a run first gives just its repeats
-  no_longer : (past : Past) (m k : ℕ) (cs : List Chunk) (more : List RgbaPixel) → 0 < m → m + suc k ≤ 62 → AreChunks cs
-      → Each (IsAllowedAfter Choice) (then_chunk past (Run m)) cs → IsFullBefore (Run m) cs
-      → given past (Run m ∷ cs) ≡ replicate (m + suc k) (previous past) ++ more → ⊥
-  no_longer past m k cs more h l a r f e =
-      let s : replicate m (previous past) ++ given (then_chunk past (Run m)) cs ≡ replicate m (previous past) ++ (replicate (suc k) (previous past) ++ more)
-      = e ∙ ap (λ x. x ++ more) (sym (replicate-append-replicate m (suc k) (previous past)))
-      ∙ append_assoc (replicate m (previous past)) (replicate (suc k) (previous past)) more in
-      follows_run past m cs (replicate k (previous past) ++ more) h (omega arith) a r f (append_cancel_left _ _ _ s)
+module _ (Choice : Past → RgbaPixel → Chunk → Type 0)
+    (unique : (past : Past) (p : RgbaPixel) (c d : Chunk) → IsChunk c → IsChunk d → Choice past p c → Choice past p d → c ≡ d) where
+  -- what follows a run that isn't full is no repeat
+  follows_run : (past : Past) (m : ℕ) (cs : List Chunk) (more : List RgbaPixel) → m < 62 → Next Choice past (Run m ∷ cs)
+      → given (then_chunk past (Run m)) cs ≡ previous past ∷ more → ⊥
+  follows_run past zero cs more l a e = let some = a.chunks.0.0 in absurd (omega arith)
+  follows_run past (suc m) [] more l a e = absurd (cc)
+  follows_run past (suc m) (Run n ∷ cs) more l a e = let full = a.full.0 in absurd (omega arith)
+  follows_run past (suc m) c more l a e = absurd (a.allowed.1.0.is_fresh (same_first _ _ _ _ e))
 
   -- so if two lists that give the same begin with runs, neither run is longer
-  not_longer : (past : Past) (m n : ℕ) (cs ds : List Chunk) → 0 < m → n ≤ 62 → AreChunks cs → Each (IsAllowedAfter Choice) (then_chunk past (Run m)) cs
-      → IsFullBefore (Run m) cs → given past (Run m ∷ cs) ≡ given past (Run n ∷ ds) → m < n → ⊥
-  not_longer past m n cs ds h l a r f e less =
-      let k : n ≡ m + suc (n - suc m) = omega arith in
-      no_longer past m (n - suc m) cs (given (then_chunk past (Run n)) ds) h (omega arith) a r f
-      (e ∙ ap (λ x. replicate x (previous past) ++ given (then_chunk past (Run n)) ds) k)
+  not_longer : (past : Past) (m n : ℕ) (cs ds : List Chunk) → n ≤ 62 → Next Choice past (Run m ∷ cs)
+      → given past (Run m ∷ cs) ≡ given past (Run n ∷ ds) → m < n → ⊥
+  not_longer past m n cs ds l a e less =
+      let k = n - suc m in
+      let more = given (then_chunk past (Run n)) ds in
+      let many : n ≡ m + suc k = omega arith in
+      let s : replicate m (previous past) ++ given (then_chunk past (Run m)) cs ≡ replicate m (previous past) ++ (replicate (suc k) (previous past) ++ more)
+      = e ∙ ap (λ x. replicate x (previous past) ++ more) many
+      ∙ ap (λ x. x ++ more) (sym (replicate-append-replicate m (suc k) (previous past)))
+      ∙ append_assoc (replicate m (previous past)) (replicate (suc k) (previous past)) more in
+      follows_run past m cs (replicate k (previous past) ++ more) (omega (arith, less, l)) a (append_cancel_left _ _ _ s)
 
   -- two lists that give the same begin alike
-  same_head : (unique : (past : Past) (p : RgbaPixel) (c d : Chunk) → IsChunk c → IsChunk d → Choice past p c → Choice past p d → c ≡ d)
-      → (past : Past) (c : Chunk) (cs : List Chunk) (d : Chunk) (ds : List Chunk) → AreChunks (c ∷ cs) → AreChunks (d ∷ ds)
-      → Each (IsAllowedAfter Choice) past (c ∷ cs) → Each (IsAllowedAfter Choice) past (d ∷ ds) → RunsFollowFull (c ∷ cs) → RunsFollowFull (d ∷ ds)
+  same_head : (past : Past) (c d : Chunk) (cs ds : List Chunk) → Next Choice past (c ∷ cs) → Next Choice past (d ∷ ds)
       → given past (c ∷ cs) ≡ given past (d ∷ ds) → c ≡ d
-  same_head unique past c cs d ds ac ad rc rd fc fd e = go c d (cases_run c) (cases_run d) ac ad rc rd fc fd e
+  same_head past c d cs ds a b e = go c d (cases_run c) (cases_run d) a b e
     where
       run_first : (n : ℕ) (x : Chunk) (xs ys : List Chunk) → IsChunk (Run n) → is_run x ≡ false → GivesFresh Choice past x
           → given past (Run n ∷ ys) ≡ given past (x ∷ xs) → ⊥
       run_first zero x xs ys i h g e = absurd (omega arith)
       run_first (suc n) x xs ys i h g e = g.is_fresh (sym (same_first _ _ _ _ (e ∙ given_other past x xs h)))
 
-      runs : (m n : ℕ) → AreChunks (Run m ∷ cs) → AreChunks (Run n ∷ ds) → Each (IsAllowedAfter Choice) past (Run m ∷ cs)
-          → Each (IsAllowedAfter Choice) past (Run n ∷ ds) → RunsFollowFull (Run m ∷ cs) → RunsFollowFull (Run n ∷ ds)
-          → given past (Run m ∷ cs) ≡ given past (Run n ∷ ds) → m ≡ n
-      runs m n ac ad rc rd fc fd e =
-          let up = not_longer past m n cs ds ac.0.0 ad.0.1 ac.1 rc.1 fc.0 e in
-          let down = not_longer past n m ds cs ad.0.0 ac.0.1 ad.1 rd.1 fd.0 (sym e) in
+      runs : (m n : ℕ) → Next Choice past (Run m ∷ cs) → Next Choice past (Run n ∷ ds) → given past (Run m ∷ cs) ≡ given past (Run n ∷ ds) → m ≡ n
+      runs m n a b e =
+          let up = not_longer past m n cs ds b.chunks.0.1 a e in
+          let down = not_longer past n m ds cs a.chunks.0.1 b (sym e) in
           grind (arith, up, down)
 
-      go : (c d : Chunk) → ((n : ℕ) × (c ≡ Run n)) ⊎ (is_run c ≡ false) → ((n : ℕ) × (d ≡ Run n)) ⊎ (is_run d ≡ false) → AreChunks (c ∷ cs)
-          → AreChunks (d ∷ ds) → Each (IsAllowedAfter Choice) past (c ∷ cs) → Each (IsAllowedAfter Choice) past (d ∷ ds) → RunsFollowFull (c ∷ cs)
-          → RunsFollowFull (d ∷ ds) → given past (c ∷ cs) ≡ given past (d ∷ ds) → c ≡ d
-      go c d (inl (m, is)) (inl (n, too)) ac ad rc rd fc fd e =
-          is ∙ ap (λ (x : ℕ). Run x) (runs m n (rw is at ac) (rw too at ad) (rw is at rc) (rw too at rd) (rw is at fc) (rw too at fd) (rw (is, too) at e))
-          ∙ sym too
-      go c d (inl (m, is)) (inr o) ac ad rc rd fc fd e = absurd (run_first m d ds cs (rw is at ac.0) o (right_other Choice past d o rd.0) (rw is at e))
-      go c d (inr o) (inl (n, is)) ac ad rc rd fc fd e = absurd (run_first n c cs ds (rw is at ad.0) o (right_other Choice past c o rc.0) (rw is at (sym e)))
-      go c d (inr o) (inr p) ac ad rc rd fc fd e =
+      go : (c d : Chunk) → ((n : ℕ) × (c ≡ Run n)) ⊎ (is_run c ≡ false) → ((n : ℕ) × (d ≡ Run n)) ⊎ (is_run d ≡ false)
+          → Next Choice past (c ∷ cs) → Next Choice past (d ∷ ds) → given past (c ∷ cs) ≡ given past (d ∷ ds) → c ≡ d
+      go c d (inl (m, is)) (inl (n, too)) a b e = is ∙ ap (λ (x : ℕ). Run x) (runs m n (rw is at a) (rw too at b) (rw (is, too) at e)) ∙ sym too
+      go c d (inl (m, is)) (inr o) a b e = absurd (run_first m d ds cs (rw is at a.chunks.0) o (right_other Choice past d o b.allowed.0) (rw is at e))
+      go c d (inr o) (inl (n, is)) a b e = absurd (run_first n c cs ds (rw is at b.chunks.0) o (right_other Choice past c o a.allowed.0) (rw is at (sym e)))
+      go c d (inr o) (inr p) a b e =
           let s : pixel_after past c ≡ pixel_after past d = same_first _ _ _ _ (sym (given_other past c cs o) ∙ e ∙ given_other past d ds p) in
-          let x = (right_other Choice past c o rc.0).is_chosen in
-          let y = (right_other Choice past d p rd.0).is_chosen in
-          unique past (pixel_after past d) c d ac.0 ad.0 (rw s at x) y
+          let x = (right_other Choice past c o a.allowed.0).is_chosen in
+          let y = (right_other Choice past d p b.allowed.0).is_chosen in
+          unique past (pixel_after past d) c d a.chunks.0 b.chunks.0 (rw s at x) y
 
   -- two lists that give the same are the same
-  same_given : (unique : (past : Past) (p : RgbaPixel) (c d : Chunk) → IsChunk c → IsChunk d → Choice past p c → Choice past p d → c ≡ d)
-      → (past : Past) (cs ds : List Chunk) → AreChunks cs → AreChunks ds → Each (IsAllowedAfter Choice) past cs → Each (IsAllowedAfter Choice) past ds
-      → RunsFollowFull cs → RunsFollowFull ds → given past cs ≡ given past ds → cs ≡ ds
-  same_given unique past [] [] ac ad rc rd fc fd e = refl
-  same_given unique past [] (d ∷ ds) ac ad rc rd fc fd e = absurd (given_some past d ds ad.0 (sym e))
-  same_given unique past (c ∷ cs) [] ac ad rc rd fc fd e = absurd (given_some past c cs ac.0 e)
-  same_given unique past (c ∷ cs) (d ∷ ds) ac ad rc rd fc fd e =
-      let h : c ≡ d = same_head unique past c cs d ds ac ad rc rd fc fd e in
+  same_given : (past : Past) (cs ds : List Chunk) → Next Choice past cs → Next Choice past ds → given past cs ≡ given past ds → cs ≡ ds
+  same_given past [] [] a b e = refl
+  same_given past [] (d ∷ ds) a b e = absurd (given_some past d ds b.chunks.0 (sym e))
+  same_given past (c ∷ cs) [] a b e = absurd (given_some past c cs a.chunks.0 e)
+  same_given past (c ∷ cs) (d ∷ ds) a b e =
+      let h : c ≡ d = same_head past c d cs ds a b e in
       let g : given (then_chunk past c) cs ≡ given (then_chunk past c) ds =
       append_cancel_left (replicate (times c) (pixel_after past c)) _ _ (e ∙ ap (λ (x : Chunk). given past (x ∷ ds)) (sym h)) in
-      let r : Each (IsAllowedAfter Choice) (then_chunk past c) ds = rw (← h) at rd.1 in
-      let s : cs ≡ ds = same_given unique (then_chunk past c) cs ds ac.1 ad.1 rc.1 r fc.1 fd.1 g in
+      let s : cs ≡ ds = same_given (then_chunk past c) cs ds (record { chunks = a.chunks.1; allowed = a.allowed.1; full = a.full.1 })
+      (record { chunks = b.chunks.1; allowed = rw (← h) at b.allowed.1; full = b.full.1 }) g in
       cc
 
   -- an image has at most one written list, if the choice is unique
-  pub unique_by : (unique : (past : Past) (p : RgbaPixel) (c d : Chunk) → IsChunk c → IsChunk d → Choice past p c → Choice past p d → c ≡ d)
-      → (image : List RgbaPixel) (cs ds : List Chunk) → WrittenBy Choice image cs → WrittenBy Choice image ds → cs ≡ ds
-  unique_by unique image cs ds w v =
-      same_given unique [] cs ds w.chunks v.chunks w.allowed v.allowed w.full v.full
+  pub unique_by : (image : List RgbaPixel) (cs ds : List Chunk) → WrittenBy Choice image cs → WrittenBy Choice image ds → cs ≡ ds
+  unique_by image cs ds w v =
+      same_given [] cs ds (record { chunks = w.chunks; allowed = w.allowed; full = w.full }) (record { chunks = v.chunks; allowed = v.allowed; full = v.full })
       (sym (meaning_given cs) ∙ w.means ∙ sym v.means ∙ meaning_given ds)
 
 -- the choice of a fresh pixel's chunk is unique

@@ -5,7 +5,7 @@ use Rattle.std.proofs.lemmas.List.{reverse-reverse, length-append, length-replic
 use Rattle.std.proofs.lemmas.Bool.{cond_both}
 use Rattle.qoi.specs.declared.chunk.Chunk.{Chunk}
 use Rattle.qoi.specs.declared.chunk.Chunk.TheVariants.{Place, Diff, Luma, Run, Rgb, Rgba}
-use Rattle.qoi.specs.Qoi.{RgbaPixel, Past, previous, start, seen, hash, IsChunk, AreChunks, bytes_of, chunk_bytes, pixel_after, times, then_chunk, then_chunks, Each}
+use Rattle.qoi.specs.Qoi.{RgbaPixel, Past, previous, start, seen, hash, IsChunk, AreChunks, bytes_of, chunk_bytes, pixel_after, times, then_chunk, then_chunks, meaning, Each}
 use Rattle.qoi.specs.Raw.{AreOpaque, HasChannels}
 use Rattle.qoi.specs.Written.{noted, IsFirst, IsChoice, IsAllowedAfter, WrittenBy}
 use Rattle.qoi.proofs.format.SamePixels.{cases_pixel, same_pixel}
@@ -24,16 +24,12 @@ apart_by Choice image cs front rest i w e =
     let s = each_back (IsAllowedAfter Choice) [] front (Place i ∷ Place i ∷ rest) r in
     s.1.0.is_fresh (seen_again (then_chunks [] front) i)
 
--- there are at least as many pixels after chunks
-length_grows : (past : Past) (cs : List Chunk) → length past ≤ length (then_chunks past cs)
-length_grows past cs = let l = length-then_chunks past cs in omega arith
-
 -- before each chunk there are fewer pixels than at the end
 pub stay_below : (past : Past) (cs : List Chunk) (n : ℕ) → AreChunks cs → length (then_chunks past cs) ≡ n → Each (λ past c. length past < n) past cs
 stay_below past [] n a e = tt
 stay_below past (c ∷ cs) n a e =
     let s = times_some c a.0 in
-    let g = length_grows (then_chunk past c) cs in
+    let g = length-then_chunks (then_chunk past c) cs in
     let l : length (then_chunk past c) ≡ times c + length past = simp (length-append, length-replicate) in
     (omega arith, stay_below (then_chunk past c) cs n a.1 e)
 
@@ -43,20 +39,19 @@ unfolding start
 opaque_previous [] h = refl
 opaque_previous (p ∷ past) h = h.0
 
--- the pixels before chunks are opaque, if those after them are
-opaque_before : (past : Past) (cs : List Chunk) → AreOpaque (then_chunks past cs) → AreOpaque past
-opaque_before past cs h = all_back (λ p. p.a ≡ 255) (reverse (given past cs)) past (rw (then_chunks_given past cs) at h)
-
--- if alpha stays, a pixel isn't spelled out by an Rgba
-no_rgba : (past : Past) (r g b a : ℕ) → IsChunk (Rgba r g b a) → a ≡ (previous past).a → IsFirst past (pixel_after past (Rgba r g b a)) (Rgba r g b a) → ⊥
-no_rgba past r g b a i e f =
-    let l = f.first (Rgb r g b) (i.0, i.1, i.2) (omega arith) (same_pixel _ _ refl refl refl (sym e)) in
-    omega arith
+-- the pixels of chunks have as many channels as their image
+pub channels_all : (channels : ℕ) (image : List RgbaPixel) (cs : List Chunk) → meaning cs ≡ image → HasChannels image channels
+    → HasChannels (then_chunks [] cs) channels
+channels_all channels image cs means (inl e) = inl e
+channels_all channels image cs means (inr (e, h)) =
+    let before : reverse image ≡ then_chunks [] cs = ap reverse (sym means) ∙ reverse-reverse (then_chunks [] cs) in
+    inr (e, rw before at (all_reverse (λ p. p.a ≡ 255) image h))
 
 -- pixels before chunks have as many channels as those after them
 pub channels_before : (channels : ℕ) (past : Past) (cs : List Chunk) → HasChannels (then_chunks past cs) channels → HasChannels past channels
 channels_before channels past cs (inl e) = inl e
-channels_before channels past cs (inr (e, h)) = inr (e, opaque_before past cs h)
+channels_before channels past cs (inr (e, h)) =
+    inr (e, all_back (λ p. p.a ≡ 255) (reverse (given past cs)) past (rw (then_chunks_given past cs) at h))
 
 module _ (Choice : Past → RgbaPixel → Chunk → Type 0) (rgba_first : (past : Past) (r g b a : ℕ) → Choice past (pixel_after past (Rgba r g b a)) (Rgba r g b a)
     → IsFirst past (pixel_after past (Rgba r g b a)) (Rgba r g b a)) where
@@ -72,7 +67,9 @@ module _ (Choice : Past → RgbaPixel → Chunk → Type 0) (rgba_first : (past 
   chunk_fits channels past (Rgb x y z) k (inr s) r = let t = s.0 in omega arith
   chunk_fits channels past (Rgba x y z w) k (inl s) r = omega arith
   chunk_fits channels past (Rgba x y z w) k (inr s) r =
-      absurd (no_rgba past x y z w k (s.1.0 ∙ sym (opaque_previous past s.1.1)) (rgba_first past x y z w r.is_chosen))
+      let shorter = (rgba_first past x y z w r.is_chosen).first (Rgb x y z) (k.0, k.1, k.2) (omega arith)
+      (same_pixel _ _ refl refl refl (opaque_previous past s.1.1 ∙ sym s.1.0)) in
+      absurd (omega arith)
 
   -- so have chunks
   chunks_fit : (channels : ℕ) (past : Past) (cs : List Chunk) → AreChunks cs → HasChannels (then_chunks past cs) channels → Each (IsAllowedAfter Choice) past cs
@@ -91,15 +88,8 @@ module _ (Choice : Past → RgbaPixel → Chunk → Type 0) (rgba_first : (past 
       → length (chunk_bytes cs) ≤ n * channels + n
   fits_by image channels n cs h e w =
       let g : length (given [] cs) ≡ n = ap length (sym (meaning_given cs) ∙ w.means) ∙ e in
-      let k = chunks_fit channels [] cs w.chunks (back h) w.allowed in
+      let k = chunks_fit channels [] cs w.chunks (channels_all channels image cs w.means h) w.allowed in
       rw g at k
-    where
-      past_is : reverse image ≡ then_chunks [] cs
-      past_is = ap reverse (sym w.means) ∙ reverse-reverse (then_chunks [] cs)
-
-      back : HasChannels image channels → HasChannels (then_chunks [] cs) channels
-      back (inl s) = inl s
-      back (inr s) = inr (s.0, rw past_is at (all_reverse (λ p. p.a ≡ 255) image s.1))
 
 -- an Rgba that is chosen is the first that spells its pixel out
 pub choice_rgba : (past : Past) (r g b a : ℕ) → IsChoice past (pixel_after past (Rgba r g b a)) (Rgba r g b a)

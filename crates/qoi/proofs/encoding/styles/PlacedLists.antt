@@ -1,6 +1,6 @@
 -- The list in style Places: it means the same in as many bytes, and names no index position twice
 -- in a row.
-use Rattle.std.proofs.Common.{◌≡◌, ℕ, Bool, true, false, not, ◌&&◌, ◌==◌, if◌then◌else◌, List, [], ◌∷◌, ◌++◌, length, Option, Some, refl, sym, ap, ◌∙◌, subst, arith, length-append}
+use Rattle.std.proofs.Common.{◌≡◌, ℕ, Bool, true, false, not, ◌&&◌, ◌==◌, if◌then◌else◌, List, [], ◌∷◌, ◌++◌, length, drop, Option, Some, refl, sym, ap, ◌∙◌, subst, arith, length-append}
 use Rattle.std.proofs.lemmas.Bool.{and_parts, cond_both, eqb-true, eq-eqb, true≢false}
 use Rattle.qoi.specs.declared.chunk.Chunk.{Chunk}
 use Rattle.qoi.specs.declared.chunk.Chunk.TheVariants.{Place, Run}
@@ -11,6 +11,7 @@ use Rattle.qoi.specs.Styles.{fresh_next, some_fresh, names, is_placed, place_for
 use Rattle.qoi.proofs.format.SamePixels.{hash_below}
 use Rattle.qoi.proofs.encoding.lists.NotedPixels.{seen_same}
 use Rattle.qoi.proofs.encoding.lists.WrittenShape.{seen_again}
+use Rattle.qoi.proofs.encoding.lists.WrittenOnce.{same_first}
 
 -- What a run that is placed stands between.
 record Placed (past : Past) (before : Option Chunk) (n : ℕ) (cs : List Chunk) : Type 0 where
@@ -106,10 +107,6 @@ named past before (Run n) cs i e = go (is_placed past before n cs) refl e
 named past before (Place j) cs i e = ap position e
 named past before c cs i e = absurd (let x = e in cc)
 
--- the test for the same position passes
-same_names : (i j k : ℕ) → j ≡ i → k ≡ i → not (names (Some (Place j)) k) ≡ true → ⊥
-same_names i j k e f h = true≢false (sym h ∙ ap not (eq-eqb j k (e ∙ sym f)))
-
 -- after a single run its pixel's index position holds the last pixel
 repeated : (past : Past) (n : ℕ) (i : ℕ) → n ≡ 1 → hash (previous past) ≡ i → seen (then_chunk past (Run n)) i ≡ previous (then_chunk past (Run n))
 repeated past n i one at = rw one (seen_same past (previous past) i at)
@@ -118,7 +115,7 @@ repeated past n i one at = rw one (seen_same past (previous past) i at)
 apart_first : (Choice : Past → RgbaPixel → Chunk → Type 0) (past : Past) (before : Option Chunk) (c d : Chunk) (cs : List Chunk) (i : ℕ)
     → IsAllowedAfter Choice (then_chunk past c) d → Named past before (d ∷ cs) i c → Named (then_chunk past c) (Some c) cs i d → ⊥
 apart_first Choice past before (Place j) (Place k) cs i right e f = right.is_fresh (ap (λ x. seen (seen past j ∷ past) x) (f ∙ sym e) ∙ seen_again past j)
-apart_first Choice past before (Place j) (Run n) cs i right e f = same_names i j _ e f.1 f.0.other
+apart_first Choice past before (Place j) (Run n) cs i right e f = true≢false (sym f.0.other ∙ ap not (eq-eqb j (hash (previous (seen past j ∷ past))) (e ∙ sym f.1)))
 apart_first Choice past before (Run n) (Place k) cs i right e f =
     right.is_fresh (ap (seen (then_chunk past (Run n))) f ∙ repeated past n i e.0.single e.1)
 apart_first Choice past before (Run n) (Run m) cs i right e f = true≢false (sym e.0.next)
@@ -132,17 +129,8 @@ pub placed_apart : (Choice : Past → RgbaPixel → Chunk → Type 0) (past : Pa
 placed_apart Choice past before [] [] rest i right e = absurd (let x = e in cc)
 placed_apart Choice past before [] (x ∷ front) rest i right e = absurd (let x = e in cc)
 placed_apart Choice past before (c ∷ cs) (x ∷ front) rest i right e =
-    placed_apart Choice (then_chunk past c) (Some c) cs front rest i right.1 (rest_of e)
-  where
-    rest_of : place_for past before c cs ∷ placed_after (then_chunk past c) (Some c) cs ≡ x ∷ (front ++ Place i ∷ Place i ∷ rest)
-        → placed_after (then_chunk past c) (Some c) cs ≡ front ++ Place i ∷ Place i ∷ rest
-    rest_of e = cc
+    placed_apart Choice (then_chunk past c) (Some c) cs front rest i right.1 (ap (drop 1) e)
 placed_apart Choice past before (c ∷ []) [] rest i right e = absurd (let x = e in cc)
 placed_apart Choice past before (c ∷ d ∷ cs) [] rest i right e =
-    apart_first Choice past before c d cs i right.1.0 (named past before c (d ∷ cs) i (first e)) (named (then_chunk past c) (Some c) d cs i (second e))
-  where
-    first : {xs ys : List Chunk} {x y : Chunk} → x ∷ xs ≡ y ∷ ys → x ≡ y
-    first e = cc
-
-    second : {xs ys : List Chunk} {x y z w : Chunk} → x ∷ z ∷ xs ≡ y ∷ w ∷ ys → z ≡ w
-    second e = cc
+    apart_first Choice past before c d cs i right.1.0 (named past before c (d ∷ cs) i (same_first _ _ _ _ e))
+    (named (then_chunk past c) (Some c) d cs i (same_first _ _ _ _ (ap (drop 1) e)))

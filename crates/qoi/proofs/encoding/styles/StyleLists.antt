@@ -8,17 +8,17 @@ use Rattle.qoi.specs.declared.types.Style.{Style}
 use Rattle.qoi.specs.declared.types.Style.TheVariants.{Reference, Places, Tight}
 use Rattle.qoi.specs.Raw.{HasChannels}
 use Rattle.qoi.specs.Shortest.{floor, slack}
+use Rattle.qoi.specs.Tight.{floor0}
 use Rattle.qoi.specs.Qoi.{RgbaPixel, IsPixel, AreChunks, chunk_bytes, Reaches, meaning, then_chunks}
 use Rattle.qoi.specs.Written.{IsChoice, WrittenBy, Written}
 use Rattle.qoi.specs.Regular.{Regular}
 use Rattle.qoi.specs.Styles.{choice_in, in_style, placed_after, WrittenIn}
 use Rattle.qoi.specs.WrittenList.{chosen, list_after, written_list}
-use Rattle.qoi.proofs.encoding.styles.Choices.{Chooses}
 use Rattle.qoi.proofs.encoding.styles.PlacedLists.{placed_chunks, placed_then, placed_length, placed_regular, placed_apart}
 use Rattle.qoi.proofs.encoding.styles.TightChoice.{tight_chooses}
 use Rattle.qoi.proofs.encoding.lists.WrittenOnce.{unique_by}
 use Rattle.qoi.proofs.encoding.lists.WrittenShape.{stay_below, apart_by, fits_by}
-use Rattle.qoi.proofs.encoding.lists.WrittenExists.{chooses, image_written}
+use Rattle.qoi.proofs.encoding.lists.WrittenExists.{Chooses, chooses, image_written}
 use Rattle.qoi.proofs.shortness.Upper.{upper}
 use Rattle.qoi.proofs.shortness.TightLists.{tight_exact, floor0_high}
 use Rattle.qoi.proofs.shortness.RegularLists.{written_regular}
@@ -48,6 +48,10 @@ style_means style image cs w = by_style (λ x. meaning x ≡ image) style image 
 pub style_length : (style : Style) (image : List RgbaPixel) (cs : List Chunk) (w : WrittenIn style image cs)
     → length (chunk_bytes cs) ≡ length (chunk_bytes w.list)
 style_length style image cs w = by_style (λ x. length (chunk_bytes x) ≡ length (chunk_bytes w.list)) style image cs w refl (placed_length [] None w.list)
+
+-- in style Tight that is the least
+pub style_exact : (image : List RgbaPixel) (cs : List Chunk) → WrittenIn Tight image cs → length (chunk_bytes cs) ≡ floor0 image
+style_exact image cs w = style_length Tight image cs w ∙ tight_exact image w.list w.written
 
 -- there is one list
 pub style_unique : (style : Style) (image : List RgbaPixel) (cs ds : List Chunk) → WrittenIn style image cs → WrittenIn style image ds → cs ≡ ds

@@ -40,11 +40,6 @@ full_stay (suc k) past before cs =
     ∙ ap (λ x. replicate k (Run 62) ++ placed_after x (before_rest (Some (Run 62)) k) cs) joined
     ∙ ap (λ b. replicate k (Run 62) ++ placed_after (replicate (62 * suc k) q ++ past) b cs) (after_full_run k))
 
--- so does a run of two or more
-long_stays : (r : ℕ) (past : Past) (before : Option Chunk) (cs : List Chunk) → place_for past before (Run (suc (suc r))) cs ≡ Run (suc (suc r))
-long_stays r past before cs = ap (λ t. if t && fresh_next cs && some_fresh past && not (names before (hash (previous past))) then Place
-    (hash (previous past)) else Run (suc (suc r))) (not_one r)
-
 -- a chunk other than a run stays
 other_stays : (past : Past) (before : Option Chunk) (c : Chunk) (cs : List Chunk) → is_run c ≡ false → place_for past before c cs ≡ c
 other_stays past before (Run n) cs e = absurd (let x = e in cc)
@@ -92,8 +87,9 @@ rest_stays : (r : ℕ) (past : Past) (before : Option Chunk) (left : List Chunk)
     → placed_after past before (last_by (Run 1) r ++ left)
     ≡ last_by one r ++ placed_after (replicate r (previous past) ++ past) (last_chunk before (last_by (Run 1) r)) left
 rest_stays zero past before left one is = refl
-rest_stays (suc (suc r)) past before left one is = ap (λ x. x ∷ placed_after (replicate (suc (suc r)) (previous past) ++ past)
-    (Some (Run (suc (suc r)))) left) (long_stays r past before left)
+rest_stays (suc (suc r)) past before left one is =
+    ap (λ t. (if t && fresh_next left && some_fresh past && not (names before (hash (previous past))) then Place (hash (previous past))
+    else Run (suc (suc r))) ∷ placed_after (replicate (suc (suc r)) (previous past) ++ past) (Some (Run (suc (suc r)))) left) (not_one r)
 rest_stays (suc zero) past before left one is = go (is refl)
   where
     go : ((left ≡ []) × (one ≡ Run 1)) ⊎ ((fresh_next left ≡ true) × (one ≡ single past before))

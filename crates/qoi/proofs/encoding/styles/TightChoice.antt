@@ -1,8 +1,8 @@
 -- The tight choice of a chunk: for each fresh pixel there is one, and it gives the pixel.
-use Rattle.std.proofs.Common.{◌≡◌, ◌≢◌, ◌⊎◌, inl, inr, ℕ, zero, suc, ◌+◌, ◌<◌, ◌≤◌, Bool, true, false, not, ◌||◌, ◌==◌, if◌then◌else◌, [], ◌∷◌, Option, None, Some, is_some, MatchOption, refl, sym, ap, ◌∙◌, subst, arith}
-use Rattle.std.specs.List.{find, list_any, range_with_len}
+use Rattle.std.proofs.Common.{◌≡◌, ◌≢◌, ◌⊎◌, inl, inr, ℕ, zero, suc, ◌+◌, ◌<◌, ◌≤◌, Bool, true, false, if◌then◌else◌, [], ◌∷◌, Option, None, Some, is_some, MatchOption, refl, sym, ap, ◌∙◌, subst, arith}
+use Rattle.std.specs.List.{find, range_with_len}
 use Rattle.std.proofs.lemmas.Option.{same_Some}
-use Rattle.std.proofs.lemmas.Bool.{cases_eq, cond-true, cond-false, ne_eqb, true≢false, or_parts}
+use Rattle.std.proofs.lemmas.Bool.{cases_eq, cond-true, cond-false, ne_eqb, true≢false}
 use Rattle.qoi.specs.declared.chunk.Chunk.{Chunk}
 use Rattle.qoi.specs.declared.chunk.Chunk.TheVariants.{Place, Rgba}
 use Rattle.qoi.specs.Qoi.{RgbaPixel, IsPixel, Past, pixel_eq, blank, positions, previous, seen, hash, IsChunk, pixel_after}
@@ -10,55 +10,39 @@ use Rattle.qoi.specs.Written.{IsFirst}
 use Rattle.qoi.specs.Styles.{is_run, names}
 use Rattle.qoi.specs.Tight.{first_and_fresh, is_unseen, least_unseen, IsTightChoice}
 use Rattle.qoi.specs.inner.Table.{first_blank}
-use Rattle.qoi.proofs.format.SamePixels.{cases_pixel, hash_below, pixel_eq-from, pixel_eq-ne}
-use Rattle.qoi.proofs.encoding.lists.NotedPixels.{seen_same, seen_other}
-use Rattle.qoi.proofs.encoding.styles.Choices.{Chooses}
+use Rattle.qoi.proofs.format.SamePixels.{cases_pixel, hash_below, pixel_eq-from, pixel_eq-true, pixel_eq-ne}
 use Rattle.qoi.proofs.encoding.coder.Spelled.{first_is}
 use Rattle.qoi.specs.WrittenList.{first_chunk, place_or, chosen}
 use Rattle.qoi.specs.declared.types.Style.TheVariants.{Tight}
-use Rattle.qoi.proofs.encoding.lists.WrittenExists.{spells_other, spells_no_place}
+use Rattle.qoi.proofs.encoding.lists.WrittenExists.{Chooses, spells_other, spells_no_place}
 use Rattle.qoi.proofs.encoding.lists.WrittenOnce.{first_unique}
+
+-- a repeat changes no index position, if the pixels before it change none by theirs
+seen_next : (p q : RgbaPixel) (past : Past) (i : ℕ) → seen (first_and_fresh (q ∷ past)) i ≡ seen (q ∷ past) i
+    → seen (first_and_fresh (p ∷ q ∷ past)) i ≡ seen (p ∷ q ∷ past) i
+seen_next p q past i before = grind (arith, before, pixel_eq-true p q)
 
 -- repeats after the first pixel, if put, change no index position
 pub seen_first_and_fresh : (past : Past) (i : ℕ) → seen (first_and_fresh past) i ≡ seen past i
 seen_first_and_fresh [] i = refl
 seen_first_and_fresh (p ∷ []) i = refl
-seen_first_and_fresh (p ∷ q ∷ past) i = go (seen_first_and_fresh (q ∷ past) i) (cases_pixel p q) (cases_eq (hash p) i)
-  where
-    go : seen (first_and_fresh (q ∷ past)) i ≡ seen (q ∷ past) i → (p ≡ q) ⊎ (p ≢ q) → (hash p ≡ i) ⊎ (hash p ≢ i)
-        → seen (first_and_fresh (p ∷ q ∷ past)) i ≡ seen (p ∷ q ∷ past) i
-    go before (inl e) (inl h) =
-        ap (λ x. seen x i) (cond-true (pixel_eq p q) _ _ (pixel_eq-from p q e))
-        ∙ before ∙ seen_same past q i (ap hash (sym e) ∙ h) ∙ sym e ∙ sym (seen_same (q ∷ past) p i h)
-    go before (inl e) (inr n) =
-        ap (λ x. seen x i) (cond-true (pixel_eq p q) _ _ (pixel_eq-from p q e))
-        ∙ before ∙ sym (seen_other (q ∷ past) p i n)
-    go before (inr d) (inl h) =
-        ap (λ x. seen x i) (cond-false (pixel_eq p q) _ _ (pixel_eq-ne p q d))
-        ∙ seen_same (first_and_fresh (q ∷ past)) p i h ∙ sym (seen_same (q ∷ past) p i h)
-    go before (inr d) (inr n) =
-        ap (λ x. seen x i) (cond-false (pixel_eq p q) _ _ (pixel_eq-ne p q d))
-        ∙ seen_other (first_and_fresh (q ∷ past)) p i n ∙ before ∙ sym (seen_other (q ∷ past) p i n)
+seen_first_and_fresh (p ∷ q ∷ past) i = seen_next p q past i (seen_first_and_fresh (q ∷ past) i)
 
 -- where no pixel was put, transparent black is seen
 pub unseen_blank : (past : Past) (i : ℕ) → is_unseen past i ≡ true → seen past i ≡ blank
 unseen_blank [] i e = refl
-unseen_blank (p ∷ past) i e =
-    let both = or_parts (hash p == i) (list_any (λ q. hash q == i) past) (back _ e) in
-    cond-false (hash p == i) p (seen past i) both.0 ∙ unseen_blank past i (ap not both.1)
+unseen_blank (p ∷ past) i e = next (unseen_blank past i)
   where
-    back : (t : Bool) → not t ≡ true → t ≡ false
-    back t h = grind arith
+    next : (is_unseen past i ≡ true → seen past i ≡ blank) → seen (p ∷ past) i ≡ blank
+    next before = grind (arith, before, e)
 
 -- no pixel was put at an index position, or one of that position is seen there
 pub unseen_or : (past : Past) (i : ℕ) → (is_unseen past i ≡ true) ⊎ (hash (seen past i) ≡ i)
 unseen_or [] i = inl refl
-unseen_or (p ∷ past) i = go (cases_eq (hash p) i) (unseen_or past i)
+unseen_or (p ∷ past) i = next (unseen_or past i)
   where
-    go : (hash p ≡ i) ⊎ (hash p ≢ i) → (is_unseen past i ≡ true) ⊎ (hash (seen past i) ≡ i) → (is_unseen (p ∷ past) i ≡ true) ⊎ (hash (seen (p ∷ past) i) ≡ i)
-    go (inl h) other = inr (ap hash (seen_same past p i h) ∙ h)
-    go (inr n) (inl e) = inl (ap (λ t. not (t || list_any (λ q. hash q == i) past)) (ne_eqb (hash p) i n) ∙ e)
-    go (inr n) (inr h) = inr (ap hash (seen_other past p i n) ∙ h)
+    next : (is_unseen past i ≡ true) ⊎ (hash (seen past i) ≡ i) → (is_unseen (p ∷ past) i ≡ true) ⊎ (hash (seen (p ∷ past) i) ≡ i)
+    next before = grind (arith, before)
 
 -- what is found passes the test, and is one of the numbers
 found : (test : ℕ → Bool) (a n i : ℕ) → find test (range_with_len a n) ≡ Some i → (test i ≡ true) × (i < a + n)
@@ -101,27 +85,28 @@ cases_tight past p Goal f g h = go (cases_pixel (seen past (hash p)) p) (cases_p
     go (inr n) (inl b) = g n b
     go (inr n) (inr b) = h n b
 
+-- the choice for transparent black that isn't seen at its position, if no pixel was put at another
+tight_blank : (past : Past) (p : RgbaPixel) (i : ℕ) → seen past (hash p) ≢ p → p ≡ blank → least_unseen past ≡ Some i → IsTightChoice past p (Place i)
+tight_blank past p i n b e = record {
+  place = λ h. absurd (n h);
+  unseen = λ _ _. subst (λ o. MatchOption o (IsFirst past p (Place i)) (λ j. Place i ≡ Place j)) (sym e) refl;
+  spelled = λ _ h. absurd (h b);
+}
+
+-- the choice for what isn't seen, and for transparent black if there is no such position
+tight_spelled : (past : Past) (p : RgbaPixel) (c : Chunk) → seen past (hash p) ≢ p → (p ≡ blank → least_unseen past ≡ None) → IsFirst past p c
+    → IsTightChoice past p c
+tight_spelled past p c n none f = record {
+  place = λ h. absurd (n h);
+  unseen = λ _ b. subst (λ o. MatchOption o (IsFirst past p c) (λ j. c ≡ Place j)) (sym (none b)) f;
+  spelled = λ _ _. f;
+}
+
 -- transparent black at an unseen position, or the first chunk if there is none
 blank_some : (past : Past) (p : RgbaPixel) (first : Chunk) → IsChunk first → IsFirst past p first → seen past (hash p) ≢ p → p ≡ blank
     → (o : Option ℕ) → least_unseen past ≡ o → IsChunk (place_or o first) × IsTightChoice past p (place_or o first)
-blank_some past p first is f n b None e = (
-  is,
-  record {
-    place = λ h. absurd (n h);
-    unseen = λ _ _.
-        subst (λ o. MatchOption o (IsFirst past p first) (λ i. first ≡ Place i)) (sym e) f;
-    spelled = λ _ h. absurd (h b);
-  },
-)
-blank_some past p first is f n b (Some i) e = (
-  (unseen_found past i e).1,
-  record {
-    place = λ h. absurd (n h);
-    unseen = λ _ _.
-        subst (λ o. MatchOption o (IsFirst past p (Place i)) (λ j. Place i ≡ Place j)) (sym e) refl;
-    spelled = λ _ h. absurd (h b);
-  },
-)
+blank_some past p first is f n b None e = (is, tight_spelled past p first n (λ _. e) f)
+blank_some past p first is f n b (Some i) e = ((unseen_found past i e).1, tight_blank past p i n b e)
 
 -- a chunk is chosen for each fresh pixel
 tight_some : (past : Past) (p : RgbaPixel) → IsPixel (previous past) → IsPixel p → IsChunk (chosen Tight past p) × IsTightChoice past p (chosen Tight past p)
@@ -139,7 +124,7 @@ tight_some past p before is =
     (λ n b. subst P (sym (spelled_out n ∙ cond-true (pixel_eq p blank) (place_or (least_unseen past) first) first (pixel_eq-from p blank b)))
     (blank_some past p first f.0 f.1 n b (least_unseen past) refl))
     (λ n b. subst P (sym (spelled_out n ∙ cond-false (pixel_eq p blank) (place_or (least_unseen past) first) first (pixel_eq-ne p blank b)))
-    (f.0, record { place = λ e. absurd (n e); unseen = λ _ e. absurd (b e); spelled = λ _ _. f.1 }))
+    (f.0, tight_spelled past p first n (λ e. absurd (b e)) f.1))
 
 -- what holds of the index position where the pixel is seen, of an unseen position for transparent
 -- black, and of the first chunk holds of the choice
@@ -182,29 +167,19 @@ blank_unseen past i differs = go (is_unseen past i) refl
     go false e = pixel_eq-ne (seen past i) blank (put_there (unseen_or past i) e)
 
 -- so the first such position is the least where no pixel was put
-first_unseen : (past : Past) → seen past (hash blank) ≢ blank → first_blank past ≡ least_unseen past
+first_unseen : (past : Past) (p : RgbaPixel) → p ≡ blank → seen past (hash p) ≢ p → first_blank past ≡ least_unseen past
 unfolding first_blank least_unseen
-first_unseen past differs = λ i. find (λ j. blank_unseen past j differs i) (range_with_len 0 positions)
+first_unseen past p b n = λ i. find (λ j. blank_unseen past j (λ e. n (ap (λ q. seen past (hash q)) b ∙ e ∙ sym b)) i) (range_with_len 0 positions)
 
 -- it is the choice for transparent black that isn't seen at its position
 pub blank_chosen : (past : Past) (p : RgbaPixel) (i : ℕ) → p ≡ blank → seen past (hash p) ≢ p → Some i ≡ first_blank past → IsTightChoice past p (Place i)
-blank_chosen past p i b differs found = record {
-  place = λ e. absurd (differs e);
-  unseen = λ _ _. subst (λ o. MatchOption o (IsFirst past p (Place i)) (λ j. Place i ≡ Place j))
-      (found ∙ first_unseen past (λ e. differs (ap (λ q. seen past (hash q)) b ∙ e ∙ sym b))) refl;
-  spelled = λ _ n. absurd (n b);
-}
+blank_chosen past p i b n found = tight_blank past p i n b (sym (found ∙ first_unseen past p b n))
 
 -- if there is none, and for other pixels that aren't seen, the choice is the first chunk that
 -- spells them out
 pub spelled_chosen : (past : Past) (p : RgbaPixel) (c : Chunk) → seen past (hash p) ≢ p → (p ≡ blank → None ≡ first_blank past) → IsFirst past p c
     → IsTightChoice past p c
-spelled_chosen past p c differs none f = record {
-  place = λ e. absurd (differs e);
-  unseen = λ _ b. subst (λ o. MatchOption o (IsFirst past p c) (λ j. c ≡ Place j))
-      (none b ∙ first_unseen past (λ e. differs (ap (λ q. seen past (hash q)) b ∙ e ∙ sym b))) f;
-  spelled = λ _ _. f;
-}
+spelled_chosen past p c n none f = tight_spelled past p c n (λ b. sym (none b ∙ first_unseen past p b n)) f
 
 -- it is unique
 tight_unique : (past : Past) (p : RgbaPixel) (c d : Chunk) → IsChunk c → IsChunk d → IsTightChoice past p c → IsTightChoice past p d → c ≡ d

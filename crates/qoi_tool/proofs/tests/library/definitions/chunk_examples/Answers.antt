@@ -1,7 +1,7 @@
 -- Examples that a search doesn't compute.
 use Rattle.std.proofs.Common.{[], ◌∷◌, arith, refl}
 use Rattle.qoi.specs.Qoi.{pixel}
-use Rattle.qoi.proofs.laws.examples.chunk_examples.Goals as goal
+use Rattle.qoi_tool.proofs.tests.library.definitions.chunk_examples.Goals as goal
 
 pub returns-clause-no_byte : goal.returns-clause-no_byte
 returns-clause-no_byte c are = absurd (omega (arith, are 0))

@@ -1,4 +1,5 @@
-//! Small examples of definitions, computed, for numbers, orders and sides that no other law fixes.
+//! Small examples of definitions of the format and of decoding, for numbers, orders and sides that
+//! no law fixes. The prover computes them.
 ghost use Rattle.std.specs.Prelude.{◌≡◌, ℕ, ◌++◌, [], ◌∷◌, length, replicate, codes, Ok, Err, Some, true, false};
 ghost use Rattle.qoi.specs.declared.error.Error.{Error};
 ghost use Rattle.qoi.specs.declared.types.Channels.{Channels};
@@ -10,16 +11,13 @@ ghost use Rattle.qoi.specs.Raw.{IsChannels, without_fourth, output, pixels_of, b
 ghost use Rattle.qoi.specs.Verdicts.{IsWhole, IsCut, IsWrong};
 ghost use Rattle.qoi.specs.Decoding.{least_byte_count, RefusesBuffer, RefusesMarker, RefusesBytes, RefusesTaken, RefusesTakenMarker, RefusesTakenHeader};
 ghost use Rattle.qoi.specs.DecoderState.{output_byte_count, TakesAtMost};
-ghost use Rattle.qoi.specs.Runs.{IsCount};
-ghost use Rattle.qoi.specs.Written.{fresh, noted};
-ghost use Rattle.qoi.specs.writers.Writes.{AppendsBeginning, StandsAfter};
-ghost use Rattle.qoi.specs.Encoded.{max_len, IsFileLength, image_header, OpensBlack};
+ghost use Rattle.qoi.specs.Encoded.{max_len, IsFileLength};
 ghost use Rattle.qoi.specs.Regular.{Begins, Regular};
 ghost use Rattle.qoi.specs.ErrorText.{printed};
 
 /// The least and the greatest numbers in bytes and chunks, the lengths of the longest chunk and of
 /// the end marker, regular lists, and pixels that begin with an image.
-#[tactic(auto, unfolding(crate::specs::Qoi::blank, crate::specs::Qoi::hash))]
+#[tactic(auto, unfolding(qoi::specs::Qoi::blank, qoi::specs::Qoi::hash))]
 pub fn chunk_examples()
     ensures bytes { AreBytes (0 ∷ 255 ∷ []) }
     ensures no_byte { AreBytes (256 ∷ []) → ⊥ }
@@ -53,7 +51,7 @@ pub fn chunk_examples()
 {}
 
 /// What small lists of chunks mean, their bytes, and which numbers of pixels they reach.
-#[tactic(auto, unfolding(crate::specs::Qoi::start, crate::specs::Qoi::blank, crate::specs::Qoi::hash, crate::specs::Qoi::after_diff, crate::specs::Qoi::after_luma))]
+#[tactic(auto, unfolding(qoi::specs::Qoi::start, qoi::specs::Qoi::blank, qoi::specs::Qoi::hash, qoi::specs::Qoi::after_diff, qoi::specs::Qoi::after_luma))]
 pub fn worked_examples()
     ensures runs_bytes { chunk_bytes (Run 62 ∷ Run 1 ∷ Rgb 11 22 33 ∷ [])
         ≡ 0xfd ∷ 0xc0 ∷ 0xfe ∷ 0x0b ∷ 0x16 ∷ 0x21 ∷ [] }
@@ -88,7 +86,7 @@ pub fn worked_examples()
 {}
 
 /// Bytes that are read as a header, or refused, and a file.
-#[tactic(auto, unfolding(crate::specs::Qoi::start))]
+#[tactic(auto, unfolding(qoi::specs::Qoi::start))]
 pub fn file_examples()
     ensures largest_is_read { header_of (magic_bytes ++ 0 ∷ 0 ∷ 0x4e ∷ 0x20 ∷ 0 ∷ 0 ∷ 0x4e ∷ 0x20
         ∷ 4 ∷ 1 ∷ [])
@@ -175,28 +173,6 @@ pub fn size_examples()
     ensures buffer_is_enough { RefusesBuffer 3 3 (Error.OutputBufferTooSmall 3 3) → ⊥ }
 {}
 
-/// The headers of raw bytes, and images that open with opaque black.
-#[tactic(auto, unfolding(crate::specs::Qoi::start, crate::specs::Qoi::pixel_eq))]
-pub fn image_examples()
-    ensures three_bytes_a_pixel { image_header (replicate 6 0) 2 1
-        ≡ tried_header 2 1 Channels.Rgb ColorSpace.Srgb }
-    ensures four_bytes_a_pixel { image_header (replicate 8 0) 1 2
-        ≡ tried_header 1 2 Channels.Rgba ColorSpace.Srgb }
-    ensures no_whole_number { image_header (replicate 7 0) 2 1
-        ≡ Err (Error.InvalidImageLength 7 2 1) }
-    ensures no_bytes { image_header [] 1 1 ≡ Err (Error.InvalidChannels 0) }
-    ensures five_bytes { image_header (replicate 5 0) 1 1 ≡ Err (Error.InvalidChannels 5) }
-    ensures capped_channels { image_header (replicate 300 0) 1 1 ≡ Err (Error.InvalidChannels 255) }
-    ensures uncapped_channels { image_header (replicate 254 0) 1 1
-        ≡ Err (Error.InvalidChannels 254) }
-    ensures dimensions_first { image_header (replicate 7 0) 0 5
-        ≡ Err (Error.InvalidImageDimensions 0 5) }
-    ensures opens_black { OpensBlack (pixel 0 0 0 255 ∷ pixel 1 2 3 255 ∷ []) }
-    ensures opens_with_color { OpensBlack (pixel 1 2 3 255 ∷ pixel 0 0 0 255 ∷ []) → ⊥ }
-    ensures opens_transparent { OpensBlack (pixel 0 0 0 0 ∷ []) → ⊥ }
-    ensures no_pixel { OpensBlack [] → ⊥ }
-{}
-
 /// What errors print.
 pub fn text_examples()
     ensures magic { printed (Error.InvalidMagic 1903126887)
@@ -272,18 +248,4 @@ pub fn decoder_examples()
         ≡ 4 }
     ensures within { TakesAtMost 13 (Some (replicate 13 0)) (Some []) }
     ensures beyond { TakesAtMost 13 (Some (replicate 14 0)) (Some []) → ⊥ }
-{}
-
-/// Repeats and fresh pixels, and bytes that are written after others.
-#[tactic(auto, unfolding(crate::specs::Qoi::pixel_eq, crate::specs::Qoi::start, crate::specs::Qoi::blank, crate::specs::Qoi::hash))]
-pub fn writing_examples()
-    ensures count { IsCount (pixel 1 2 3 4) (pixel 1 2 3 4 ∷ pixel 1 2 3 4 ∷ pixel 1 2 3 5 ∷ []) 2 }
-    ensures count_to_the_end { IsCount (pixel 1 2 3 4) (pixel 1 2 3 4 ∷ []) 1 }
-    ensures fresh_pixels { fresh (pixel 1 2 3 255 ∷ pixel 1 2 3 255 ∷ pixel 0 0 0 255 ∷ [])
-        ≡ pixel 1 2 3 255 ∷ [] }
-    ensures repeat_is_not_noted { noted (pixel 0 0 0 255 ∷ []) 53 ≡ pixel 0 0 0 0 }
-    ensures fresh_is_noted { noted (pixel 1 99 2 255 ∷ []) 53 ≡ pixel 1 99 2 255 }
-    ensures stands_after { StandsAfter (1 ∷ 2 ∷ 3 ∷ 4 ∷ []) 1 (9 ∷ 8 ∷ [])
-        (1 ∷ 9 ∷ 8 ∷ 4 ∷ []) 3 }
-    ensures beginning { AppendsBeginning (Some (1 ∷ [])) (Some (1 ∷ 2 ∷ [])) (2 ∷ 3 ∷ []) }
 {}

@@ -5,7 +5,7 @@ use Rattle.qoi.specs.declared.chunk.Chunk.TheVariants.{Run, Rgb}
 use Rattle.qoi.specs.Qoi.{end_marker}
 use Rattle.qoi.specs.Verdicts.{IsWhole, IsCut, IsWrong}
 use Rattle.qoi.proofs.format.OneVerdict.{wrong_is_one, whole_not_cut}
-use Rattle.qoi.proofs.laws.examples.verdict_examples.Goals as goal
+use Rattle.qoi_tool.proofs.tests.library.definitions.verdict_examples.Goals as goal
 
 -- eight zeros aren't the end marker
 zeros : replicate 8 0 ≢ end_marker

@@ -1,7 +1,7 @@
 -- Each text is computed.
 use Rattle.std.proofs.Common.{refl}
 use Rattle.std.specs.Fmt.{digits}
-use Rattle.qoi.proofs.laws.examples.text_examples.Goals as goal
+use Rattle.qoi_tool.proofs.tests.library.definitions.text_examples.Goals as goal
 
 pub returns : goal.returns
 unfolding digits
