@@ -68,7 +68,6 @@ pub(super) fn write_sparse<'a, const N: usize, const STYLE: u8, const ROOM: usiz
 ) -> Pixels<'a, N>
     requires some { pixels_in raw ≢ [] }
     requires room { piece.old.end < ROOM - SPARE }
-    ensures style { coder.new.style ≡ coder.old.style }
     ensures less { length (pixels_in result) < length (pixels_in raw.entry) }
     ensures written { CoderPasses coder.old table.old piece.old (pixels_in raw.entry)
         coder.new table.new piece.new (pixels_in result) }

@@ -16,9 +16,10 @@ use Rattle.qoi.specs.EncoderState.{EncoderState}
 use Rattle.qoi.specs.writers.Writes.{WroteBeginning, AppendsBeginning}
 use Rattle.qoi.specs.inner.Sending.{appended, pixel_size, EndsOpaque, IsNew, IsReady, ImageBetween, GoesOn, BreaksOff, Ends}
 use Rattle.qoi.specs.inner.Pixels.{pixels_in}
-use Rattle.qoi.proofs.format.RawPixels.{pixels_of-append, pixels_of_are, length-pixels_of}
+use Rattle.qoi.proofs.format.RawPixels.{pixels_of-append, pixels_of_are}
 use Rattle.qoi.proofs.format.WholePixels.{by_channels, whole_pixels}
 use Rattle.qoi.proofs.decoding.ImageSize.{channels_are}
+use Rattle.qoi.proofs.encoding.coder.PixelsIn.{byte_count}
 use Rattle.qoi.proofs.encoding.coder.CoderSteps.{all_bytes, coder_starts}
 use Rattle.qoi.proofs.encoding.piece.WriterProgress.{Follows, begins, but_all, but_more, but_on}
 
@@ -86,13 +87,8 @@ pub begins_appended : {a b : Option (List ℕ)} {bytes : List ℕ} → WroteBegi
 begins_appended some = (some.1.front, some.0, some.1.split, some.1.went)
 
 -- the bytes of whole pixels
-pub count_in : (n : ℕ) (bytes : List ℕ) → IsChannels n → length bytes % n ≡ 0 → length bytes ≡ n * length (pixels_of n bytes)
-count_in n bytes is whole =
-    let size = whole_pixels n (length bytes) is whole in
-    size ∙ ap (λ k. n * k) (sym (length-pixels_of n (length bytes / n) bytes is size))
-
 pub bytes_in : {n : ℕ} (raw : Pixels n) → length raw.bytes.now ≡ n * length (pixels_in raw)
-bytes_in {n} raw = count_in n raw.bytes.now raw.channels raw.whole
+bytes_in {n} raw = byte_count n raw.bytes.now raw.channels raw.whole
 
 -- fewer pixels than a block has, and fewer bytes
 pub few_bytes : (n p : ℕ) → IsChannels n → p < 16 → n * p < 16 * n
@@ -101,7 +97,7 @@ few_bytes n p is = by_channels (λ m. p < 16 → m * p < 16 * m) is (λ a. omega
 pub few_pixels : (n : ℕ) (bytes : List ℕ) → IsChannels n → length bytes % n ≡ 0 → length bytes < 16 * n → length (pixels_of n bytes) < 16
 few_pixels n bytes is whole few =
     let p = length (pixels_of n bytes) in
-    by_channels (λ m. m * p < 16 * m → p < 16) is (λ a. omega arith) (λ a. omega arith) (omega (arith, count_in n bytes is whole, few))
+    by_channels (λ m. m * p < 16 * m → p < 16) is (λ a. omega arith) (λ a. omega arith) (omega (arith, byte_count n bytes is whole, few))
 
 -- fewer pixels, and fewer bytes
 pub fewer_bytes : {n : ℕ} (xs ys : Pixels n) → length (pixels_in xs) < length (pixels_in ys) → length xs.bytes.now < length ys.bytes.now

@@ -24,16 +24,3 @@ returns-then-are_full g c = λ s before changes carry placed b.
     let all = changes s before in
     let full = c.are_full.ensures (lanes_of s.held s.last ps) all.steps_are.a_is (stands_by s ps b.sixteen b.last_is c.args.stands b.stands_are) c.if-are_full.true in
     c.spell_full.ensures (style_of g.row.STYLE) s ps b.sixteen b.last_is all.rep_is.is b.red_is full
-
-pub returns-in-Reference : goal.returns-in-Reference
-returns-in-Reference g c = λ s before changes carry placed b.
-    let ps : List RgbaPixel = block_pixels c.args.self.words in
-    plain (style_of g.row.STYLE) s ps c.spell_block-x.result (subst (λ z. (z ≡ Reference) ⊎ (z ≡ Tight)) c.style_of.ensures c.in-Reference.is)
-    (c.spell_block-x.ensures s ps carry (changes s before) b)
-
-pub returns-in-Places : goal.returns-in-Places
-returns-in-Places g c = λ s before changes carry placed b.
-    let ps : List RgbaPixel = block_pixels c.args.self.words in
-    let is = sym c.style_of.ensures ∙ c.in-Places.is in
-    subst (λ z. HasSpelled z s ps c.name_single.result) (sym is)
-    (c.name_single.ensures s ps b.sixteen (placed is) b.stands_are b.places_are (c.spell_block-x.ensures s ps carry (changes s before) b))
