@@ -41,19 +41,9 @@ pub record InBlocks {N : ℕ} (style : Style) (ahead : List ℕ) (n : ℕ) (rest
   pub between : CoderBetween style ahead (rest ++ more) table last kept
   pub goes : GoesByBlocks style last n rest
 
--- what a loop has between two blocks
-pub record Blocks (N : ℕ) : Type 0 where
-  pub rest : List RgbaPixel
-  pub table : List RgbaPixel
-  pub carry : Carry N
-  pub kept : List ℕ
-
--- with these pixels and this piece
-abbrev pub blocks : {N ROOM : ℕ} → Pixels N → List RgbaPixel → Carry N → Piece ROOM → Blocks N
-blocks rest table carry piece = record { rest = pixels_in rest; table = table; carry = carry; kept = kept_bytes piece }
-
--- From one to the other some pixels are written, of a call's `least` or more.
-pub record WritesBlocks {N : ℕ} (style : Style) (least : ℕ) (old new : Blocks N) : Type 0 where
-  pub less : length new.rest < length old.rest
+-- From the pixels, table, carry and piece to these some pixels are written, of a call's `least` or more.
+pub record WritesBlocks {N ROOM : ℕ} (style : Style) (least : ℕ) (raw : Pixels N) (table : List RgbaPixel) (carry : Carry N) (piece : Piece ROOM)
+    (raw' : Pixels N) (table' : List RgbaPixel) (carry' : Carry N) (piece' : Piece ROOM) : Type 0 where
+  pub less : length (pixels_in raw') < length (pixels_in raw)
   pub written : (ahead : List ℕ) (n : ℕ) (more : List RgbaPixel) → least ≤ n
-      → InBlocks style ahead n old.rest more old.table old.carry old.kept → InBlocks style ahead n new.rest more new.table new.carry new.kept
+      → InBlocks style ahead n (pixels_in raw) more table carry (kept_bytes piece) → InBlocks style ahead n (pixels_in raw') more table' carry' (kept_bytes piece')

@@ -4,7 +4,7 @@ ghost use Rattle.std.specs.Prelude.{◌≡◌, ◌≢◌, ℕ, ◌<◌, ◌≤�
 ghost use Rattle.qoi.specs.declared.types.Style.{Style};
 ghost use Rattle.qoi.specs.Qoi.{RgbaPixel};
 ghost use Rattle.qoi.specs.inner.block.Block.{last_pixel};
-ghost use Rattle.qoi.specs.inner.BlockLoop.{GoesByBlocks, IsCarried, WritesBlocks, blocks};
+ghost use Rattle.qoi.specs.inner.BlockLoop.{GoesByBlocks, IsCarried, WritesBlocks};
 ghost use Rattle.qoi.specs.inner.CoderLoop.{CoderBetween};
 ghost use Rattle.qoi.specs.inner.CoderState.{style_of};
 ghost use Rattle.qoi.specs.inner.Piece.{kept_bytes};
@@ -87,8 +87,7 @@ fn write_long_group<'a, 'p, const N: usize, const ROOM: usize>(
 ) -> (Pixels<'a, N>, Carry<N>, Piece<'p, ROOM>)
     requires { slice_get (pixels_in raw) 0 ≡ Some (last_pixel carry.before) }
     ensures { (style : Style) (least : ℕ) (table : List RgbaPixel) → WritesBlocks style least
-        (blocks raw.entry table carry.entry piece.entry.piece)
-        (blocks result.0 table result.1 result.2) }
+        raw.entry table carry.entry piece.entry.piece result.0 table result.1 result.2 }
 {
     let mut piece = piece.piece;
     let carried = usize::from(carry.count);
@@ -115,8 +114,8 @@ fn write_front<'a, 'p, const N: usize, const STYLE: u8, const ROOM: usize, const
     carry: Carry<N>,
 ) -> (Pixels<'a, N>, Carry<N>, Piece<'p, ROOM>)
     ensures { WritesBlocks (style_of STYLE) (length (pixels_in front.entry.whole))
-        (blocks front.entry.raw table.old carry.entry piece.entry.piece)
-        (blocks result.0 table.new result.1 result.2) }
+        front.entry.raw table.old carry.entry piece.entry.piece
+        result.0 table.new result.1 result.2 }
 {
     let block = Block::first::<N>(front, carry);
     let marks = block.marks();
@@ -153,8 +152,8 @@ fn fill_by<'a, 'p, const N: usize, const STYLE: u8, const ROOM: usize, const FUL
 ) -> (Pixels<'a, N>, Carry<N>, Piece<'p, ROOM>)
     requires { 16 ≤ length (pixels_in raw) }
     ensures { WritesBlocks (style_of STYLE) (length (pixels_in raw.entry))
-        (blocks raw.entry table.old carry.entry piece.entry.piece)
-        (blocks result.0 table.new result.1 result.2) }
+        raw.entry table.old carry.entry piece.entry.piece
+        result.0 table.new result.1 result.2 }
 {
     let mut piece = piece.piece;
     let mut rest = raw;
@@ -180,8 +179,8 @@ fn fill_full<'a, 'p, const N: usize, const STYLE: u8, const ROOM: usize>(
 ) -> (Pixels<'a, N>, Carry<N>, Piece<'p, ROOM>)
     requires { 16 ≤ length (pixels_in raw) }
     ensures { WritesBlocks (style_of STYLE) (length (pixels_in raw.entry))
-        (blocks raw.entry table.old carry.entry piece.entry.piece)
-        (blocks result.0 table.new result.1 result.2) }
+        raw.entry table.old carry.entry piece.entry.piece
+        result.0 table.new result.1 result.2 }
 {
     fill_by::<N, STYLE, ROOM, true>(table, piece, raw, carry)
 }
@@ -197,8 +196,8 @@ fn fill<'a, 'p, const N: usize, const STYLE: u8, const ROOM: usize>(
 ) -> (Pixels<'a, N>, Carry<N>, Piece<'p, ROOM>)
     requires { 16 ≤ length (pixels_in raw) }
     ensures { WritesBlocks (style_of STYLE) (length (pixels_in raw.entry))
-        (blocks raw.entry table.old carry.entry piece.entry.piece)
-        (blocks result.0 table.new result.1 result.2) }
+        raw.entry table.old carry.entry piece.entry.piece
+        result.0 table.new result.1 result.2 }
 {
     if begin_full(table, carry.before.last(), raw) {
         return fill_full::<N, STYLE, ROOM>(table, piece, raw, carry);

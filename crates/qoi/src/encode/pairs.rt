@@ -1,8 +1,7 @@
 //! Pixels that stand twice each, or nearly: a repeat and a fresh pixel by turns (QOI specification
 //! 1.0, "Chunks").
-ghost use Rattle.std.specs.Prelude.{◌≡◌, ◌≢◌, ℕ, ◌-◌, ◌<◌, List, [], ◌++◌, length};
+ghost use Rattle.std.specs.Prelude.{◌≢◌, ◌-◌, ◌<◌, [], length};
 ghost use Rattle.qoi.specs.declared.encode.piece.TheConstants.{SPARE};
-ghost use Rattle.qoi.specs.Qoi.{RgbaPixel};
 ghost use Rattle.qoi.specs.inner.CoderSteps.{CoderPasses};
 ghost use Rattle.qoi.specs.inner.Pixels.{pixels_in};
 

@@ -1,8 +1,7 @@
 //! Blocks of which few pixels are fresh, one after the other (QOI specification 1.0, "Chunks"): packed
 //! pixels are compared with those before them, and no planes are made.
-ghost use Rattle.std.specs.Prelude.{◌≡◌, ◌≢◌, ℕ, ◌-◌, ◌<◌, ◌≤◌, ◌^◌, List, [], ◌++◌, length, take, slice_index};
+ghost use Rattle.std.specs.Prelude.{◌≡◌, ◌≢◌, ◌-◌, ◌<◌, ◌≤◌, ◌^◌, [], length, take, slice_index};
 ghost use Rattle.qoi.specs.declared.encode.piece.TheConstants.{SPARE};
-ghost use Rattle.qoi.specs.Qoi.{RgbaPixel};
 ghost use Rattle.qoi.specs.inner.CoderSteps.{CoderPasses};
 ghost use Rattle.qoi.specs.inner.Packed.{pixel_of_word};
 ghost use Rattle.qoi.specs.inner.Pixels.{pixels_in};

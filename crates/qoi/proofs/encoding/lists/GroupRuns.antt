@@ -61,10 +61,6 @@ pub counted_on : (p : RgbaPixel) (pixels rest : List RgbaPixel) (n more : ℕ) �
 counted_on p pixels rest n more e w = count_of p pixels (drop more rest) (n + more)
     (e ∙ ap (λ x. replicate n p ++ x) w.same ∙ repeats_after n more p (drop more rest)) (λ same. w.other (nth_first more rest ∙ same))
 
--- the rest is whole, too
-pub whole_rest : (n count len : ℕ) → IsChannels n → len % n ≡ 0 → n * count ≤ len → (len - n * count) % n ≡ 0
-whole_rest n count len is = by_channels (λ k. len % k ≡ 0 → k * count ≤ len → (len - k * count) % k ≡ 0) is (λ a b. omega arith) (λ a b. omega arith)
-
 -- dropping k pixels drops their bytes
 pub pixels_drop : (n k : ℕ) (bytes : List ℕ) → IsChannels n → n * k ≤ length bytes → drop k (pixels_of n bytes) ≡ pixels_of n (drop (n * k) bytes)
 pixels_drop n k bytes is inside =
