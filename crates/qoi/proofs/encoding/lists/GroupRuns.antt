@@ -1,5 +1,5 @@
 -- The pixels that repeat at the front of bytes, and the runs of a group.
-use Rattle.std.proofs.Common.{◌≡◌, ◌≢◌, inl, inr, ℕ, zero, suc, ◌+◌, ◌-◌, ◌*◌, ◌%◌, ◌<◌, ◌≤◌, List, [], ◌∷◌, ◌++◌, length, take, drop, replicate, false, ◌==◌, Some, refl, sym, ap, ◌∙◌, arith, take-append-drop}
+use Rattle.std.proofs.Common.{◌≡◌, ◌≢◌, inl, inr, ℕ, zero, suc, ◌+◌, ◌*◌, ◌<◌, ◌≤◌, List, [], ◌∷◌, ◌++◌, length, take, drop, replicate, false, ◌==◌, Some, refl, sym, ap, ◌∙◌, arith, take-append-drop}
 use Rattle.std.proofs.Math.Seq.{drop-append_seam}
 use Rattle.std.proofs.lemmas.List.{length-replicate, length-take-le}
 use Rattle.std.proofs.lemmas.Bool.{ne_eqb}
@@ -7,7 +7,6 @@ use Rattle.std.specs.List.{slice_get}
 use Rattle.qoi.specs.Qoi.{RgbaPixel}
 use Rattle.qoi.specs.Raw.{IsChannels, pixels_of}
 use Rattle.qoi.specs.Runs.{IsCount}
-use Rattle.qoi.proofs.format.WholePixels.{by_channels}
 use Rattle.qoi.proofs.format.ChunkSteps.{repeats_after}
 use Rattle.qoi.proofs.format.RawPixels.{length-pixels_of, pixels_of-append}
 

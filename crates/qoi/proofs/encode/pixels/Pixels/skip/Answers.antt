@@ -7,16 +7,6 @@ use Rattle.qoi.proofs.encoding.lists.GroupRuns.{pixels_drop}
 use Rattle.qoi.proofs.encoding.coder.PixelsIn.{bytes_within}
 use Rattle.qoi.proofs.encode.pixels.Pixels.skip.Goals as goal
 
-pub overflow_mul-count : goal.overflow_mul-count
-overflow_mul-count g c =
-    let raw = c.args.self in
-    omega (arith, bytes_within g.row.N c.args.count raw.bytes.now raw.channels raw.whole c.requires)
-
-pub skip-requires : goal.skip-requires
-skip-requires g c =
-    let raw = c.args.self in
-    bytes_within g.row.N c.args.count raw.bytes.now raw.channels raw.whole c.requires
-
 pub returns : goal.returns
 returns g c =
     let raw = c.args.self in
