@@ -7,7 +7,6 @@ pub mod FourFours
 pub mod FreshWords
 pub mod FrontBlock
 pub mod FullBlock
-pub mod InStyle
 pub mod LaneBytes
 pub mod LastCount
 pub mod OpaqueBlock

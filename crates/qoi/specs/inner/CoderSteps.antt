@@ -10,29 +10,21 @@ use Rattle.qoi.specs.inner.CoderLoop.{CoderBetween}
 use Rattle.qoi.specs.inner.Piece.{kept_bytes}
 use Rattle.qoi.specs.inner.Pixels.{pixels_in}
 
--- of these pixels the rest is left to write, whatever others follow
-abbrev pub CoderPasses : {N size : ℕ} → Coder N → List RgbaPixel → Piece size → List RgbaPixel → Coder N → List RgbaPixel → Piece size → List RgbaPixel → Type 0
-CoderPasses c table piece pixels c' table' piece' rest = (ahead : List ℕ) (more : List RgbaPixel)
-    → CoderBetween c.style ahead (pixels ++ more) table c.last (kept_bytes piece) → CoderBetween c'.style ahead (rest ++ more) table' c'.last (kept_bytes piece')
+-- of these pixels the rest is left to write, in the same style, whatever others follow
+pub record CoderPasses {N size : ℕ} (c : Coder N) (table : List RgbaPixel) (piece : Piece size) (pixels : List RgbaPixel)
+    (c' : Coder N) (table' : List RgbaPixel) (piece' : Piece size) (rest : List RgbaPixel) : Type 0 where
+  pub style : c'.style ≡ c.style
+  pub on : (ahead : List ℕ) (more : List RgbaPixel) → CoderBetween c.style ahead (pixels ++ more) table c.last (kept_bytes piece)
+      → CoderBetween c'.style ahead (rest ++ more) table' c'.last (kept_bytes piece')
 
 -- if no others follow these pixels, all that was ahead is kept
-abbrev pub CoderEnds : {N size : ℕ} → Coder N → List RgbaPixel → Piece size → List RgbaPixel → Piece size → Type 0
-CoderEnds c table piece pixels piece' = (ahead : List ℕ) → CoderBetween c.style ahead pixels table c.last (kept_bytes piece) → ahead ≡ kept_bytes piece'
+pub record CoderEnds {N size : ℕ} (c : Coder N) (table : List RgbaPixel) (piece : Piece size) (pixels : List RgbaPixel) (piece' : Piece size) : Type 0 where
+  pub all : (ahead : List ℕ) → CoderBetween c.style ahead pixels table c.last (kept_bytes piece) → ahead ≡ kept_bytes piece'
 
--- what there is between two calls that write some of an image's pixels
-pub record Between : Type 0 where
-  pub rest : List RgbaPixel
-  pub table : List RgbaPixel
-  pub last : LastPixel
-  pub kept : List ℕ
-
--- with these pixels and this piece
-abbrev pub between : {N ROOM : ℕ} → Pixels N → List RgbaPixel → LastPixel → Piece ROOM → Between
-between rest table last piece = record { rest = pixels_in rest; table = table; last = last; kept = kept_bytes piece }
-
--- From one to the other some pixels of so many channels are written, whatever others follow.
-pub record WritesSome (channels : ℕ) (style : Style) (old new : Between) : Type 0 where
-  pub opaque : channels ≡ 3 → new.last.px.a ≡ 255
-  pub less : length new.rest < length old.rest
-  pub written : (ahead : List ℕ) (more : List RgbaPixel)
-      → CoderBetween style ahead (old.rest ++ more) old.table old.last old.kept → CoderBetween style ahead (new.rest ++ more) new.table new.last new.kept
+-- From the pixels, table, last pixel and piece to these some pixels are written, whatever others follow.
+pub record WritesSome {N ROOM : ℕ} (style : Style) (raw : Pixels N) (table : List RgbaPixel) (last : LastPixel) (piece : Piece ROOM)
+    (raw' : Pixels N) (table' : List RgbaPixel) (last' : LastPixel) (piece' : Piece ROOM) : Type 0 where
+  pub opaque : N ≡ 3 → last'.px.a ≡ 255
+  pub less : length (pixels_in raw') < length (pixels_in raw)
+  pub on : (ahead : List ℕ) (more : List RgbaPixel) → CoderBetween style ahead (pixels_in raw ++ more) table last (kept_bytes piece)
+      → CoderBetween style ahead (pixels_in raw' ++ more) table' last' (kept_bytes piece')

@@ -1,16 +1,13 @@
 //! Writes what is at the front of an image's pixels into a piece: blocks of sixteen, and between
 //! two of them repeats are carried (QOI specification 1.0, "Data" and "Chunks").
-ghost use Rattle.std.specs.Prelude.{◌≡◌, ◌≢◌, ◌⊎◌, ℕ, ◌<◌, ◌≤◌, ◌%◌, true, List, [], ◌++◌, Some, length, take, slice_get, IsTrue};
-ghost use Rattle.qoi.specs.declared.encode.carry.TheConstants.{FRONT_CARRIED};
+ghost use Rattle.std.specs.Prelude.{◌≡◌, ◌≢◌, ℕ, ◌<◌, ◌≤◌, true, List, [], ◌++◌, Some, length, slice_get, IsTrue};
 ghost use Rattle.qoi.specs.declared.types.Style.{Style};
-ghost use Rattle.qoi.specs.declared.types.Style.TheVariants.{Tight};
 ghost use Rattle.qoi.specs.Qoi.{RgbaPixel};
 ghost use Rattle.qoi.specs.inner.block.Block.{last_pixel};
-ghost use Rattle.qoi.specs.inner.block.Marks.{fresh_marks};
-ghost use Rattle.qoi.specs.inner.BlockLoop.{GoesByBlocks, InBlocks, WritesBlocks, blocks};
+ghost use Rattle.qoi.specs.inner.BlockLoop.{GoesByBlocks, IsCarried, WritesBlocks};
 ghost use Rattle.qoi.specs.inner.CoderLoop.{CoderBetween};
 ghost use Rattle.qoi.specs.inner.CoderState.{style_of};
-ghost use Rattle.qoi.specs.inner.CoderSteps.{WritesSome, between};
+ghost use Rattle.qoi.specs.inner.CoderSteps.{WritesSome};
 ghost use Rattle.qoi.specs.inner.Piece.{kept_bytes};
 ghost use Rattle.qoi.specs.inner.Pixels.{pixels_in};
 
@@ -43,7 +40,7 @@ fn goes_by_blocks<const N: usize>(style: Style, last: LastPixel, raw: Pixels<N>)
     if go_by_pairs(last.px, raw) || go_by_fresh::<N>(PixelOf { px: last.px }, raw) {
         return false;
     }
-    // In `Tight`, `write_group` relies on a fresh pixel that came.
+    // In `Tight`, `write_front` relies on a fresh pixel that came.
     let may_open = match style {
         Reference | Places => last.repeats == 0,
         Tight => false,
@@ -58,10 +55,7 @@ fn goes_by_blocks<const N: usize>(style: Style, last: LastPixel, raw: Pixels<N>)
 // with one (`goes_by_blocks`).
 #[inline(always)]
 fn carried<const N: usize>(coder: &Coder<N>) -> Carry<N>
-    ensures { (style : Style) (ahead : List ℕ) (n : ℕ) (rest more table : List RgbaPixel)
-        (kept : List ℕ) → GoesByBlocks style coder.now.last n rest
-        → CoderBetween style ahead (rest ++ more) table coder.now.last kept
-        → InBlocks style ahead n rest more table result kept }
+    ensures { IsCarried coder.now.last result }
 {
     Carry {
         before: Planes::splat::<N>(PixelOf { px: coder.last.px }),
@@ -75,12 +69,7 @@ fn carried<const N: usize>(coder: &Coder<N>) -> Carry<N>
 fn coder_after<const N: usize, const STYLE: u8>(carry: Carry<N>) -> Coder<N>
     ensures style { result.style ≡ style_of STYLE }
     ensures begun { result.last.begun ≡ true }
-    ensures px { result.last.px ≡ last_pixel carry.entry.before }
-    ensures repeats { result.last.repeats ≡ carry.entry.count }
-    ensures between { (style : Style) (ahead : List ℕ) (n : ℕ) (rest more table : List RgbaPixel)
-        (kept : List ℕ) → (style ≡ Tight) ⊎ (length rest < n)
-        → InBlocks style ahead n rest more table carry.entry kept
-        → CoderBetween style ahead (rest ++ more) table result.last kept }
+    ensures carried { IsCarried result.last carry.entry }
 {
     let last = LastPixel {
         px: carry.before.last(),
@@ -104,8 +93,7 @@ fn write_long_group<'a, 'p, const N: usize, const ROOM: usize>(
 ) -> (Pixels<'a, N>, Carry<N>, Piece<'p, ROOM>)
     requires { slice_get (pixels_in raw) 0 ≡ Some (last_pixel carry.before) }
     ensures { (style : Style) (least : ℕ) (table : List RgbaPixel) → WritesBlocks style least
-        (blocks raw.entry table carry.entry piece.entry.piece)
-        (blocks result.0 table result.1 result.2) }
+        raw.entry table carry.entry piece.entry.piece result.0 table result.1 result.2 }
 {
     let mut piece = piece.piece;
     let carried = usize::from(carry.count);
@@ -120,54 +108,10 @@ fn write_long_group<'a, 'p, const N: usize, const ROOM: usize>(
     (raw.skip(ahead), after, piece)
 }
 
-// Writes the repeats at the front and the fresh pixel after them, in style `Tight`. Returns the
-// rest, and what is carried.
-#[inline(always)]
-fn write_group<'a, 'p, const N: usize, const STYLE: u8, const ROOM: usize>(
-    table: &mut PixelTable,
-    piece: OpenPiece<'p, ROOM>,
-    front: FrontBlock<'a, N>,
-    carry: Carry<N>,
-) -> (Pixels<'a, N>, Carry<N>, Piece<'p, ROOM>)
-    requires { style_of STYLE ≡ Tight }
-    ensures { WritesBlocks (style_of STYLE) (length (pixels_in front.entry.whole))
-        (blocks front.entry.raw table.old carry.entry piece.entry.piece)
-        (blocks result.0 table.new result.1 result.2) }
-{
-    let mut piece = piece.piece;
-    let mut coder = coder_after::<N, STYLE>(carry);
-    let rest = coder.write_next(table, &mut piece, front.raw);
-    (rest, carried(&coder), piece)
-}
-
-// Writes a block, but for the repeats at its end, from one fresh pixel to the next. A fresh pixel
-// came before it. Returns the rest, and what is carried.
-#[inline(always)]
-fn write_marked_block<'a, 'p, const N: usize, const STYLE: u8, const ROOM: usize>(
-    table: &mut PixelTable,
-    piece: OpenPiece<'p, ROOM>,
-    block: Marked<'a, N>,
-    carry: Carry<N>,
-) -> (Pixels<'a, N>, Carry<N>, Piece<'p, ROOM>)
-    requires some { 0 < block.marks }
-    requires few { block.marks % 2 ≡ 0 → carry.count ≤ FRONT_CARRIED }
-    requires marks { block.marks
-        ≡ fresh_marks (last_pixel carry.before) (take 16 (pixels_in block.front.raw)) }
-    requires later { length (pixels_in block.front.raw) < length (pixels_in block.front.whole) }
-    ensures { WritesBlocks (style_of STYLE) (length (pixels_in block.entry.front.whole))
-        (blocks block.entry.front.raw table.old carry.entry piece.entry.piece)
-        (blocks result.0 table.new result.1 result.2) }
-{
-    let mut piece = piece.piece;
-    let mut coder = coder_after::<N, STYLE>(carry);
-    let rest = write_marked(&mut coder, table, &mut piece, block);
-    (rest, carried(&coder), piece)
-}
-
-// Writes what is at the front: a block, but for the repeats at its end; if all repeat, the full
-// runs of the repeats there, if any; or repeats and the fresh pixel after them, if in style `Tight`
-// a pixel may be given by another index position than its own. Returns the rest, and what is
-// carried.
+// Writes what is at the front: a block, but for the repeats at its end, from one fresh pixel to the
+// next if few are fresh; if all repeat, the full runs of the repeats there, if any; or repeats and
+// the fresh pixel after them, if in style `Tight` a pixel may be given by another index position
+// than its own. Returns the rest, and what is carried.
 #[inline(always)]
 fn write_front<'a, 'p, const N: usize, const STYLE: u8, const ROOM: usize, const FULL: bool>(
     table: &mut PixelTable,
@@ -176,8 +120,8 @@ fn write_front<'a, 'p, const N: usize, const STYLE: u8, const ROOM: usize, const
     carry: Carry<N>,
 ) -> (Pixels<'a, N>, Carry<N>, Piece<'p, ROOM>)
     ensures { WritesBlocks (style_of STYLE) (length (pixels_in front.entry.whole))
-        (blocks front.entry.raw table.old carry.entry piece.entry.piece)
-        (blocks result.0 table.new result.1 result.2) }
+        front.entry.raw table.old carry.entry piece.entry.piece
+        result.0 table.new result.1 result.2 }
 {
     let block = Block::first::<N>(front, carry);
     let marks = block.marks();
@@ -185,11 +129,16 @@ fn write_front<'a, 'p, const N: usize, const STYLE: u8, const ROOM: usize, const
         return write_long_group(piece, front.raw, carry);
     }
     if goes_by_marks(marks, front, carry) {
-        let marked = Marked { front, marks };
-        return write_marked_block::<N, STYLE, ROOM>(table, piece, marked, carry);
+        let mut piece = piece.piece;
+        let mut coder = coder_after::<N, STYLE>(carry);
+        let rest = write_marked(&mut coder, table, &mut piece, Marked { front, marks });
+        return (rest, carried(&coder), piece);
     }
     if block.may_miss_blank(style_of::<STYLE>(), table) {
-        return write_group::<N, STYLE, ROOM>(table, piece, front, carry);
+        let mut piece = piece.piece;
+        let mut coder = coder_after::<N, STYLE>(carry);
+        let rest = coder.write_next(table, &mut piece, front.raw);
+        return (rest, carried(&coder), piece);
     }
     let (after, piece) = write_block::<N, STYLE, ROOM, FULL>(table, piece, block, carry);
     (front.raw.skip(16), after, piece)
@@ -209,8 +158,8 @@ fn fill<'a, 'p, const N: usize, const STYLE: u8, const ROOM: usize, const FULL: 
 ) -> (Pixels<'a, N>, Carry<N>, Piece<'p, ROOM>)
     requires { 16 ≤ length (pixels_in raw) }
     ensures { WritesBlocks (style_of STYLE) (length (pixels_in raw.entry))
-        (blocks raw.entry table.old carry.entry piece.entry.piece)
-        (blocks result.0 table.new result.1 result.2) }
+        raw.entry table.old carry.entry piece.entry.piece
+        result.0 table.new result.1 result.2 }
 {
     let mut piece = piece.piece;
     let mut rest = raw;
@@ -238,9 +187,8 @@ fn write_by_blocks<'a, 'p, const N: usize, const STYLE: u8, const ROOM: usize, c
     requires some { 16 ≤ length (pixels_in raw) }
     requires opaque { N ≡ 3 → last.old.px.a ≡ 255 }
     requires goes { GoesByBlocks (style_of STYLE) last.old (length (pixels_in raw)) (pixels_in raw) }
-    ensures { WritesSome N (style_of STYLE)
-        (between raw.entry table.old last.old piece.entry.piece)
-        (between result.0 table.new last.new result.1) }
+    ensures { WritesSome (style_of STYLE) raw.entry table.old last.old piece.entry.piece
+        result.0 table.new last.new result.1 }
 {
     let carry = carried(&Coder::<N>::new(style_of::<STYLE>(), *last));
     let (rest, after, piece) = fill::<N, STYLE, ROOM, FULL>(table, piece, raw, carry);
@@ -261,9 +209,8 @@ fn write_apart<'a, 'p, const N: usize, const STYLE: u8, const ROOM: usize>(
 ) -> (Pixels<'a, N>, Piece<'p, ROOM>)
     requires some { pixels_in raw ≢ [] }
     requires opaque { N ≡ 3 → last.old.px.a ≡ 255 }
-    ensures { WritesSome N (style_of STYLE)
-        (between raw.entry table.old last.old piece.entry.piece)
-        (between result.0 table.new last.new result.1) }
+    ensures { WritesSome (style_of STYLE) raw.entry table.old last.old piece.entry.piece
+        result.0 table.new last.new result.1 }
 {
     let mut piece = piece.piece;
     let mut coder = Coder::<N>::new(style_of::<STYLE>(), *last);
@@ -286,9 +233,8 @@ pub(super) fn write_some<'a, 'p, const N: usize, const STYLE: u8, const ROOM: us
 ) -> (Pixels<'a, N>, Piece<'p, ROOM>)
     requires some { 16 ≤ length (pixels_in raw) }
     requires opaque { N ≡ 3 → last.old.px.a ≡ 255 }
-    ensures { WritesSome N (style_of STYLE)
-        (between raw.entry table.old last.old piece.entry.piece)
-        (between result.0 table.new last.new result.1) }
+    ensures { WritesSome (style_of STYLE) raw.entry table.old last.old piece.entry.piece
+        result.0 table.new last.new result.1 }
 {
     if !goes_by_blocks(style_of::<STYLE>(), *last, raw) {
         return write_apart::<N, STYLE, ROOM>(last, table, piece, raw);

@@ -1,6 +1,6 @@
 //! What is carried from one block of sixteen pixels to the next, and the byte of a run that ends
 //! where a block begins. If it ends within the block, `block/spelling` gives the byte.
-ghost use Rattle.std.specs.Prelude.{◌≡◌, ◌+◌, ◌≤◌, ◌<◌, [], ◌∷◌, ◌++◌, length, take, drop, slice_index};
+ghost use Rattle.std.specs.Prelude.{◌≡◌, ◌+◌, ◌<◌, nat_lt, if◌then◌else◌, ◌++◌, length, take, drop, slice_index};
 ghost use Rattle.qoi.specs.Qoi.{run_max};
 ghost use Rattle.qoi.specs.Raw.{IsChannels, IsChannels-prop};
 ghost use Rattle.qoi.specs.inner.block.State.{group_bytes};
@@ -29,28 +29,9 @@ pub(super) struct Carry<const N: usize> {
 }
 
 impl<const N: usize> Carry<N> {
-    // The byte of the run that goes over from the blocks before, if a fresh pixel follows. In style
-    // `Places` a single repeat has the byte of its index position, if the chunk before isn't that
-    // position. The byte isn't used if there are no repeats.
-    #[inline(always)]
-    fn run_byte(self, style: Style) -> u8
-        ensures { 0 < self.entry.count
-            → group_bytes style self.entry.placed (last_pixel self.entry.before) self.entry.count
-            ≡ result ∷ [] }
-    {
-        let run = QOI_OP_RUN - 1 + self.count;
-        match style {
-            Reference | Tight => run,
-            Places => pick(
-                (self.count == 1) & !self.placed,
-                self.before.last().hash_index(),
-                run,
-            ),
-        }
-    }
-
-    /// Stores at `at` the byte of the run that goes over from the blocks before. It is stored in
-    /// any case; whether it is kept is known later (`run_end`).
+    /// Stores at `at` the byte of the run that goes over from the blocks before. In style `Places`
+    /// a single repeat has the byte of its index position, if the chunk before it isn't that
+    /// position. It is stored in any case; whether it is kept is known later (`run_end`).
     #[inline(always)]
     pub(super) fn store_run(self, style: Style, out: &mut [u8], at: usize)
         requires { at < length out.old }
@@ -61,7 +42,15 @@ impl<const N: usize> Carry<N> {
         ensures front { take at out.new ≡ take at out.old }
         ensures later { drop (at + 1) out.new ≡ drop (at + 1) out.old }
     {
-        out[at] = self.run_byte(style);
+        let run = QOI_OP_RUN - 1 + self.count;
+        out[at] = match style {
+            Reference | Tight => run,
+            Places => pick(
+                (self.count == 1) & !self.placed,
+                self.before.last().hash_index(),
+                run,
+            ),
+        };
     }
 
     /// Where the run's byte, which stands at `at`, ends. The byte is dropped if there are no
@@ -69,8 +58,7 @@ impl<const N: usize> Carry<N> {
     #[inline(always)]
     pub(super) fn run_end(self, at: usize, rep: u8) -> usize
         requires room { at < usize.MAX }
-        ensures stays { self.entry.count ≤ rep → result ≡ at }
-        ensures some { rep < self.entry.count → result ≡ at + 1 }
+        ensures { result ≡ at + (if nat_lt rep self.entry.count then 1 else 0) }
     {
         at + usize::from(self.count > rep)
     }

@@ -102,10 +102,8 @@ fn write_rest<const N: usize, const ROOM: usize>(
 {
     let mut coder = coder;
     let rest = Pixels::<N>::new(left);
-    if rest.is_empty() {
-        coder.write_last(piece);
-    } else if ROOM == FEW_ROOM {
-        // As `Coder::write_few`, but inlined: it is most of what is done.
+    if rest.is_empty() || ROOM == FEW_ROOM {
+        // As `Coder::write_few`, but inlined: it is little, or most of what is done.
         coder.write_each(table, piece, rest);
     } else {
         coder.write_few(table, piece, rest);

@@ -4,7 +4,6 @@ ghost use Rattle.std.specs.Prelude.{◌≡◌, ◌≢◌, ℕ, ◌+◌, ◌-◌,
 ghost use Rattle.qoi.specs.declared.chunk.Chunk.{Chunk};
 ghost use Rattle.qoi.specs.declared.encode.piece.TheConstants.{SPARE, RUNS_AT_ONCE};
 ghost use Rattle.qoi.specs.declared.types.Style.{Style};
-ghost use Rattle.qoi.specs.declared.types.Style.TheVariants.{Places, Tight};
 ghost use Rattle.qoi.specs.Qoi.{RgbaPixel, Past, run_max, chunk_max, marker_size, previous, seen, hash, IsChunk, bytes_of};
 ghost use Rattle.qoi.specs.Raw.{IsChannels, IsChannels-prop};
 ghost use Rattle.qoi.specs.Runs.{runs_by};
@@ -131,18 +130,6 @@ impl<const N: usize> Coder<N> {
         }
     }
 
-    // Whether the last chunk names its pixel's index position, in the style that asks for it; in
-    // others a constant, which no register holds.
-    #[inline(always)]
-    fn placed_if(&self, stands: bool) -> bool
-        ensures { self.now.style ≡ Places → result ≡ stands }
-    {
-        match self.style {
-            Reference | Tight => false,
-            Places => stands,
-        }
-    }
-
     // Writes the fresh pixel `next`: by its index position if it stands there, else as
     // `chunk_if_absent` has it. Then puts it at its position, and it is the last pixel.
     #[inline(always)]
@@ -173,7 +160,11 @@ impl<const N: usize> Coder<N> {
         self.last = LastPixel {
             px,
             begun: true,
-            placed: self.placed_if(stands),
+            // In the other styles a constant, which no register holds.
+            placed: match self.style {
+                Reference | Tight => false,
+                Places => stands,
+            },
             repeats: 0,
         };
         let number = pick(stands, u32::from(place), number);
@@ -197,7 +188,6 @@ impl<const N: usize> Coder<N> {
         ensures none { drop result (pixels_in raw.entry) ≢ [] → self.new.last.repeats ≡ 0 }
         ensures some { slice_get (drop result (pixels_in raw.entry)) 0 ≡ Some self.old.last.px
             → 0 < result }
-        ensures style { self.new.style ≡ self.old.style }
         ensures same { (self.new.last.px ≡ self.old.last.px)
             × (self.new.last.begun ≡ self.old.last.begun) }
         ensures written { CoderPasses self.old table.old piece.old (pixels_in raw.entry)
@@ -240,12 +230,12 @@ impl<const N: usize> Coder<N> {
         requires fresh { slice_get (pixels_in group.raw) group.ahead ≢ Some self.old.last.px }
         requires room { piece.old.end + (1 + chunk_max + marker_size) ≤ ROOM }
         ensures end { piece.new.end ≤ piece.old.end + (1 + chunk_max) }
-        ensures style { self.new.style ≡ self.old.style }
         ensures begun { (self.new.last.begun ≡ true) × (self.new.last.repeats ≡ 0) }
         ensures px { slice_get (pixels_in group.entry.raw) group.entry.ahead
             ≡ Some self.new.last.px }
         ensures rest { pixels_in result
             ≡ drop (group.entry.ahead + 1) (pixels_in group.entry.raw) }
+        ensures less { length (pixels_in result) < length (pixels_in group.entry.raw) }
         ensures written { CoderPasses self.old table.old piece.old (pixels_in group.entry.raw)
             self.new table.new piece.new (pixels_in result) }
     {
@@ -274,7 +264,6 @@ impl<const N: usize> Coder<N> {
             ≤ piece.old.end + chunk_max * length (pixels_in raw.entry) }
         ensures less { length (pixels_in result) < length (pixels_in raw.entry) }
         ensures none { pixels_in result ≢ [] → self.new.last.repeats ≡ 0 }
-        ensures style { self.new.style ≡ self.old.style }
         ensures begun { self.old.last.begun ≡ true → self.new.last.begun ≡ true }
         ensures written { CoderPasses self.old table.old piece.old (pixels_in raw.entry)
             self.new table.new piece.new (pixels_in result) }
@@ -321,15 +310,6 @@ impl<const N: usize> Coder<N> {
             rest = self.write_next(table, piece, rest);
         }
         // No fresh pixel follows, so that a single one is a run in each style.
-        piece.append_run(self.last.repeats, QOI_OP_RUN);
-    }
-
-    /// Writes the repeats that came before, if no pixel follows.
-    #[inline(always)]
-    pub(super) fn write_last<const ROOM: usize>(&self, piece: &mut Piece<ROOM>)
-        requires { piece.old.end < ROOM - SPARE }
-        ensures { (table : List RgbaPixel) → CoderEnds self.now table piece.old [] piece.new }
-    {
         piece.append_run(self.last.repeats, QOI_OP_RUN);
     }
 }

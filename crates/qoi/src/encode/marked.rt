@@ -1,11 +1,9 @@
 //! Blocks of which few pixels are fresh, from one fresh pixel to the next (QOI specification 1.0,
 //! "Chunks"). The fresh ones are marked by bits.
-ghost use Rattle.std.specs.Prelude.{◌≡◌, ℕ, ◌-◌, ◌%◌, ◌<◌, ◌≤◌, true, List, ◌++◌, Some, length, take, drop, slice_get, IsTrue};
+ghost use Rattle.std.specs.Prelude.{◌≡◌, ◌-◌, ◌%◌, ◌<◌, ◌≤◌, true, Some, length, take, drop, slice_get, IsTrue};
 ghost use Rattle.qoi.specs.declared.encode.carry.TheConstants.{FRONT_CARRIED};
 ghost use Rattle.qoi.specs.declared.encode.piece.TheConstants.{SPARE};
-ghost use Rattle.qoi.specs.Qoi.{RgbaPixel};
-ghost use Rattle.qoi.specs.inner.CoderLoop.{CoderBetween};
-ghost use Rattle.qoi.specs.inner.Piece.{kept_bytes};
+ghost use Rattle.qoi.specs.inner.CoderSteps.{CoderPasses};
 ghost use Rattle.qoi.specs.inner.Pixels.{pixels_in};
 ghost use Rattle.qoi.specs.inner.block.Marks.{fresh_marks};
 
@@ -58,15 +56,12 @@ pub(super) fn write_marked<'a, const N: usize, const ROOM: usize>(
     requires some { 0 < block.marks }
     requires marks { block.marks
         ≡ fresh_marks coder.old.last.px (take 16 (pixels_in block.front.raw)) }
-    ensures style { coder.new.style ≡ coder.old.style }
     ensures rest { pixels_in result ≡ drop 16 (pixels_in block.entry.front.raw) }
+    ensures less { length (pixels_in result) < length (pixels_in block.entry.front.raw) }
     ensures few { coder.new.last.repeats ≤ FRONT_CARRIED }
     ensures begun { coder.new.last.begun ≡ true }
-    ensures written { (all : List ℕ) (more : List RgbaPixel)
-        → CoderBetween coder.old.style all (pixels_in block.entry.front.raw ++ more)
-        table.old coder.old.last (kept_bytes piece.old)
-        → CoderBetween coder.new.style all (pixels_in result ++ more)
-        table.new coder.new.last (kept_bytes piece.new) }
+    ensures written { CoderPasses coder.old table.old piece.old (pixels_in block.entry.front.raw)
+        coder.new table.new piece.new (pixels_in result) }
 {
     let mut rest = block.front.raw;
     // How many pixels of the block are left, and their marks.

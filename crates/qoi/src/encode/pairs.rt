@@ -1,8 +1,7 @@
 //! Pixels that stand twice each, or nearly: a repeat and a fresh pixel by turns (QOI specification
 //! 1.0, "Chunks").
-ghost use Rattle.std.specs.Prelude.{◌≡◌, ◌≢◌, ℕ, ◌-◌, ◌<◌, ◌≤◌, List, [], ◌++◌, length, take, IsTrue};
+ghost use Rattle.std.specs.Prelude.{◌≡◌, ◌≢◌, ◌≤◌, [], length, take, IsTrue};
 ghost use Rattle.qoi.specs.declared.encode.pairs.TheConstants.{TWO_PAIRS};
-ghost use Rattle.qoi.specs.Qoi.{RgbaPixel};
 ghost use Rattle.qoi.specs.inner.CoderSteps.{CoderPasses};
 ghost use Rattle.qoi.specs.inner.Pixels.{pixels_in};
 ghost use Rattle.qoi.specs.inner.block.Marks.{fresh_marks};
@@ -55,7 +54,6 @@ pub(super) fn write_pairs<'a, const N: usize, const STYLE: u8, const ROOM: usize
     raw: Pixels<'a, N>,
 ) -> Pixels<'a, N>
     requires { pixels_in raw ≢ [] → coder.old.last.repeats ≡ 0 }
-    ensures style { coder.new.style ≡ coder.old.style }
     ensures none { pixels_in result ≢ [] → coder.new.last.repeats ≡ 0 }
     ensures less { length (pixels_in result) ≤ length (pixels_in raw.entry) }
     ensures written { CoderPasses coder.old table.old piece.old (pixels_in raw.entry)

@@ -95,6 +95,7 @@ impl<'a, const N: usize> Pixels<'a, N> {
     }
 
     /// These pixels, a block or more, which are left of others.
+    #[tactic(auto, using(crate::proofs::encoding::coder::PixelsIn::bytes_within))]
     #[inline(always)]
     pub(super) fn front_of(self, whole: Pixels<'a, N>) -> FrontBlock<'a, N>
         requires { 16 ≤ length (pixels_in self) }
@@ -105,6 +106,7 @@ impl<'a, const N: usize> Pixels<'a, N> {
     }
 
     /// Whether there are `count`, and no more.
+    #[tactic(auto, using(crate::proofs::encoding::coder::PixelsIn::bytes_within))]
     #[inline(always)]
     pub(super) fn ends_after(self, count: usize) -> bool
         requires { count ≤ length (pixels_in self) }
@@ -143,6 +145,7 @@ impl<'a, const N: usize> Pixels<'a, N> {
     }
 
     /// Those after the first `count`.
+    #[tactic(auto, using(crate::proofs::encoding::coder::PixelsIn::bytes_within))]
     #[inline(always)]
     pub(super) fn skip(self, count: usize) -> Pixels<'a, N>
         requires { count ≤ length (pixels_in self) }

@@ -1,7 +1,7 @@
 //! Counts the repeats of a pixel in raw bytes. Their runs are written by `block/spelling` within a
 //! block, by `carry` before one, by `blocks` over whole ones, and else by `coder`.
 ghost use lib.Lanes.{mask_l, zip2};
-ghost use Rattle.std.specs.Prelude.{nat_eq, ◌≡◌, ◌↔◌, ◌+◌, ◌-◌, ◌*◌, ◌^◌, ◌≤◌, ◌<◌, ◌++◌, length, take, drop, replicate, IsTrue};
+ghost use Rattle.std.specs.Prelude.{nat_eq, ◌≡◌, ◌+◌, ◌-◌, ◌*◌, ◌^◌, ◌≤◌, ◌<◌, ◌++◌, length, take, drop, replicate, IsTrue};
 ghost use Rattle.qoi.specs.Qoi.{rgba};
 ghost use Rattle.qoi.specs.Raw.{IsChannels, output, pixels_of};
 ghost use Rattle.qoi.specs.Runs.{IsCount};
@@ -79,8 +79,8 @@ fn repeats_in_block<const N: usize>(front: FrontBlock<N>, px: Packed) -> usize
 // and to find it takes fewer instructions than to count.
 #[inline(always)]
 fn all_same_in_block<const N: usize>(front: FrontBlock<N>, px: Packed) -> bool
-    ensures { IsTrue result ↔ (mask_l (zip2 nat_eq front.entry.raw.bytes.now
-        (output N N (replicate 16 px))) ≡ 2 ^ (N * 16) - 1) }
+    ensures { IsTrue result → mask_l (zip2 nat_eq front.entry.raw.bytes.now
+        (output N N (replicate 16 px))) ≡ 2 ^ (N * 16) - 1 }
 {
     let first = same_in_part::<N, 0>(front, px);
     let second = same_in_part::<N, 1>(front, px);

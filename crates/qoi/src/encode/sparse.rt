@@ -1,7 +1,6 @@
 //! Blocks of which few pixels are fresh, one after the other (QOI specification 1.0, "Chunks"): packed
 //! pixels are compared with those before them, and no planes are made.
-ghost use Rattle.std.specs.Prelude.{◌≡◌, ◌≢◌, ℕ, ◌-◌, ◌<◌, ◌≤◌, ◌^◌, List, [], ◌++◌, length, take, slice_index};
-ghost use Rattle.qoi.specs.Qoi.{RgbaPixel};
+ghost use Rattle.std.specs.Prelude.{◌≡◌, ◌≢◌, ◌<◌, ◌≤◌, ◌^◌, [], length, take, slice_index};
 ghost use Rattle.qoi.specs.inner.CoderSteps.{CoderPasses};
 ghost use Rattle.qoi.specs.inner.Packed.{pixel_of_word};
 ghost use Rattle.qoi.specs.inner.Pixels.{pixels_in};
@@ -65,7 +64,6 @@ pub(super) fn write_sparse<'a, const N: usize, const STYLE: u8, const ROOM: usiz
     raw: Pixels<'a, N>,
 ) -> Pixels<'a, N>
     requires { pixels_in raw ≢ [] → coder.old.last.repeats ≡ 0 }
-    ensures style { coder.new.style ≡ coder.old.style }
     ensures less { length (pixels_in result) ≤ length (pixels_in raw.entry) }
     ensures written { CoderPasses coder.old table.old piece.old (pixels_in raw.entry)
         coder.new table.new piece.new (pixels_in result) }

@@ -50,6 +50,7 @@ impl PixelTable {
     }
 
     /// Puts a pixel at its index position.
+    #[tactic(auto, using(crate::proofs::format::SamePixels::hash_below))]
     #[inline(always)]
     pub(super) fn put(&mut self, place: u8, px: Packed)
         requires { place ≡ hash px }
@@ -59,6 +60,7 @@ impl PixelTable {
     }
 
     /// Puts a pixel at its index position, or nothing. No jump is needed.
+    #[tactic(auto, using(crate::proofs::format::SamePixels::hash_below))]
     #[inline(always)]
     pub(super) fn put_if(&mut self, puts: bool, place: u8, px: Packed)
         requires { place ≡ hash px }

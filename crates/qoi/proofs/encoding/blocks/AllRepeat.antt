@@ -1,6 +1,5 @@
 -- Lanes that repeat: whether all do, and which don't, as bits.
-use Rattle.std.proofs.Common.{◌≡◌, ◌≢◌, ◌⊎◌, inl, inr, ℕ, zero, suc, ◌+◌, ◌*◌, ◌%◌, ◌^◌, ◌&&◌, Bool, true, false, not, cond, eqb, List, [], ◌∷◌, length, map, replicate, refl, sym, ap, ◌∙◌, arith, w8}
-use Rattle.std.proofs.lemmas.Bool.{cases_eq, eq-eqb, ne_eqb}
+use Rattle.std.proofs.Common.{◌≡◌, ℕ, zero, suc, ◌+◌, ◌*◌, ◌%◌, ◌^◌, ◌&&◌, Bool, true, false, not, cond, eqb, List, [], ◌∷◌, length, map, replicate, refl, sym, ap, ◌∙◌, arith, w8}
 use Rattle.std.proofs.lemmas.List.{length-map}
 use Rattle.std.proofs.lemmas.Simd.{bitmask_splat}
 use lib.Lanes.{zip2, mask_l, top}
@@ -14,12 +13,7 @@ ones (suc n) = 1 + 2 * ones n
 
 -- the lowest bit and the others
 one_more : (b : Bool) (m k : ℕ) → eqb (cond b 1 0 + 2 * m) (1 + 2 * k) ≡ (b && eqb m k)
-one_more true m k = go (cases_eq m k)
-  where
-    go : (m ≡ k) ⊎ (m ≢ k) → eqb (1 + 2 * m) (1 + 2 * k) ≡ eqb m k
-    go (inl e) = eq-eqb _ _ (omega arith) ∙ sym (eq-eqb m k e)
-    go (inr n) = ne_eqb _ _ (λ e. n (omega arith)) ∙ sym (ne_eqb m k n)
-one_more false m k = ne_eqb _ _ (λ e. omega arith)
+one_more b m k = grind arith
 
 -- all bits are set exactly if all hold
 mask_ones : (bs : List Bool) → eqb (mask_l bs) (ones (length bs)) ≡ all_true bs

@@ -1,5 +1,5 @@
 -- Fresh pixels of packed ones, as bits.
-use Rattle.std.proofs.Common.{◌≡◌, ℕ, ◌+◌, ◌*◌, ◌%◌, ◌^◌, ◌<◌, Bool, true, false, not, cond, eqb, if◌then◌else◌, List, [], ◌∷◌, ◌++◌, length, map, slice_index, refl, ◌∙◌, arith}
+use Rattle.std.proofs.Common.{◌≡◌, ℕ, ◌+◌, ◌*◌, ◌%◌, ◌^◌, ◌<◌, Bool, not, cond, eqb, if◌then◌else◌, List, [], ◌∷◌, ◌++◌, length, map, slice_index, ◌∙◌, arith}
 use Rattle.std.proofs.lemmas.Simd.{mask_l-lt}
 use lib.Lanes.{mask_l, pick_l, top, zip2}
 use Rattle.qoi.specs.declared.encode.block.planes.Words.{Words}
@@ -28,22 +28,7 @@ bit same = if same then 0 else 1
 
 -- the bits of four lanes
 four_bits : (a b c d : Bool) → mask_l (map (λ s. top 31 (cond (not s) 4294967295 0)) (a ∷ b ∷ c ∷ d ∷ [])) % 2 ^ 64 ≡ bit a + 2 * (bit b + 2 * (bit c + 2 * (bit d + 2 * 0)))
-four_bits true true true true = refl
-four_bits true true true false = refl
-four_bits true true false true = refl
-four_bits true true false false = refl
-four_bits true false true true = refl
-four_bits true false true false = refl
-four_bits true false false true = refl
-four_bits true false false false = refl
-four_bits false true true true = refl
-four_bits false true true false = refl
-four_bits false true false true = refl
-four_bits false true false false = refl
-four_bits false false true true = refl
-four_bits false false true false = refl
-four_bits false false false true = refl
-four_bits false false false false = refl
+four_bits a b c d = grind arith
 
 -- equal numbers are equal pixels
 same_numbers : (v w : ℕ) → v < 2 ^ 32 → w < 2 ^ 32 → eqb v w ≡ pixel_eq (pixel_of_word v) (pixel_of_word w)

@@ -2,8 +2,9 @@
 use Rattle.std.proofs.Common.{◌≡◌, ℕ, ◌^◌, ◌<◌, List, [], ◌∷◌, ◌++◌, length, map, take, drop, refl, sym, ap, ◌∙◌, subst, arith}
 use Rattle.std.specs.List.{AllByRecursion}
 use Rattle.qoi.specs.declared.encode.block.planes.Words.{Words}
-use Rattle.qoi.specs.Qoi.{RgbaPixel, IsPixel}
+use Rattle.qoi.specs.Qoi.{IsPixel}
 use Rattle.qoi.specs.inner.Packed.{word, pixel_of_word}
+use Rattle.qoi.proofs.encoding.lists.WrittenGrows.{all_append}
 use Rattle.qoi.specs.inner.block.Planes.{AreFour, AreSixteen, AreBlockWords, ArePacked, pixels_of_words, block_pixels}
 
 -- a number of 32 bits is a pixel
@@ -29,11 +30,6 @@ four_numbers (a ∷ b ∷ c ∷ d ∷ []) f = record {
 }
 four_numbers xs f = absurd (let l = f.0 in omega arith)
 
--- pixels one after the other
-both_are : (ps qs : List RgbaPixel) → AllByRecursion IsPixel ps → AllByRecursion IsPixel qs → AllByRecursion IsPixel (ps ++ qs)
-both_are [] qs a b = b
-both_are (p ∷ ps) qs a b = (a.0, both_are ps qs a.1 b)
-
 -- four times four numbers of 32 bits are sixteen pixels, packed
 packed_block : (w : Words) (a b c d : List ℕ) → w.one ≡ a → w.two ≡ b → w.three ≡ c → w.four ≡ d → AreFour a → AreFour b → AreFour c → AreFour d
     → AreSixteen (block_pixels w) × AreBlockWords (block_pixels w) w
@@ -47,7 +43,7 @@ packed_block w (a0 ∷ a1 ∷ a2 ∷ a3 ∷ []) (b0 ∷ b1 ∷ b2 ∷ b3 ∷ [])
     let c = pixels_of_words (c0 ∷ c1 ∷ c2 ∷ c3 ∷ []) in
     let d = pixels_of_words (d0 ∷ d1 ∷ d2 ∷ d3 ∷ []) in
     let ps = sym (λ i. pixels_of_words (ea i) ++ (pixels_of_words (eb i) ++ (pixels_of_words (ec i) ++ pixels_of_words (ed i)))) in (
-      subst AreSixteen ps (record { long = refl; are = both_are a (b ++ (c ++ d)) one.are (both_are b (c ++ d) two.are (both_are c d three.are four.are)) }),
+      subst AreSixteen ps (record { long = refl; are = all_append IsPixel a (b ++ (c ++ d)) one.are (all_append IsPixel b (c ++ d) two.are (all_append IsPixel c d three.are four.are)) }),
       record {
         one_are = ea ∙ one.packed ∙ ap (λ qs. map word (take 4 qs)) ps;
         two_are = eb ∙ two.packed ∙ ap (λ qs. map word (take 4 (drop 4 qs))) ps;

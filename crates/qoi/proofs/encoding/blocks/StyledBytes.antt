@@ -154,8 +154,3 @@ pixels_in style q c (l ∷ ls) a =
     let n = if is_rep l then suc c else 0 in
     let i = a.0.px_is in
     (record { r = first_below style (is_rep l) q l n; g = second_small (fits_luma l) (as_luma l) l.px i; b = i.g; a = i.b }, pixels_in style l.stands n ls a.1)
-
--- in style Tight they are as in style Reference
-pub firsts_tight : (q : Bool) (c : ℕ) (ls : List Lane) → firsts_in Tight q c ls ≡ firsts_in Reference q c ls
-firsts_tight q c [] = refl
-firsts_tight q c (l ∷ ls) = let n = if is_rep l then suc c else 0 in ap (λ z. first_in Tight (is_rep l) q l n ∷ z) (firsts_tight l.stands n ls)

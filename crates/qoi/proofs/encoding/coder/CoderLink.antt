@@ -1,51 +1,65 @@
--- What is carried between two blocks, and a piece that is sent.
-use Rattle.std.proofs.Common.{◌≡◌, ◌≢◌, ◌⊎◌, inl, inr, ◌<◌, length, ℕ, true, List, [], ◌∷◌, Some, ◌++◌, refl, sym, ap, ◌∙◌, arith}
-use Rattle.std.proofs.lemmas.Bool.{true_from_ne_false}
+-- A coder between two calls, what is carried between two blocks, and a piece that is sent.
+use Rattle.std.proofs.Common.{◌≡◌, ◌≢◌, ◌⊎◌, inl, inr, ◌<◌, ◌≤◌, length, ℕ, true, List, [], ◌∷◌, Some, ◌++◌, refl, sym, ap, ◌∙◌, arith, subst}
+use Rattle.std.proofs.lemmas.Bool.{true≢false, true_from_ne_false}
 use Rattle.std.specs.List.{slice_get}
 use Rattle.qoi.specs.declared.encode.carry.Carry.{Carry}
+use Rattle.qoi.specs.declared.encode.coder.Coder.{Coder}
 use Rattle.qoi.specs.declared.encode.last_pixel.LastPixel.{LastPixel}
+use Rattle.qoi.specs.declared.encode.piece.Piece.{Piece}
 use Rattle.qoi.specs.declared.types.Style.{Style}
 use Rattle.qoi.specs.declared.types.Style.TheVariants.{Tight}
-use Rattle.qoi.specs.Qoi.{RgbaPixel, Past, previous}
-use Rattle.qoi.specs.Styles.{some_fresh}
+use Rattle.qoi.specs.Qoi.{RgbaPixel}
 use Rattle.qoi.specs.inner.block.Block.{last_pixel}
-use Rattle.qoi.specs.inner.BlockLoop.{CarryAfter, OpensBlock, InBlocks}
+use Rattle.qoi.specs.inner.BlockLoop.{IsCarried, OpensBlock, GoesByBlocks, InBlocks}
 use Rattle.qoi.specs.inner.CoderLoop.{CoderBetween}
-use Rattle.qoi.proofs.encoding.coder.CoderSteps.{over_sent}
-
--- the last pixel is that of the planes
-pub last_carried : {N : ℕ} {style : Style} {past : Past} {before : _} {table : List RgbaPixel} {carry : Carry N} → CarryAfter style past before table carry
-    → last_pixel carry.before ≡ previous past
-last_carried s = sym s.last_is
+use Rattle.qoi.specs.inner.CoderSteps.{CoderPasses}
+use Rattle.qoi.specs.inner.Piece.{kept_bytes}
+use Rattle.qoi.proofs.encoding.coder.CoderSteps.{over_sent, repeats_joined}
 
 -- what stands first doesn't depend on what follows
-pub first_more : (ps more : List RgbaPixel) → 0 < length ps → slice_get (ps ++ more) 0 ≡ slice_get ps 0
-first_more [] more some = absurd (omega (arith, some))
+pub first_more : (ps more : List RgbaPixel) → ps ≢ [] → slice_get (ps ++ more) 0 ≡ slice_get ps 0
+first_more [] more some = absurd (some refl)
 first_more (p ∷ ps) more some = refl
 
--- there is a pixel, and so there is if others follow
-pub some_length : (ps : List RgbaPixel) → ps ≢ [] → 0 < length ps
-some_length [] some = absurd (some refl)
-some_length (p ∷ ps) some = omega arith
-
+-- nor is there nothing
 pub more_some : (ps more : List RgbaPixel) → ps ≢ [] → ps ++ more ≢ []
 more_some [] more some = absurd (some refl)
 more_some (p ∷ ps) more some = λ e. (let no : ◌≡◌ {A = List RgbaPixel} (p ∷ (ps ++ more)) [] = e in cc)
 
-module _ {N : ℕ} {style : Style} {ahead : List ℕ} {n : ℕ} {pixels more : List RgbaPixel} {table : List RgbaPixel} {carry : Carry N} {kept : List ℕ}
-    (b : InBlocks style ahead n pixels more table carry kept) where
-  -- a fresh pixel came, if the next one doesn't open a block
-  begun_by : (OpensBlock style (previous b.past) n pixels → ⊥) → some_fresh b.past ≡ true
-  begun_by never = true_from_ne_false (some_fresh b.past) (λ e. never (b.opens e).1)
+-- one step after another
+pub then_passes : {N size : ℕ} {a b c : Coder N} {ta tb tc : List RgbaPixel} {pa pb pc : Piece size} {xs ys zs : List RgbaPixel}
+    → CoderPasses a ta pa xs b tb pb ys → CoderPasses b tb pb ys c tc pc zs → CoderPasses a ta pa xs c tc pc zs
+then_passes p q = record { style = q.style ∙ p.style; on = λ ahead more b. q.on ahead more (p.on ahead more b) }
 
-  -- so if it repeats the last
-  pub begun_by_repeat : slice_get pixels 0 ≡ Some (last_pixel carry.before) → some_fresh b.past ≡ true
-  begun_by_repeat first = begun_by (λ o. o.fresh (first ∙ ap Some (last_carried b.state)))
+module _ {N size : ℕ} {style : Style} {ahead : List ℕ} {pixels rest table table' : List RgbaPixel} {c c' : Coder N} {piece piece' : Piece size} where
+  -- a coder keeps its style
+  pub in_style : CoderPasses c table piece pixels c' table' piece' rest → c.style ≡ style → {last : LastPixel} → c.last ≡ last → (more : List RgbaPixel)
+      → CoderBetween style ahead (pixels ++ more) table last (kept_bytes piece) → CoderBetween style ahead (rest ++ more) table' c'.last (kept_bytes piece')
+  in_style p is {last} last_is more b =
+      subst (λ s. CoderBetween s ahead (rest ++ more) table' c'.last (kept_bytes piece')) (p.style ∙ is)
+      (p.on ahead more (subst (λ s. CoderBetween s ahead (pixels ++ more) table c.last (kept_bytes piece)) (sym is)
+      (subst (λ l. CoderBetween style ahead (pixels ++ more) table l (kept_bytes piece)) (sym last_is) b)))
 
-  -- and in style Tight, or if fewer than n pixels are left
-  pub begun_at_end : (style ≡ Tight) ⊎ (length pixels < n) → some_fresh b.past ≡ true
-  begun_at_end (inl tight) = begun_by (λ o. o.other tight)
-  begun_at_end (inr few) = begun_by (λ o. absurd (omega (arith, o.whole, few)))
+module _ {N : ℕ} {style : Style} {ahead : List ℕ} {n : ℕ} {pixels more : List RgbaPixel} {table : List RgbaPixel} {carry : Carry N} {kept : List ℕ} where
+  -- a fresh pixel came if the next one repeats the last
+  pub begun_by_repeat : (b : InBlocks style ahead n pixels more table carry kept) → slice_get pixels 0 ≡ Some (last_pixel carry.before) → b.last.begun ≡ true
+  begun_by_repeat b first = true_from_ne_false b.last.begun (λ no. (b.goes.opens no).fresh (first ∙ ap Some b.is.px_is))
+
+  -- in style Tight, or if fewer than n pixels are left, one came, and a coder can go on
+  pub still_between : {last : LastPixel} → IsCarried last carry → last.begun ≡ true → (style ≡ Tight) ⊎ (length pixels < n)
+      → InBlocks style ahead n pixels more table carry kept → CoderBetween style ahead (pixels ++ more) table last kept
+  still_between is begun ends b =
+      repeats_joined b.between 0 (pixels ++ more) refl (sym is.px_is ∙ b.is.px_is)
+      (begun ∙ sym (true_from_ne_false b.last.begun (λ no. never (b.goes.opens no) ends))) (sym is.placed_is ∙ b.is.placed_is) (omega (arith, is.count_is, b.is.count_is))
+    where
+      never : {last : LastPixel} → OpensBlock style last n pixels → (style ≡ Tight) ⊎ (length pixels < n) → ⊥
+      never o (inl tight) = o.other tight
+      never o (inr few) = omega (arith, o.whole, few)
+
+-- a fresh pixel came, and few repeats are to be written
+pub goes_on : {style : Style} {last : LastPixel} {n : ℕ} {rest : List RgbaPixel} → last.begun ≡ true → (slice_get rest 0 ≡ Some last.px → last.repeats ≤ 45)
+    → GoesByBlocks style last n rest
+goes_on begun few = record { opens = λ no. absurd (true≢false (sym begun ∙ no)); few = few }
 
 -- once the first bytes that are kept are gone, the same holds of the others
 pub coder_sent : {style : Style} {ahead : List ℕ} {pixels : List RgbaPixel} {table : List RgbaPixel} {last : LastPixel} {kept : List ℕ}

@@ -1,14 +1,13 @@
 -- Fresh pixels, as bits: the lowest bit that is set is the first one.
-use Rattle.std.proofs.Common.{◌≡◌, ◌≢◌, ◌⊎◌, inl, inr, ℕ, zero, suc, ◌+◌, ◌-◌, ◌*◌, ◌/◌, ◌%◌, ◌^◌, ◌<◌, ◌≤◌, Bool, true, false, not, ◌&&◌, eqb, cond, if◌then◌else◌, List, [], ◌∷◌, ◌++◌, length, length-drop, map, take, drop, drop-drop, replicate, Option, None, Some, refl, sym, ap, ◌∙◌, arith, take-append-drop}
-use Rattle.std.proofs.lemmas.List.{length-take-le, take-take}
+use Rattle.std.proofs.Common.{◌≡◌, ◌≢◌, ℕ, zero, suc, ◌+◌, ◌-◌, ◌*◌, ◌/◌, ◌%◌, ◌^◌, ◌<◌, ◌≤◌, Bool, true, false, not, cond, if◌then◌else◌, List, [], ◌∷◌, ◌++◌, length, length-drop, map, take, drop, replicate, Option, None, Some, refl, sym, ap, ◌∙◌, arith, take-append-drop}
+use Rattle.std.proofs.lemmas.List.{length-take-le, take-take, drop-take}
 use Rattle.std.proofs.lemmas.Option.{same_Some}
 use Rattle.std.proofs.Math.Nat.{pow-suc, mul_comm, div-div-eq-div-mul}
-use Rattle.std.proofs.lemmas.Bool.{true≢false, cases_eq, eq-eqb, ne_eqb}
+use Rattle.std.proofs.lemmas.Bool.{true≢false}
 use Rattle.std.specs.List.{slice_get}
 use lib.Count.{count_trailing_zeros, under}
 use lib.Lanes.{mask_l}
 use Rattle.qoi.specs.Qoi.{RgbaPixel, Past, pixel_eq}
-use Rattle.qoi.specs.inner.block.Block.{all_repeat}
 use Rattle.qoi.specs.inner.block.Marks.{fresh_marks}
 use Rattle.qoi.specs.inner.block.State.{lanes_of, is_rep}
 use Rattle.qoi.proofs.format.SamePixels.{pixel_eq-true, pixel_eq-from}
@@ -23,18 +22,17 @@ pub marks_of_lanes : (held : Past) (q : RgbaPixel) (ps : List RgbaPixel) → mas
 marks_of_lanes held q [] = refl
 marks_of_lanes held q (p ∷ ps) = bit_of (pixel_eq p q) _ _ (marks_of_lanes (p ∷ held) p ps)
 
--- if the first bit isn't set and the others repeat
-none_step : (q p : RgbaPixel) (ps : List RgbaPixel) (b : Bool) → pixel_eq p q ≡ b → (if b then 0 else 1) + 2 * fresh_marks p ps ≡ 0
-    → (fresh_marks p ps ≡ 0 → ps ≡ replicate (length ps) p) → p ∷ ps ≡ replicate (suc (length ps)) q
-none_step q p ps true is none others =
-    let same = pixel_eq-true p q is in
-    ap (λ z. p ∷ z) (others (omega (arith, none))) ∙ ap (λ z. z ∷ replicate (length ps) z) same
-none_step q p ps false is none others = absurd (omega (arith, none))
+-- if no bit is set, the first pixel repeats and no later bit is set
+pub none_first : (b : Bool) (m : ℕ) → (if b then 0 else 1) + 2 * m ≡ 0 → (b ≡ true) × (m ≡ 0)
+none_first true m e = (refl, omega (arith, e))
+none_first false m e = absurd (omega (arith, e))
 
 -- if no bit is set, all repeat
 pub none_marked : (q : RgbaPixel) (ps : List RgbaPixel) → fresh_marks q ps ≡ 0 → ps ≡ replicate (length ps) q
 none_marked q [] none = refl
-none_marked q (p ∷ ps) none = none_step q p ps (pixel_eq p q) refl none (none_marked p ps)
+none_marked q (p ∷ ps) none =
+    let first = none_first (pixel_eq p q) (fresh_marks p ps) none in
+    ap (λ z. p ∷ z) (none_marked p ps first.1) ∙ ap (λ z. z ∷ replicate (length ps) z) (pixel_eq-true p q first.0)
 
 -- The first fresh one of several pixels stands after n repeats, and these are the bits of those after it.
 pub record IsMarked (q : RgbaPixel) (ps : List RgbaPixel) (bits n : ℕ) : Type 0 where
@@ -100,28 +98,12 @@ get_drop zero ps = refl
 get_drop (suc n) [] = refl
 get_drop (suc n) (p ∷ ps) = get_drop n ps
 
--- the pixels after one more
-pub drop_more : (n : ℕ) (ps : List RgbaPixel) → drop 1 (drop n ps) ≡ drop (n + 1) ps
-drop_more n ps = drop-drop 1 n ps ∙ ap (λ k. drop k ps) (omega arith)
-
 -- what stands among the first m
 get_take : (n m : ℕ) (ps : List RgbaPixel) → n < m → slice_get (take m ps) n ≡ slice_get ps n
 get_take n zero ps l = absurd (omega (arith, l))
 get_take n (suc m) [] l = refl
 get_take zero (suc m) (p ∷ ps) l = refl
 get_take (suc n) (suc m) (p ∷ ps) l = get_take n m ps (omega (arith, l))
-
--- nothing is taken of nothing
-take_none : (m : ℕ) → ◌≡◌ {A = List RgbaPixel} [] (take m [])
-take_none zero = refl
-take_none (suc m) = refl
-
--- those after the first k, of the first k and m
-drop_taken : (k m l : ℕ) (ps : List RgbaPixel) → l ≡ k + m → drop k (take l ps) ≡ take m (drop k ps)
-drop_taken zero m l ps e = ap (λ z. take z ps) (omega (arith, e))
-drop_taken (suc k) m zero ps e = absurd (omega (arith, e))
-drop_taken (suc k) m (suc l) [] e = take_none m
-drop_taken (suc k) m (suc l) (p ∷ ps) e = drop_taken k m l ps (omega (arith, e))
 
 -- the first of several copies
 first_copy : (n : ℕ) (q : RgbaPixel) → 0 < n → slice_get (replicate n q) 0 ≡ Some q
@@ -154,7 +136,7 @@ marks_group q ps lanes bits enough few is some =
       other = λ e. m.other (same_Some _ _ (sym at ∙ e));
       first = λ l. sym (get_take 0 n ps l) ∙ ap (λ z. slice_get z 0) repeats ∙ first_copy n q l;
       later = λ p e. m.later ∙ ap (λ z. fresh_marks z (drop (suc n) (take lanes ps))) (same_Some _ _ (sym at ∙ e))
-          ∙ ap (fresh_marks p) (drop_taken (suc n) (lanes - (n + 1)) lanes ps left ∙ ap (λ k. take (lanes - (n + 1)) (drop k ps)) next);
+          ∙ ap (fresh_marks p) (ap (λ l. drop (suc n) (take l ps)) left ∙ drop-take (suc n) (lanes - (n + 1)) ps ∙ ap (λ k. take (lanes - (n + 1)) (drop k ps)) next);
     }
 
 -- a repeat stands at the front, and then a fresh pixel
@@ -190,18 +172,3 @@ pub repeat_even : (q : RgbaPixel) (k : ℕ) (ps : List RgbaPixel) → 0 < k → 
 repeat_even q k [] some e = (let no : ◌≡◌ {A = Option RgbaPixel} None (Some q) = e in cc)
 repeat_even q zero (p ∷ ps) some e = absurd (omega (arith, some))
 repeat_even q (suc k) (p ∷ ps) some e = even_by (pixel_eq p q) (fresh_marks p (take k ps)) (pixel_eq-from p q (same_Some _ _ e))
-
--- no bit is set exactly if all pixels are the one before them
-unmarked_by : (b : Bool) (m : ℕ) (others : Bool) → (b ≡ true → eqb m 0 ≡ others) → eqb ((if b then 0 else 1) + 2 * m) 0 ≡ (b && others)
-unmarked_by true m others e = go (cases_eq m 0)
-  where
-    go : (m ≡ 0) ⊎ (m ≢ 0) → eqb (0 + 2 * m) 0 ≡ others
-    go (inl z) = eq-eqb _ _ (omega (arith, z)) ∙ sym (eq-eqb m 0 z) ∙ e refl
-    go (inr n) = ne_eqb _ _ (λ z. n (omega (arith, z))) ∙ sym (ne_eqb m 0 n) ∙ e refl
-unmarked_by false m others e = ne_eqb _ _ (λ z. omega (arith, z))
-
-pub all_unmarked : (q r : RgbaPixel) (ps : List RgbaPixel) → r ≡ q → eqb (fresh_marks r ps) 0 ≡ all_repeat q ps
-all_unmarked q r [] e = refl
-all_unmarked q r (p ∷ ps) e =
-    ap (λ z. eqb ((if pixel_eq p z then 0 else 1) + 2 * fresh_marks p ps) 0) e
-    ∙ unmarked_by (pixel_eq p q) (fresh_marks p ps) (all_repeat q ps) (λ t. all_unmarked q p ps (pixel_eq-true p q t))

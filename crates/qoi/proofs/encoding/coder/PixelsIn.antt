@@ -46,10 +46,6 @@ whole_part n bytes is =
     sym (ap (pixels_of n) (sym (take-append-drop m bytes)) ∙ pixels_of-append n (len / n) near (drop m bytes) is size
     ∙ ap (λ z. pixels_of n near ++ z) (none_of_few n (drop m bytes) is (omega (arith, length-drop m bytes, few))) ∙ append-nil (pixels_of n near))
 
--- the bytes of so many pixels, or of all, are whole pixels
-pub near_whole : (n most len : ℕ) → IsChannels n → len % n ≡ 0 → min len (n * most) % n ≡ 0
-near_whole n most len is = by_channels (λ c. len % c ≡ 0 → min len (c * most) % c ≡ 0) is (λ e. omega arith) (λ e. omega arith)
-
 -- the bytes of the first pixels, or all if there are fewer
 pub pixels_near : (n most m : ℕ) (bytes : List ℕ) → IsChannels n → length bytes % n ≡ 0 → m ≡ min (length bytes) (n * most)
     → pixels_of n (take m bytes) ≡ take most (pixels_of n bytes)

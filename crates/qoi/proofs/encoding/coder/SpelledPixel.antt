@@ -9,12 +9,8 @@ use Rattle.qoi.specs.inner.block.Lanes.{Lane, as_diff, as_luma, same_alpha, fits
 use Rattle.qoi.specs.inner.SpelledOut.{SpellsOut}
 use Rattle.qoi.specs.Steps.{steps, diff_steps, luma_steps}
 use Rattle.qoi.specs.inner.Packed.{word}
+use Rattle.qoi.proofs.encoding.lanes.LaneBits.{and_assoc}
 use Rattle.qoi.proofs.encoding.lanes.LaneChunk.{three_small, spelled_lane}
-
--- two ways to test three
-and_three : (a b c : Bool) → ((a && b) && c) ≡ (a && (b && c))
-and_three true b c = refl
-and_three false b c = refl
 
 -- three tests of equal numbers
 pub three_tests : (t : Bool) (a b c x y z l m n : ℕ) → a ≡ x → b ≡ y → c ≡ z → ((nat_lt a l && nat_lt b m) && nat_lt c n) ≡ t
@@ -94,14 +90,14 @@ module _ (q p : RgbaPixel) (iq : IsPixel q) (ip : IsPixel p) where
   spells_diff s n is alpha t e =
       let k : same_alpha lane ≡ true = eq-eqb (steps q p).a 0 alpha in
       let small : fits_in_diff (as_diff lane) ≡ true =
-      ap fits_in_diff (sym is) ∙ sym (and_three (nat_lt s.r 4) (nat_lt s.g 4) (nat_lt s.b 4)) ∙ t in
+      ap fits_in_diff (sym is) ∙ sym (and_assoc (nat_lt s.r 4) (nat_lt s.g 4) (nat_lt s.b 4)) ∙ t in
       let first : n % 256 ≡ diff_of (as_diff lane) = ap (λ z. z % 256) e ∙ omega arith ∙ ap diff_of is in
       spells n 1 ((λ i. first i ∷ []) ∙ sym (bytes_by true (fits_luma lane) true (both (fits_in_diff (as_diff lane)) (same_alpha lane) small k) refl k))
 
   -- they don't, so it isn't one
   not_diff : (s : RgbaPixel) → s ≡ diff_steps (steps q p) → ((nat_lt s.r 4 && nat_lt s.g 4) && nat_lt s.b 4) ≡ false → fits_diff lane ≡ false
   not_diff s is t =
-      false_and (fits_in_diff (as_diff lane)) (same_alpha lane) (ap fits_in_diff (sym is) ∙ sym (and_three (nat_lt s.r 4) (nat_lt s.g 4) (nat_lt s.b 4)) ∙ t)
+      false_and (fits_in_diff (as_diff lane)) (same_alpha lane) (ap fits_in_diff (sym is) ∙ sym (and_assoc (nat_lt s.r 4) (nat_lt s.g 4) (nat_lt s.b 4)) ∙ t)
 
   -- they fit a Luma
   pub spells_luma : (s u : RgbaPixel) (n : ℕ) → s ≡ diff_steps (steps q p) → u ≡ luma_steps (steps q p) → (steps q p).a ≡ 0
@@ -109,7 +105,7 @@ module _ (q p : RgbaPixel) (iq : IsPixel q) (ip : IsPixel p) where
       → n ≡ 128 + u.g + (u.r * 16 + u.b) * 256 → (c : Chunk) × SpellsOut q p n 2 c
   spells_luma s u n s_is u_is alpha st t e =
       let k : same_alpha lane ≡ true = eq-eqb (steps q p).a 0 alpha in
-      let wide_u : fits_in_luma u ≡ true = sym (and_three (nat_lt u.r 16) (nat_lt u.g 64) (nat_lt u.b 16)) ∙ t in
+      let wide_u : fits_in_luma u ≡ true = sym (and_assoc (nat_lt u.r 16) (nat_lt u.g 64) (nat_lt u.b 16)) ∙ t in
       let wide : fits_in_luma (as_luma lane) ≡ true = ap fits_in_luma (sym u_is) ∙ wide_u in
       let fit = three_small u.r u.g u.b 16 64 16 0 (both (fits_in_luma u) (0 == 0) wide_u refl) in
       let green = fit.1 in
@@ -125,7 +121,7 @@ module _ (q p : RgbaPixel) (iq : IsPixel q) (ip : IsPixel p) where
   spells_rgb s u n s_is u_is alpha st ut e =
       let k : same_alpha lane ≡ true = eq-eqb (steps q p).a 0 alpha in
       let wide : fits_in_luma (as_luma lane) ≡ false =
-      ap fits_in_luma (sym u_is) ∙ sym (and_three (nat_lt u.r 16) (nat_lt u.g 64) (nat_lt u.b 16)) ∙ ut in
+      ap fits_in_luma (sym u_is) ∙ sym (and_assoc (nat_lt u.r 16) (nat_lt u.g 64) (nat_lt u.b 16)) ∙ ut in
       spells n 4 (
       ap (λ bytes. take 4 (bytes ++ p.a ∷ [])) (after_pixel n 254 p ip (omega arith) e)
       ∙ sym (bytes_by false false true (not_diff s s_is st) (false_and (fits_in_luma (as_luma lane)) (same_alpha lane) wide) k)

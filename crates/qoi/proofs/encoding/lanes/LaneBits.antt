@@ -37,7 +37,7 @@ pub one_zero : (x : ℕ) → (x == 0) ≡ nat_lt x 1
 one_zero x = grind arith
 
 -- three tests in a row
-and_assoc : (a b c : Bool) → ((a && b) && c) ≡ (a && (b && c))
+pub and_assoc : (a b c : Bool) → ((a && b) && c) ≡ (a && (b && c))
 and_assoc a b c = grind arith
 
 -- three tests in another order

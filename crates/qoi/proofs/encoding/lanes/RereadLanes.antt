@@ -3,7 +3,6 @@ use Rattle.std.proofs.Common.{◌≡◌, ℕ, ◌+◌, ◌-◌, ◌<◌, ◌≤�
 use Rattle.std.proofs.lemmas.List.{length-take-le, drop-drop, length-drop, append-nil}
 use Rattle.std.proofs.Math.ListN.{drop_of_length-le}
 use Rattle.std.proofs.lemmas.Simd.{put_chunk_is}
-use Rattle.std.proofs.lemmas.Slice.{between_to_end}
 use lib.Lanes.{put_chunk}
 
 -- the bytes before the sixteen stay
@@ -30,8 +29,3 @@ end_stays room at out new v few later is =
     let more = (room - 16) - (at + 1) in
     let sum : room - 16 ≡ (at + 1) + more = omega arith in
     ap (λ n. drop n new) sum ∙ sym (drop-drop more (at + 1) new) ∙ ap (drop more) later ∙ drop-drop more (at + 1) out ∙ ap (λ n. drop n out) (sym sum) ∙ is
-
--- they are read
-pub read_back : (room : ℕ) (new v : List ℕ) → length new ≡ room → drop (room - 16) new ≡ v
-    → take (length new - (room - 16)) (drop (room - 16) new) ≡ v
-read_back room new v size stored = between_to_end new (room - 16) (length new) (omega arith) ∙ stored

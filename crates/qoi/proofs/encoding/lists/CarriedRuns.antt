@@ -1,21 +1,19 @@
 -- Repeats that come while some are carried: the full runs of all are written, and those that are left
 -- are carried.
-use Rattle.std.proofs.Common.{◌≡◌, ℕ, zero, suc, Some, ◌+◌, ◌*◌, ◌<◌, ◌≤◌, ◌&&◌, nat_eq, nat_lt, List, ◌++◌, replicate, sym, ap, ◌∙◌, subst, arith, append_assoc}
-use Rattle.std.proofs.lemmas.Bool.{true≢false, lt-ltb, ne_eqb}
+use Rattle.std.proofs.Common.{◌≡◌, ℕ, zero, suc, Some, ◌+◌, ◌*◌, ◌<◌, ◌≤◌, ◌&&◌, nat_eq, nat_lt, List, ◌++◌, replicate, refl, sym, ap, ◌∙◌, arith, append_assoc}
+use Rattle.std.proofs.lemmas.Bool.{lt-ltb, ne_eqb}
 use Rattle.std.specs.List.{slice_get}
 use Rattle.qoi.specs.declared.chunk.Chunk.TheVariants.{Run}
 use Rattle.qoi.specs.declared.encode.carry.Carry.{Carry}
+use Rattle.qoi.specs.declared.encode.last_pixel.LastPixel.{LastPixel}
 use Rattle.qoi.specs.declared.types.Style.{Style}
-use Rattle.qoi.specs.Qoi.{RgbaPixel, previous, chunk_bytes}
-use Rattle.qoi.specs.Runs.{runs_by}
+use Rattle.qoi.specs.Qoi.{RgbaPixel, chunk_bytes}
 use Rattle.qoi.specs.inner.block.Block.{last_pixel}
 use Rattle.qoi.specs.inner.BlockLoop.{InBlocks}
-use Rattle.qoi.specs.inner.CoderLoop.{Ahead}
-use Rattle.qoi.specs.inner.CoderState.{last_chunk}
 use Rattle.qoi.proofs.format.ChunkSteps.{previous_repeats}
 use Rattle.qoi.proofs.encoding.blocks.BlockWritten.{still_begun, repeats_held}
-use Rattle.qoi.proofs.encoding.coder.CoderLink.{last_carried, begun_by_repeat}
-use Rattle.qoi.proofs.encoding.coder.CoderSteps.{over_repeats, over_full_runs}
+use Rattle.qoi.proofs.encoding.coder.CoderLink.{begun_by_repeat, goes_on}
+use Rattle.qoi.proofs.encoding.coder.CoderSteps.{fulls_written}
 use Rattle.qoi.proofs.encoding.lanes.LaneBits.{not_lt}
 use Rattle.qoi.proofs.encoding.styles.StyledGroup.{placed_repeats}
 
@@ -32,24 +30,21 @@ pub blocks_on : {N : ℕ} {style : Style} {ahead : List ℕ} {size : ℕ} {rest 
     → InBlocks style ahead size (replicate n (last_pixel carry.before) ++ rest) more table carry kept
     → InBlocks style ahead size rest more table after (kept ++ chunk_bytes (replicate k (Run 62)))
 blocks_on {style = style} {ahead} {size} {rest} {more} {table} {kept} carry after n k sum small same placed few first b =
-    let q = previous b.past in
-    let last : last_pixel carry.before ≡ q = last_carried b.state in
     let begun = begun_by_repeat b first in
-    let group = replicate (62 * k) q ++ b.past in
-    let named = last_chunk b.before (runs_by (Run 1) (62 * k)) in
-    let again : previous group ≡ q = previous_repeats (62 * k) b.past in
-    let front = append_assoc (replicate n (last_pixel carry.before)) rest more ∙ ap (λ p. replicate n p ++ (rest ++ more)) last in
-    let all = over_repeats n (rest ++ more) (subst (λ ps. Ahead style ahead b.past b.before carry.count ps kept) front b.to_write) in
+    let px = b.is.px_is in
+    let split = append_assoc (replicate n (last_pixel carry.before)) rest more ∙ ap (λ p. replicate n p ++ (rest ++ more)) px in
+    let last : LastPixel = record { repeats = after.count; px = b.last.px; begun = b.last.begun; placed = after.placed; few = small } in
     record {
-      past = group;
-      before = named;
-      to_write = over_full_runs k after.count (rest ++ more) (subst (λ m. Ahead style ahead b.past b.before m (rest ++ more) kept) sum all);
-      state = record {
-        table_is = λ i l. b.state.table_is i l ∙ ap Some (sym (repeats_held style (62 * k) b.past begun i));
-        last_is = again ∙ (rw same b.state.last_is);
-        placed_is = λ is. placed ∙ ap (λ m. carry.placed && nat_lt m 62) sum ∙ ap (λ z. carry.placed && z) (sym (no_full k after.count small))
-            ∙ placed_repeats (62 * k) b.past b.before carry.placed (b.state.placed_is is);
-      };
-      opens = λ no. absurd (true≢false (sym (still_begun (62 * k) b.past begun) ∙ no));
-      few = λ e. few (e ∙ ap Some (again ∙ sym last));
+      last = last;
+      is = record { px_is = ap last_pixel same ∙ px; count_is = refl; placed_is = refl };
+      between = fulls_written b.between n k (rest ++ more) {next = last} split (omega (arith, sum, b.is.count_is)) refl (λ past before state. (
+          let came = sym state.begun_is ∙ begun in
+          record {
+            table_is = λ i l. state.table_is i l ∙ ap Some (sym (repeats_held style (62 * k) past came i));
+            last_is = state.last_is ∙ sym (previous_repeats (62 * k) past);
+            begun_is = begun ∙ sym (still_begun (62 * k) past came);
+            placed_is = λ is. placed ∙ ap (λ m. carry.placed && nat_lt m 62) sum ∙ ap (λ z. carry.placed && z) (sym (no_full k after.count small))
+                ∙ placed_repeats (62 * k) past before carry.placed (b.is.placed_is ∙ state.placed_is is);
+          }));
+      goes = goes_on begun (λ e. few (e ∙ ap Some (sym px)));
     }

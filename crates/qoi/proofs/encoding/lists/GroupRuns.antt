@@ -1,5 +1,5 @@
 -- The pixels that repeat at the front of bytes, and the runs of a group.
-use Rattle.std.proofs.Common.{◌≡◌, ◌≢◌, inl, inr, ℕ, zero, suc, ◌+◌, ◌-◌, ◌*◌, ◌%◌, ◌<◌, ◌≤◌, List, [], ◌∷◌, ◌++◌, length, take, drop, replicate, false, ◌==◌, Some, refl, sym, ap, ◌∙◌, arith, take-append-drop}
+use Rattle.std.proofs.Common.{◌≡◌, ◌≢◌, inl, inr, ℕ, zero, suc, ◌+◌, ◌*◌, ◌<◌, ◌≤◌, List, [], ◌∷◌, ◌++◌, length, take, drop, replicate, false, ◌==◌, Some, refl, sym, ap, ◌∙◌, arith, take-append-drop}
 use Rattle.std.proofs.Math.Seq.{drop-append_seam}
 use Rattle.std.proofs.lemmas.List.{length-replicate, length-take-le}
 use Rattle.std.proofs.lemmas.Bool.{ne_eqb}
@@ -7,7 +7,6 @@ use Rattle.std.specs.List.{slice_get}
 use Rattle.qoi.specs.Qoi.{RgbaPixel}
 use Rattle.qoi.specs.Raw.{IsChannels, pixels_of}
 use Rattle.qoi.specs.Runs.{IsCount}
-use Rattle.qoi.proofs.format.WholePixels.{by_channels}
 use Rattle.qoi.proofs.format.ChunkSteps.{repeats_after}
 use Rattle.qoi.proofs.format.RawPixels.{length-pixels_of, pixels_of-append}
 
@@ -56,10 +55,6 @@ pub counted_on : (p : RgbaPixel) (pixels rest : List RgbaPixel) (n more : ℕ) �
     → IsCount p pixels (n + more)
 counted_on p pixels rest n more e w = count_of p pixels (drop more rest) (n + more)
     (e ∙ ap (λ x. replicate n p ++ x) w.same ∙ repeats_after n more p (drop more rest)) (λ same. w.other (nth_first more rest ∙ same))
-
--- the rest is whole, too
-pub whole_rest : (n count len : ℕ) → IsChannels n → len % n ≡ 0 → n * count ≤ len → (len - n * count) % n ≡ 0
-whole_rest n count len is = by_channels (λ k. len % k ≡ 0 → k * count ≤ len → (len - k * count) % k ≡ 0) is (λ a b. omega arith) (λ a b. omega arith)
 
 -- dropping k pixels drops their bytes
 pub pixels_drop : (n k : ℕ) (bytes : List ℕ) → IsChannels n → n * k ≤ length bytes → drop k (pixels_of n bytes) ≡ pixels_of n (drop (n * k) bytes)

@@ -10,9 +10,9 @@ use Rattle.qoi.specs.inner.block.Lanes.{Lane, mask, fits_luma, fits_diff, same_a
 use Rattle.qoi.specs.inner.block.State.{is_rep, goes_on}
 use Rattle.qoi.specs.inner.Packed.{word}
 use Rattle.qoi.specs.inner.block.Planes.{AreBlockWords, ArePlanes}
-use Rattle.qoi.specs.inner.block.Storing.{chunk_of, four_chunks, sixteen_chunks}
+use Rattle.qoi.specs.inner.block.Storing.{four_chunks, sixteen_chunks}
 use Rattle.std.proofs.lemmas.Nat.{and_le_r}
-use Rattle.qoi.proofs.encoding.blocks.LaneBytes.{chunks_of}
+use Rattle.qoi.proofs.encoding.blocks.LaneBytes.{chunk_of as lane_chunk, chunks_of}
 use Rattle.qoi.proofs.encoding.stores.SizeHalves.{chunk_is}
 
 -- each lane's chunk as a pixel: first and second byte, green and blue
@@ -100,14 +100,6 @@ lesser_most zero m (s ∷ ss) k = omega arith
 lesser_most (suc n) m (s ∷ ss) zero = omega arith
 lesser_most (suc n) m (s ∷ ss) (suc k) = lesser_most n m ss k
 
--- a lane's chunk of s bytes, of which f is the first
-abbrev lane_chunk : Lane → ℕ → ℕ → List ℕ
-lane_chunk l f s = take s (f ∷ second_of l ∷ l.px.g ∷ l.px.b ∷ l.px.a ∷ [])
-
--- it is stored from the pixel of its first four bytes
-one_part : (l : Lane) (f s : ℕ) → IsPixel (pixel f (second_of l) l.px.g l.px.b) → chunk_of s (word (pixel f (second_of l) l.px.g l.px.b)) l.px.a ≡ lane_chunk l f s
-one_part l f s i = chunk_is (pixel f (second_of l) l.px.g l.px.b) l.px.a s i
-
 -- four parts and what follows
 regroup : (a b c d e : List ℕ) → (a ++ (b ++ (c ++ d))) ++ e ≡ a ++ (b ++ (c ++ (d ++ e)))
 regroup a b c d e = append_assoc a (b ++ (c ++ d)) e ∙ ap (λ z. a ++ z) (append_assoc b (c ++ d) e ∙ ap (λ z. b ++ z) (append_assoc c d e))
@@ -118,7 +110,7 @@ four_parts : (k l m n : Lane) (e f g h s t u v : ℕ) (ls : List Lane) (fs ss : 
     → four_chunks (s ∷ t ∷ u ∷ v ∷ []) (map word (chunk_pixels (k ∷ l ∷ m ∷ n ∷ []) (e ∷ f ∷ g ∷ h ∷ []))) (map (λ (l : Lane). l.px.a) (k ∷ l ∷ m ∷ n ∷ [])) 0 ++ chunks_of ls fs ss
     ≡ chunks_of (k ∷ l ∷ m ∷ n ∷ ls) (e ∷ f ∷ g ∷ h ∷ fs) (s ∷ t ∷ u ∷ v ∷ ss)
 four_parts k l m n e f g h s t u v ls fs ss i =
-    (λ j. (one_part k e s i.0 j ++ (one_part l f t i.1.0 j ++ (one_part m g u i.1.1.0 j ++ one_part n h v i.1.1.1.0 j))) ++ chunks_of ls fs ss)
+    (λ j. (chunk_is _ k.px.a s i.0 j ++ (chunk_is _ l.px.a t i.1.0 j ++ (chunk_is _ m.px.a u i.1.1.0 j ++ chunk_is _ n.px.a v i.1.1.1.0 j))) ++ chunks_of ls fs ss)
     ∙ regroup (lane_chunk k e s) (lane_chunk l f t) (lane_chunk m g u) (lane_chunk n h v) (chunks_of ls fs ss)
 
 -- all sixteen

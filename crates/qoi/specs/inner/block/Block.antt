@@ -1,10 +1,11 @@
 -- What a block of sixteen pixels must meet.
-use Rattle.std.specs.Prelude.{◌≡◌, Bool, true, false, ◌&&◌, List, [], ◌∷◌, slice_index}
+use Rattle.std.specs.Prelude.{◌≡◌, ◌≢◌, List, slice_index}
 use Rattle.qoi.specs.declared.encode.block.steps.Changes.{Changes}
 use Rattle.qoi.specs.declared.encode.block.planes.Planes.{Planes}
 use Rattle.qoi.specs.declared.types.Style.{Style}
 use Rattle.qoi.specs.declared.types.Style.TheVariants.{Tight}
-use Rattle.qoi.specs.Qoi.{RgbaPixel, pixel, pixel_eq}
+use Rattle.qoi.specs.Qoi.{RgbaPixel, pixel}
+use Rattle.qoi.specs.inner.block.Marks.{fresh_marks}
 use Rattle.qoi.specs.inner.block.State.{State, NoneBlank, lanes_of}
 use Rattle.qoi.specs.inner.block.LaneVectors.{AreChanges}
 use Rattle.qoi.specs.inner.Table.{Holds}
@@ -12,11 +13,6 @@ use Rattle.qoi.specs.inner.Table.{Holds}
 -- the last of sixteen pixels
 abbrev pub last_pixel : Planes → RgbaPixel
 last_pixel p = pixel (slice_index p.r 15) (slice_index p.g 15) (slice_index p.b 15) (slice_index p.a 15)
-
--- all of these pixels are this one
-abbrev pub all_repeat : RgbaPixel → List RgbaPixel → Bool
-all_repeat q [] = true
-all_repeat q (p ∷ ps) = pixel_eq p q && all_repeat q ps
 
 -- from whatever the table holds, no fresh pixel is transparent black that isn't at its position
 abbrev pub MissesNoBlank : List RgbaPixel → Planes → List RgbaPixel → Type 0
@@ -29,5 +25,5 @@ ChangesFrom before ps x = (s : State) → s.last ≡ last_pixel before → AreCh
 -- what a block of pixels must meet, after the block `before`, to be written as one
 pub record FitsBlock (style : Style) (table : List RgbaPixel) (before : Planes) (ps : List RgbaPixel) (x : Changes) : Type 0 where
   pub changes : ChangesFrom before ps x
-  pub mixed : all_repeat (last_pixel before) ps ≡ false
+  pub mixed : fresh_marks (last_pixel before) ps ≢ 0
   pub no_blank : style ≡ Tight → MissesNoBlank table before ps

@@ -1,22 +1,22 @@
 -- The repeats before the block, if a fresh pixel follows them, and the block's chunks.
-use Rattle.std.proofs.Common.{◌≡◌, ◌==◌, eqb-true, inl, inr, false, ℕ, ◌+◌, ◌-◌, ◌≤◌, List, ◌++◌, map, ◌<◌, length, take, slice_index, arith, refl, sym, ap, ◌∙◌, subst, append_assoc, length-append}
+use Rattle.std.proofs.Common.{◌≡◌, ◌≢◌, [], inl, inr, Some, ℕ, ◌+◌, ◌-◌, ◌≤◌, List, ◌++◌, map, ◌<◌, length, take, slice_index, arith, refl, sym, ap, ◌∙◌, subst, append_assoc, length-append}
 use Rattle.std.proofs.lemmas.List.{take-take}
 use Rattle.std.specs.List.{slice_get}
 use Rattle.qoi.specs.declared.types.Style.TheVariants.{Places}
-use Rattle.qoi.specs.Qoi.{RgbaPixel, IsPixel, previous, hash}
+use Rattle.qoi.specs.Qoi.{RgbaPixel, IsPixel, hash}
 use Rattle.qoi.specs.Raw.{IsChannels, AreOpaque}
-use Rattle.qoi.specs.Styles.{some_fresh, names}
+use Rattle.qoi.specs.Styles.{names}
 use Rattle.qoi.specs.inner.block.State.{State, group_bytes, lanes_of}
 use Rattle.qoi.specs.inner.CoderLoop.{Ahead}
 use Rattle.qoi.specs.inner.CoderState.{held_in, style_of}
 use Rattle.qoi.specs.inner.Piece.{kept_bytes}
 use Rattle.qoi.specs.inner.block.Bytes.{sizes}
-use Rattle.qoi.specs.inner.block.Block.{last_pixel, all_repeat}
+use Rattle.qoi.specs.inner.block.Block.{last_pixel}
 use Rattle.qoi.specs.inner.block.Planes.{block_pixels}
 use Rattle.qoi.specs.inner.block.Positions.{stand_tests}
 use Rattle.qoi.specs.inner.Table.{Holds}
 use Rattle.qoi.proofs.encoding.blocks.BlockPuts.{hashes_below}
-use Rattle.qoi.proofs.encoding.blocks.BlockStep.{ready, first_repeats, group_stored, block_step}
+use Rattle.qoi.proofs.encoding.blocks.BlockStep.{ready, block_step}
 use Rattle.qoi.proofs.encoding.blocks.BlockWritten.{Carrying}
 use Rattle.qoi.proofs.encoding.coder.CoderLink.{first_more}
 use Rattle.qoi.proofs.encoding.blocks.PackedBlock.{block_sixteen, block_words}
@@ -46,23 +46,27 @@ pub returns : goal.returns
 returns g c = λ ahead n rest more fits b.
     let style = style_of g.row.STYLE in
     let carry = c.args.carry in
-    let q = previous b.past in
-    let s : State = record { held = held_in style b.past; last = q; carry = carry.count; placed = names b.before (hash q) } in
+    let now = b.between in
+    let q = last_pixel carry.before in
+    let s : State = record { held = held_in style now.past; last = q; carry = carry.count; placed = names now.before (hash q) } in
     let words = c.args.block.words in
     let all : List RgbaPixel = block_pixels words in
     let sixteen = block_sixteen words c.args.block.packed in
     let planes = c.args.block.planes_are in
     let later = rest ++ more in
     let assoc : (all ++ rest) ++ more ≡ all ++ later = append_assoc all rest more in
-    let some : 0 < length (all ++ rest) = omega (arith, length-append all rest, sixteen.long) in
+    let some : all ++ rest ≢ [] = λ none. omega (arith, ap length none, length-append all rest, sixteen.long) in
     let first : slice_get (all ++ later) 0 ≡ slice_get (all ++ rest) 0 = ap (λ x. slice_get x 0) (sym assoc) ∙ first_more (all ++ rest) more some in
-    let start : Carrying (some_fresh b.past) style ahead s (all ++ later) (take c.args.piece.piece.end c.args.piece.piece.bytes.now) = record {
-      past = b.past;
-      before = b.before;
-      to_write = subst (λ ps. Ahead style ahead b.past b.before carry.count ps (kept_bytes c.args.piece.piece)) assoc b.to_write;
-      last_is = refl;
-      begun_is = refl;
-      opens = λ no. ((b.opens no).0, λ e. (b.opens no).1.fresh (sym first ∙ e));
+    let q_is = b.is.px_is ∙ now.state.last_is in
+    let last : IsPixel q = subst IsPixel (sym q_is) now.to_write.before_is in
+    let start : Carrying b.last.begun style ahead s (all ++ later) (take c.args.piece.piece.end c.args.piece.piece.bytes.now) = record {
+      past = now.past;
+      before = now.before;
+      to_write = subst (λ k. Ahead style ahead now.past now.before k (all ++ later) (kept_bytes c.args.piece.piece)) (sym b.is.count_is)
+          (subst (λ ps. Ahead style ahead now.past now.before b.last.repeats ps (kept_bytes c.args.piece.piece)) assoc now.to_write);
+      last_is = sym q_is;
+      begun_is = sym now.state.begun_is;
+      opens = λ no. (b.is.count_is ∙ (b.goes.opens no).none, λ e. (b.goes.opens no).fresh (sym first ∙ e ∙ ap Some b.is.px_is));
       held_is = λ _. refl;
       placed_is = refl;
     } in
@@ -71,25 +75,18 @@ returns g c = λ ahead n rest more fits b.
     let front : take end c.store_places.new.out ≡ take end c.args.piece.piece.bytes.now =
     sym (take-take end (g.row.ROOM - 16) c.store_places.new.out low) ∙ ap (take end) c.store_places.ensures.front ∙ take-take end (g.row.ROOM - 16) c.args.piece.piece.bytes.now low in
     let at : c.index_positions-places.result ≡ map hash all = c.index_positions-places.ensures all sixteen planes in
-    let put = c.put_block-stands.ensures s.held all b.state.table_is sixteen (block_words words c.args.block.packed) (c.read_places.ensures ∙ at) in
-    let run : 0 < carry.count → take (end + 1) c.store_run.new.out ≡ take end c.store_places.new.out ++ group_bytes style carry.placed (last_pixel carry.before) carry.count =
-    λ some. subst (λ s. take (end + 1) c.store_run.new.out ≡ take end c.store_places.new.out ++ group_bytes s carry.placed (last_pixel carry.before) carry.count) c.style_of-style.ensures (c.store_run.ensures.run some) in
-    let placed : style ≡ Places → s.placed ≡ carry.placed = λ is. sym (b.state.placed_is is) in
-    let spelled = c.spell-x.ensures s b.state.last_is fits.changes refl placed
-    (record { sixteen = sixteen; last_is = b.to_write.before_is; red_is = planes.r_is; stands_are = put.stands_are; places_are = at }) in
+    let put = c.put_block-stands.ensures s.held all now.state.table_is sixteen (block_words words c.args.block.packed) (c.read_places.ensures ∙ at) in
+    let run : 0 < carry.count → take (end + 1) c.store_run.new.out ≡ take end c.store_places.new.out ++ group_bytes style carry.placed q carry.count =
+    λ some. subst (λ s. take (end + 1) c.store_run.new.out ≡ take end c.store_places.new.out ++ group_bytes s carry.placed q carry.count) c.style_of-style.ensures (c.store_run.ensures.run some) in
+    let placed : style ≡ Places → s.placed ≡ carry.placed = λ is. ap (λ p. names now.before (hash p)) q_is ∙ sym (b.is.placed_is ∙ now.state.placed_is is) in
+    let spelled = c.spell-x.ensures s refl fits.changes refl placed
+    (record { sixteen = sixteen; last_is = last; red_is = planes.r_is; stands_are = put.stands_are; places_are = at }) in
     let x = c.spell-x.result in
-    let rep = slice_index x.rep 0 in
-    let q_is : q ≡ last_pixel carry.before = b.state.last_is in
-    let now = ready style ahead s all later x _ carry.placed (last_pixel carry.before) carry.count _ _ c.args.carry.few (λ e. b.few (sym first ∙ e)) start
-    spelled sixteen refl q_is refl placed
-    (group_stored style (rep == 0) carry.placed (last_pixel carry.before) carry.count end c.run_end-start.result c.args.piece.piece.bytes.now c.store_run.new.out
-    (c.store_run.ensures.front ∙ front) (λ some. run some ∙ ap (λ z. z ++ group_bytes style carry.placed (last_pixel carry.before) carry.count) front)
-    (λ e. c.run_end-start.ensures.stays (omega (arith, first_repeats s all x spelled sixteen e, c.args.carry.few)))
-    (λ e. c.run_end-start.ensures.stays (omega (arith, e)))
-    (λ e some. c.run_end-start.ensures.some (omega (arith, eqb-true rep 0 e, some)))) in
-    block_step style ahead n s rest more all x c.args.block.planes c.put_block-stands.new.table c.carry.result _ _ sixteen
-    (subst (λ q. all_repeat q all ≡ false) (sym q_is) fits.mixed) planes now put.holds
-    (λ t held same tight. fits.no_blank tight t (subst (Holds c.args.table.now) (sym held) b.state.table_is) (same ∙ b.state.last_is))
+    let ready_now = ready style ahead s all later x carry.placed end c.run_end-start.result _ c.store_run.new.out c.args.carry.few
+    (λ e. omega (arith, b.is.count_is, b.goes.few (sym first ∙ e ∙ ap Some b.is.px_is))) start spelled sixteen placed (c.store_run.ensures.front ∙ front)
+    (λ some. run some ∙ ap (λ z. z ++ group_bytes style carry.placed q carry.count) front) c.run_end-start.ensures in
+    block_step style ahead n s rest more all x c.args.block.planes c.put_block-stands.new.table c.carry.result _ _ sixteen fits.mixed planes ready_now put.holds
+    (λ t held same tight. fits.no_blank tight t (subst (Holds c.args.table.now) (sym held) now.state.table_is) same)
     c.carry.ensures.before c.carry.ensures.count (λ is. c.carry.ensures.placed (stand_tests s.held all) (c.style_of-style.ensures ∙ is) put.stands_are)
-    (λ t same last_is few. c.store_sixteen-end.ensures.written style t (subst IsPixel (sym last_is) b.to_write.before_is) same (omega arith)
-    (sizes_in g.row.N t t.last all x.size carry.channels c.requires (λ three. ap (λ z. z.a) (last_is ∙ q_is) ∙ carry.opaque three) same.size_is))
+    (λ t same last_is few. c.store_sixteen-end.ensures.written style t (subst IsPixel (sym last_is) last) same (omega arith)
+    (sizes_in g.row.N t t.last all x.size carry.channels c.requires (λ three. ap (λ z. z.a) last_is ∙ carry.opaque three) same.size_is))

@@ -1,23 +1,17 @@
 -- By blocks, from what the coder knows to what is carried, and back.
-use Rattle.std.proofs.Common.{◌++◌, inr, length, sym, arith, subst}
-use Rattle.qoi.specs.inner.BlockLoop.{GoesByBlocks}
-use Rattle.qoi.specs.inner.CoderLoop.{CoderBetween}
-use Rattle.qoi.specs.inner.CoderState.{style_of}
-use Rattle.qoi.specs.inner.Piece.{kept_bytes}
-use Rattle.qoi.specs.inner.Pixels.{pixels_in}
+use Rattle.std.proofs.Common.{inr, arith, subst}
+use Rattle.qoi.specs.inner.BlockLoop.{IsCarried}
+use Rattle.qoi.proofs.encoding.coder.CoderLink.{still_between}
 use Rattle.qoi.proofs.encode.blocks.write_by_blocks.Goals as goal
 
 pub returns : goal.returns
 returns g c =
-    let style = style_of g.row.STYLE in
-    let n = length (pixels_in c.args.raw) in
-    let last = sym c.new.ensures.last in
-    let goes = subst (λ last. GoesByBlocks style last n (pixels_in c.args.raw)) last c.requires.goes in
+    let carried = subst (λ l. IsCarried l c.carried-carry.result) c.new.ensures.last c.carried-carry.ensures in
+    let after = c.coder_after.ensures in
     record {
       opaque = c.coder_after.result.opaque;
       less = c.fill-piece.ensures.less;
-      written = λ ahead more b.
-          let here = subst (λ last. CoderBetween style ahead (pixels_in c.args.raw ++ more) c.args.table.now last (kept_bytes c.args.piece.piece)) last b in
-          c.coder_after.ensures.between style ahead n _ more _ _ (inr c.fill-piece.ensures.less)
-          (c.fill-piece.ensures.written ahead n more (omega arith) (c.carried-carry.ensures style ahead n _ more _ _ goes here));
+      on = λ ahead more b.
+          still_between after.carried after.begun (inr c.fill-piece.ensures.less)
+          (c.fill-piece.ensures.written ahead _ more (omega arith) (record { last = c.args.last.now; is = carried; between = b; goes = c.requires.goes }));
     }

@@ -1,47 +1,95 @@
--- A block, or a group.
-use Rattle.std.proofs.Common.{◌≡◌, ◌<◌, true, ◌++◌, take, drop, refl, sym, ap, ◌∙◌, arith, subst, take-append-drop}
-use Rattle.std.proofs.lemmas.Bool.{eq-eqb, ne_eqb}
-use Rattle.qoi.specs.inner.block.Block.{FitsBlock, all_repeat, last_pixel}
+-- A block, or a group. Before its groups a fresh pixel came, since the call wrote one.
+use Rattle.std.proofs.Common.{◌≡◌, ◌≤◌, ◌%◌, inl, inr, Option, None, Some, ◌++◌, take, drop, refl, sym, ap, ◌∙◌, arith, subst, take-append-drop}
+use Rattle.std.specs.List.{slice_get}
+use Rattle.qoi.specs.declared.encode.carry.TheConstants.{FRONT_CARRIED}
+use Rattle.qoi.specs.Qoi.{RgbaPixel}
+use Rattle.qoi.specs.inner.block.Block.{FitsBlock, last_pixel}
 use Rattle.qoi.specs.inner.BlockLoop.{InBlocks}
 use Rattle.qoi.specs.inner.CoderState.{style_of}
 use Rattle.qoi.specs.inner.Piece.{kept_bytes}
 use Rattle.qoi.specs.inner.Pixels.{pixels_in}
 use Rattle.qoi.specs.inner.block.Planes.{block_pixels}
 use Rattle.qoi.specs.inner.block.Marks.{fresh_marks}
-use Rattle.qoi.proofs.encoding.blocks.FrontBlock.{repeats_first}
-use Rattle.qoi.proofs.encoding.coder.MarkedPixels.{all_unmarked}
+use Rattle.qoi.proofs.encoding.coder.CoderLink.{in_style, still_between, goes_on}
+use Rattle.qoi.proofs.encoding.coder.MarkedPixels.{none_group, repeat_even}
 use Rattle.qoi.proofs.encode.blocks.write_front.Goals as goal
 
 -- no bit is set, so all repeat
 pub write_long_group-requires : goal.write_long_group-requires
 write_long_group-requires g c =
     let q = last_pixel c.args.carry.before in
-    let ps = block_pixels c.first-block.result.words in
-    let none : fresh_marks q ps ≡ 0 = sym (c.marks-marks.ensures c.args.carry.before c.first-block.ensures.changes) ∙ c.if-marks-eq0.true in
-    let all : all_repeat q (take 16 (pixels_in c.args.front.raw)) ≡ true =
-    sym (ap (all_repeat q) c.first-block.ensures.pixels) ∙ sym (all_unmarked q q ps refl) ∙ eq-eqb _ _ none in
-    (omega arith, (omega arith, (omega arith, (omega arith, repeats_first (pixels_in c.args.front.raw) q c.args.front.enough all))))
+    let block = c.first-block in
+    let none : 0 ≡ fresh_marks q (block_pixels block.result.words) = sym c.if-marks-eq0.true ∙ c.marks-marks.ensures c.args.carry.before block.ensures.changes in (
+      omega arith,
+      (
+        omega arith,
+        (
+          omega arith,
+          (
+            omega arith,
+            ap (λ ps. slice_get ps 0) (none_group q (pixels_in c.args.front.raw) 16 c.args.front.enough (none ∙ ap (fresh_marks q) block.ensures.pixels)),
+          ),
+        ),
+      ),
+    )
 
 pub returns-then-marks-eq0 : goal.returns-then-marks-eq0
 returns-then-marks-eq0 g c = c.write_long_group.ensures (style_of g.row.STYLE) _ c.args.table.now
 
-pub write_marked_block-requires : goal.write_marked_block-requires
-write_marked_block-requires g c =
-    let q = last_pixel c.args.carry.before in
-    let marks = c.marks-marks.ensures c.args.carry.before c.first-block.ensures.changes ∙ ap (fresh_marks q) c.first-block.ensures.pixels in
-    let some : 0 < c.marks-marks.result = omega (arith, c.if-marks-eq0.false) in
-    (omega arith, (omega arith, (omega arith, (omega arith, (omega arith, (some, (c.goes_by_marks.ensures.few c.if-goes_by_marks.true, (marks, c.goes_by_marks.ensures.later c.if-goes_by_marks.true))))))))
+pub write_marked-rest-requires : goal.write_marked-rest-requires
+write_marked-rest-requires g c =
+    let raw = pixels_in c.args.front.raw in
+    let last = c.coder_after-coder.result.last in
+    let bits = c.marks-marks.result in
+    let is = c.coder_after-coder.ensures.carried in
+    let marks : bits ≡ fresh_marks last.px (take 16 raw) =
+    c.marks-marks.ensures c.args.carry.before c.first-block.ensures.changes ∙ (λ i. fresh_marks (is.px_is i) (c.first-block.ensures.pixels i)) in
+    let few : slice_get raw 0 ≡ Some last.px → last.repeats ≤ FRONT_CARRIED = λ e.
+    (let even : bits % 2 ≡ 0 = ap (λ z. z % 2) marks ∙ repeat_even last.px 16 raw (omega arith) e in
+    omega (arith, is.count_is, c.goes_by_marks.ensures.few c.if-goes_by_marks.true even)) in
+    (omega arith, (omega arith, (omega arith, (omega arith, (few, (c.args.piece.not_full, (omega (arith, c.if-marks-eq0.false), marks)))))))
+
+pub returns-then-goes_by_marks : goal.returns-then-goes_by_marks
+returns-then-goes_by_marks g c =
+    let coder = c.coder_after-coder.ensures in
+    let next = c.write_marked-rest.ensures in
+    record {
+      less = next.less;
+      written = λ ahead n more whole b. record {
+        last = c.write_marked-rest.new.coder.last;
+        is = c.carried.ensures;
+        between = in_style next.written coder.style refl more
+            (still_between coder.carried coder.begun (inr (omega (arith, c.goes_by_marks.ensures.later c.if-goes_by_marks.true, whole))) b);
+        goes = goes_on {rest = pixels_in c.write_marked-rest.result} next.begun (λ _. next.few);
+      };
+    }
+
+pub returns-then-may_miss_blank : goal.returns-then-may_miss_blank
+returns-then-may_miss_blank g c =
+    let coder = c.coder_after-coder-then-may_miss_blank.ensures in
+    let next = c.write_next-rest.ensures in
+    let last = c.write_next-rest.new.self.last in
+    let tight = sym c.style_of.ensures ∙ c.may_miss_blank.ensures.tight c.if-may_miss_blank.true in
+    record {
+      less = next.less;
+      written = λ ahead n more whole b. record {
+        last = last;
+        is = c.carried-then-may_miss_blank.ensures;
+        between = in_style next.written coder.style refl more (still_between coder.carried coder.begun (inl tight) b);
+        goes = goes_on {rest = pixels_in c.write_next-rest.result} (next.begun coder.begun)
+            (λ e. omega (arith, next.none (λ none. (let no : ◌≡◌ {A = Option RgbaPixel} None (Some last.px) = sym (ap (λ ps. slice_get ps 0) none) ∙ e in cc))));
+      };
+    }
 
 pub returns : goal.returns
 returns g c =
     let block = c.first-block.ensures in
     let before = c.args.carry.before in
-    let q = last_pixel before in
     let ps = block_pixels c.first-block.result.words in
     let after = drop 16 (pixels_in c.args.front.raw) in
     let fits : FitsBlock (style_of g.row.STYLE) c.args.table.now before ps c.first-block.result.changes = record {
       changes = block.changes;
-      mixed = sym (all_unmarked q q ps refl) ∙ ne_eqb _ _ (λ none. c.if-marks-eq0.false (c.marks-marks.ensures before block.changes ∙ none));
+      mixed = λ none. c.if-marks-eq0.false (c.marks-marks.ensures before block.changes ∙ none);
       no_blank = λ tight. c.may_miss_blank.ensures.none before block.changes c.if-may_miss_blank.false (c.style_of.ensures ∙ tight);
     } in
     let front = sym (take-append-drop 16 (pixels_in c.args.front.raw)) ∙ ap (λ ps. ps ++ after) (sym block.pixels) in

@@ -1,9 +1,8 @@
 -- Full runs are kept, and the repeats that are left are carried.
-use Rattle.std.proofs.Common.{◌≡◌, inl, inr, ◌+◌, ◌-◌, ◌%◌, ◌/◌, ◌≤◌, ◌&&◌, nat_lt, Option, None, Some, take, drop, refl, sym, ap, ◌∙◌, arith, subst}
+use Rattle.std.proofs.Common.{◌≡◌, inl, inr, ◌+◌, ◌-◌, ◌%◌, ◌/◌, ◌≤◌, ◌&&◌, nat_lt, Some, take, drop, refl, sym, ap, ◌∙◌, arith, subst}
 use Rattle.std.proofs.lemmas.Option.{same_Some}
 use Rattle.std.specs.List.{slice_get}
 use Rattle.qoi.specs.declared.encode.piece.TheConstants.{REPEATS_AT_ONCE}
-use Rattle.qoi.specs.Qoi.{RgbaPixel}
 use Rattle.qoi.specs.Runs.{IsCount}
 use Rattle.qoi.specs.inner.block.Block.{last_pixel}
 use Rattle.qoi.specs.inner.BlockLoop.{InBlocks}
@@ -22,17 +21,6 @@ near g c =
     let n = c.repeats_of-ahead.result in
     near_group (last_pixel c.args.carry.before) (REPEATS_AT_ONCE - c.from-carried.result) n (pixels_in c.args.raw)
     (subst (λ p. IsCount p (take (REPEATS_AT_ONCE - c.from-carried.result) (pixels_in c.args.raw)) n) (same_Some _ _ (sym (ap (λ ps. slice_get ps 0) c.first.ensures) ∙ c.requires)) (subst (λ ps. IsCount c.first.result.px ps n) c.at_most.ensures c.repeats_of-ahead.ensures.counted))
-
-pub first-requires : goal.first-requires
-first-requires g c = (omega arith, (omega arith, λ none. (let no : ◌≡◌ {A = Option RgbaPixel} None (Some (last_pixel c.args.carry.before)) = sym (ap (λ ps. slice_get ps 0) none) ∙ c.requires in cc)))
-
-pub append_full_runs-requires : goal.append_full_runs-requires
-append_full_runs-requires g c =
-    let few = (near g (goal.at.append_full_runs-requires g c).After-repeats_of-ahead).few in
-    (omega arith, (omega (arith, c.args.piece.not_full), omega (arith, few, c.from-carried.ensures, c.args.carry.few)))
-
-pub skip-requires : goal.skip-requires
-skip-requires g c = (omega arith, (near g (goal.at.skip-requires g c).After-repeats_of-ahead).within)
 
 pub returns : goal.returns
 returns g c = λ style least table.

@@ -2,7 +2,6 @@
 use Rattle.std.proofs.Common.{◌≡◌, ℕ, List, ◌++◌, ◌-◌, ◌%◌, ◌<◌, inl, inr, length, sym, ap, ◌∙◌, arith, subst}
 use Rattle.std.proofs.lemmas.Bool.{true≢false, cases_lt}
 use Rattle.std.proofs.lemmas.Result.{err_from_is_err_and}
-use Rattle.qoi.specs.declared.encode.pending.Pending.{Pending}
 use Rattle.qoi.specs.declared.types.Style.{Style}
 use Rattle.qoi.specs.Qoi.{channels_number}
 use Rattle.qoi.specs.Raw.{pixels_of}
@@ -11,31 +10,13 @@ use Rattle.qoi.specs.inner.CoderLoop.{CoderBetween}
 use Rattle.qoi.specs.inner.CoderState.{style_of}
 use Rattle.qoi.specs.inner.Piece.{kept_bytes}
 use Rattle.qoi.specs.inner.Pixels.{pixels_in}
-use Rattle.qoi.specs.inner.Sending.{GoesOn, IsReady}
-use Rattle.qoi.proofs.decoding.ImageSize.{channels_are}
-use Rattle.qoi.proofs.encoding.piece.BytesAhead.{CoderGoes, then_on, then_breaks, sent_on, sent_part, stays, room_kept, still_ready}
+use Rattle.qoi.proofs.encoding.piece.BytesAhead.{CoderGoes, then_on, then_breaks, sent_on, sent_part, room_kept, still_ready}
 use Rattle.qoi.proofs.encoding.piece.ImagePieces.{bytes_in, few_bytes, fewer_bytes, whole_ahead}
 use Rattle.qoi.proofs.encoding.piece.PieceSent.{kept_length, sent_but}
 use Rattle.qoi.proofs.encoding.piece.WriterProgress.{none_but}
 use Rattle.qoi.proofs.encode.chunks.write_blocks.Given.{Over}
 use Rattle.qoi.proofs.encode.chunks.write_blocks.Goals.{After-has_block, After-write_some-filled, then-is_full+in_ok-send, else-is_full}
 use Rattle.qoi.proofs.encode.chunks.write_blocks.Goals as goal
-
-pub new-rest-requires : goal.new-rest-requires
-new-rest-requires g c =
-    (omega arith, (channels_are c.args.pending.now.channels g.row.N (sym c.requires.channels), ap (λ n. length c.args.data.now % n) (sym c.requires.channels) ∙ c.requires.ready.whole))
-
-pub loop-table-init : goal.loop-table-init
-loop-table-init g c =
-    let p : Pending = c.args.pending.now in
-    let kept = kept_bytes c.args.piece.piece in
-    let raw = c.args.data.now in
-    record {
-      left = omega (arith, ap length c.new-rest.ensures);
-      ready = subst (λ x. IsReady (g.W.Writer.room c.args.writer.now) g.row.ROOM p kept x) (sym c.new-rest.ensures) c.requires.ready;
-      written = subst (λ x. GoesOn g.W.Writer.wrote c.args.writer.now p kept raw c.args.writer.now p kept x) (sym c.new-rest.ensures)
-          (stays (g.met.W.Writer.laws.nothing c.args.writer.now) c.requires.ready.opaque);
-    }
 
 -- some is written
 goes : (g : Over) (c : After-write_some-filled g)
@@ -51,7 +32,7 @@ goes g c =
     let n = g.row.N in
     let here : Goes n (style_of g.row.STYLE) = λ ahead more s.
     subst (λ ps. CoderBetween (style_of g.row.STYLE) ahead ps new.new.table new.new.last (kept_bytes new.result.1)) (sym (whole_ahead n after.bytes.now more after.channels after.whole))
-    (new.ensures.written ahead (pixels_of n more)
+    (new.ensures.on ahead (pixels_of n more)
     (subst (λ ps. CoderBetween (style_of g.row.STYLE) ahead ps old.table old.last (kept_bytes old.piece.piece)) (whole_ahead n rest.bytes.now more rest.channels rest.whole) s)) in
     record { on = subst (λ n. Goes n c.args.pending.now.style) (sym c.requires.channels) (subst (Goes n) (sym c.requires.style) here) }
 

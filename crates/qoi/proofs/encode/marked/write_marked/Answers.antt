@@ -4,22 +4,10 @@ use Rattle.std.proofs.lemmas.Bool.{cases_lt}
 use lib.Count.{count_trailing_zeros}
 use Rattle.qoi.specs.inner.block.Marks.{fresh_marks}
 use Rattle.qoi.specs.inner.Pixels.{pixels_in}
+use Rattle.qoi.proofs.encoding.coder.CoderLink.{then_passes}
 use Rattle.qoi.proofs.encoding.coder.CoderSteps.{repeats_joined}
 use Rattle.qoi.proofs.encoding.coder.MarkedPixels.{marks_group, none_group}
 use Rattle.qoi.proofs.encode.marked.write_marked.Goals as goal
-
-pub loop-left-init : goal.loop-left-init
-loop-left-init g c = record {
-  style = refl;
-  lanes_few = omega arith;
-  enough = c.args.block.front.enough;
-  rest_is = refl;
-  marks_are = c.requires.marks;
-  few = c.requires.few;
-  begun = inl c.requires.some;
-  room = omega arith;
-  written = λ all more b. b;
-}
 
 pub invariant_of-group : goal.invariant_of-group
 invariant_of-group g c =
@@ -53,7 +41,6 @@ loop-left-preserved g c =
     let step = c.write_short_group-rest.ensures in
     let left : lanes ≡ (n + 1) + (lanes - (n + 1)) = omega (arith, group.inside) in
     record {
-      style = step.style ∙ i.style;
       lanes_few = omega (arith, i.lanes_few);
       enough = omega (arith, i.enough, ap length step.rest, length-drop (n + 1) rest, group.inside);
       rest_is = ap (drop (lanes - (n + 1))) step.rest ∙ drop-drop (lanes - (n + 1)) (n + 1) rest ∙ ap (λ k. drop k rest) (omega (arith, left)) ∙ i.rest_is;
@@ -62,21 +49,23 @@ loop-left-preserved g c =
       few = λ _. omega (arith, step.begun.1);
       begun = inr (step.begun.0, step.begun.1, omega (arith, group.inside, i.lanes_few));
       room = omega (arith, i.room, step.end, group.inside);
-      written = λ all more b. step.written all more (i.written all more b);
+      written = then_passes i.written step.written;
     }
 
-pub overflow_add-coder : goal.overflow_add-coder
-overflow_add-coder g c = omega (arith, c.loop-left.invariant.lanes_few, c.loop-left.coder.last.few)
-
-pub returns-clause-rest : goal.returns-clause-rest
-returns-clause-rest g c = c.skip.ensures.rest ∙ c.loop-left.invariant.rest_is
+pub returns-clause-less : goal.returns-clause-less
+returns-clause-less g c =
+    let raw = pixels_in c.args.block.front.raw in
+    omega (arith, ap length (c.skip.ensures.rest ∙ c.loop-left.invariant.rest_is), length-drop 16 raw, c.args.block.front.enough)
 
 pub returns-clause-written : goal.returns-clause-written
-returns-clause-written g c = λ all more b.
-    let i = c.loop-left.invariant in
-    let lanes = c.loop-left.count in
-    let rest = pixels_in c.loop-left.rest in
-    let q = c.loop-left.coder.last.px in
-    let split : rest ++ more ≡ replicate lanes q ++ (drop lanes rest ++ more) =
-    ap (λ ps. ps ++ more) (none_group q rest lanes i.enough (sym c.loop-left-test.false ∙ i.marks_are)) ∙ append_assoc (replicate lanes q) (drop lanes rest) more in
-    rw c.skip.ensures.rest (repeats_joined (i.written all more b) lanes (drop lanes rest ++ more) split refl refl refl refl)
+returns-clause-written g c = record {
+  style = c.loop-left.invariant.written.style;
+  on = λ all more b.
+      let i = c.loop-left.invariant in
+      let lanes = c.loop-left.count in
+      let rest = pixels_in c.loop-left.rest in
+      let q = c.loop-left.coder.last.px in
+      let split : rest ++ more ≡ replicate lanes q ++ (drop lanes rest ++ more) =
+      ap (λ ps. ps ++ more) (none_group q rest lanes i.enough (sym c.loop-left-test.false ∙ i.marks_are)) ∙ append_assoc (replicate lanes q) (drop lanes rest) more in
+      rw c.skip.ensures.rest (repeats_joined (i.written.on all more b) lanes (drop lanes rest ++ more) split refl refl refl refl);
+}

@@ -1,17 +1,14 @@
 -- The pixels up to here are written, each as at most six bytes; those left of the block have these
 -- bits. Once a fresh pixel is written, no repeats are carried.
-use Rattle.std.proofs.Common.{◌≡◌, ◌⊎◌, ℕ, ◌+◌, ◌*◌, ◌<◌, ◌≤◌, true, List, ◌++◌, Some, length, take, drop, slice_get}
+use Rattle.std.proofs.Common.{◌≡◌, ◌⊎◌, ◌+◌, ◌*◌, ◌<◌, ◌≤◌, true, Some, length, take, drop, slice_get}
 use Rattle.qoi.specs.declared.encode.carry.TheConstants.{FRONT_CARRIED}
-use Rattle.qoi.specs.Qoi.{RgbaPixel}
-use Rattle.qoi.specs.inner.CoderLoop.{CoderBetween}
-use Rattle.qoi.specs.inner.Piece.{kept_bytes}
+use Rattle.qoi.specs.inner.CoderSteps.{CoderPasses}
 use Rattle.qoi.specs.inner.block.Marks.{fresh_marks}
 use Rattle.qoi.specs.inner.Pixels.{pixels_in}
 use Rattle.qoi.proofs.encode.marked.write_marked.Given as goal
 
 abbrev pub invariant-loop-left : goal.invariant-loop-left
 invariant-loop-left g l = record {
-  style : l.coder.style ≡ l.fn.coder.style;
   lanes_few : l.count ≤ 16;
   enough : l.count ≤ length (pixels_in l.rest);
   rest_is : drop l.count (pixels_in l.rest) ≡ drop 16 (pixels_in l.fn.block.front.raw);
@@ -19,8 +16,7 @@ invariant-loop-left g l = record {
   few : slice_get (pixels_in l.rest) 0 ≡ Some l.coder.last.px → l.coder.last.repeats ≤ FRONT_CARRIED;
   begun : (0 < l.left) ⊎ ((l.coder.last.begun ≡ true) × (l.coder.last.repeats ≡ 0) × (l.count < 16));
   room : l.piece.end + 6 * l.count ≤ l.fn.piece.end + 96;
-  written : (all : List ℕ) (more : List RgbaPixel) → CoderBetween l.fn.coder.style all (pixels_in l.fn.block.front.raw ++ more) l.fn.table l.fn.coder.last (kept_bytes l.fn.piece)
-      → CoderBetween l.coder.style all (pixels_in l.rest ++ more) l.table l.coder.last (kept_bytes l.piece);
+  written : CoderPasses l.fn.coder l.fn.table l.fn.piece (pixels_in l.fn.block.front.raw) l.coder l.table l.piece (pixels_in l.rest);
 }
 
 abbrev pub decreases-loop-left : goal.decreases-loop-left

@@ -33,8 +33,10 @@ loop-rest-preserved g c =
     let one = c.write_short_group-half.ensures in
     let two = c.write_short_group-rest.ensures in
     record {
-      style = two.style ∙ one.style ∙ i.style;
       less = omega (arith, ap length one.rest, ap length two.rest, length-drop 2 (pixels_in c.loop-rest.rest), length-drop 2 (pixels_in c.write_short_group-half.result), i.less);
       none = λ _. two.begun.1;
-      written = λ ahead more b. two.written ahead more (one.written ahead more (i.written ahead more b));
+      written = record {
+        style = two.written.style ∙ one.written.style ∙ i.written.style;
+        on = λ ahead more b. two.written.on ahead more (one.written.on ahead more (i.written.on ahead more b));
+      };
     }

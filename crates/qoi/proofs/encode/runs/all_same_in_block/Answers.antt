@@ -1,5 +1,5 @@
 -- All bits are set if none is left out by `&`.
-use Rattle.std.proofs.Common.{◌≡◌, ◌∙◌, ◌+◌, ◌-◌, ◌*◌, ◌^◌, ◌≤◌, ◌<◌, ◌%◌, ℕ, nat_eq, eqb-true, ap, sym, arith, refl}
+use Rattle.std.proofs.Common.{◌≡◌, ◌∙◌, ◌+◌, ◌-◌, ◌*◌, ◌^◌, ◌≤◌, ◌<◌, ◌%◌, ℕ, eqb-true, ap, sym, arith, refl}
 use Rattle.std.proofs.lemmas.Nat.{and_le_l, and_le_r}
 use Rattle.std.specs.Int.Bits.{bit_and}
 use Rattle.qoi.proofs.encoding.coder.PixelBlock.{bits_of_3, bits_of_4}
@@ -10,59 +10,38 @@ both : (a b n : ℕ) → a < n + 1 → b < n + 1 → n ≤ bit_and a b → (a �
 both a b n l m e = (omega (arith, and_le_l a b, l, e), omega (arith, and_le_r a b, m, e))
 
 pub returns-then-this-eq3 : goal.returns-then-this-eq3
-returns-then-this-eq3 g c =
-    let first = c.same_in_part-first.ensures in
-    let second = c.same_in_part-second.ensures in
-    let third = c.same_in_part-third.ensures in
-    let a = c.same_in_part-first.result in
-    let b = c.same_in_part-second.result in
-    let d = c.same_in_part-third.result in
-    let bits = bits_of_3 _ _ a b d
-    (rw c.if-this-eq3.true refl) (omega (arith, c.args.front.long, c.if-this-eq3.true))
-    first.few second.few third.few first.bits second.bits third.bits in
-    let power = ap (λ n. 2 ^ (n * 16) - 1) c.if-this-eq3.true in (
-      (λ is.
-          let all = eqb-true (bit_and (bit_and a b) d) 65535 is in
-          let cd = both (bit_and a b) d 65535 (omega (arith, and_le_l a b, first.few)) (omega (arith, third.few)) (omega (arith, all)) in
-          let ab = both a b 65535 (omega (arith, first.few)) (omega (arith, second.few)) (omega (arith, cd.0)) in
-          let sum : a + b * 2 ^ 16 % 2 ^ 64 + d * 2 ^ 32 % 2 ^ 64 ≡ 2 ^ 48 - 1 = omega (arith, ab.0, ab.1, cd.1) in
-          sym bits ∙ sum ∙ sym power),
-      (λ e.
-          let sum : a + b * 2 ^ 16 % 2 ^ 64 + d * 2 ^ 32 % 2 ^ 64 ≡ 2 ^ 48 - 1 = bits ∙ e ∙ power in
-          let x : a ≡ 65535 = omega (arith, sum, first.few, second.few, third.few) in
-          let y : b ≡ 65535 = omega (arith, sum, first.few, second.few, third.few) in
-          let z : d ≡ 65535 = omega (arith, sum, first.few, second.few, third.few) in
-          ap (λ n. nat_eq n 65535) (λ i. bit_and (bit_and (x i) (y i)) (z i))),
-    )
+returns-then-this-eq3 g c = λ is.
+    (let first = c.same_in_part-first in
+    let second = c.same_in_part-second in
+    let third = c.same_in_part-third in
+    let a = first.result in
+    let b = second.result in
+    let d = third.result in
+    let all = eqb-true (bit_and (bit_and a b) d) 65535 is in
+    let cd = both (bit_and a b) d 65535 (omega (arith, and_le_l a b, first.ensures.few)) (omega (arith, third.ensures.few)) (omega (arith, all)) in
+    let ab = both a b 65535 (omega (arith, first.ensures.few)) (omega (arith, second.ensures.few)) (omega (arith, cd.0)) in
+    let sum : a + b * 2 ^ 16 % 2 ^ 64 + d * 2 ^ 32 % 2 ^ 64 ≡ 2 ^ 48 - 1 = omega (arith, ab.0, ab.1, cd.1) in
+    sym (bits_of_3 _ _ a b d (rw c.if-this-eq3.true refl) (omega (arith, c.args.front.long, c.if-this-eq3.true))
+    first.ensures.few second.ensures.few third.ensures.few first.ensures.bits second.ensures.bits third.ensures.bits)
+    ∙ sum ∙ sym (ap (λ n. 2 ^ (n * 16) - 1) c.if-this-eq3.true))
 
 pub returns : goal.returns
-returns g c =
-    let four : g.row.N ≡ 4 = omega (arith, c.args.front.raw.channels, c.if-this-eq3.false) in
-    let first = c.same_in_part-first.ensures in
-    let second = c.same_in_part-second.ensures in
-    let third = c.same_in_part-third.ensures in
-    let fourth = c.same_in_part.ensures in
-    let a = c.same_in_part-first.result in
-    let b = c.same_in_part-second.result in
-    let d = c.same_in_part-third.result in
-    let f = c.same_in_part.result in
-    let bits = bits_of_4 _ _ a b d f
-    (rw four (refl {a = 64})) (omega (arith, c.args.front.long, four))
-    first.few second.few third.few fourth.few first.bits second.bits third.bits fourth.bits in
-    let power = ap (λ n. 2 ^ (n * 16) - 1) four in (
-      (λ is.
-          let all = eqb-true (bit_and (bit_and (bit_and a b) d) f) 65535 is in
-          let three : bit_and (bit_and a b) d < 65536 = omega (arith, and_le_r (bit_and a b) d, third.few) in
-          let last = both (bit_and (bit_and a b) d) f 65535 (omega (arith, three)) (omega (arith, fourth.few)) (omega (arith, all)) in
-          let cd = both (bit_and a b) d 65535 (omega (arith, and_le_l a b, first.few)) (omega (arith, third.few)) (omega (arith, last.0)) in
-          let ab = both a b 65535 (omega (arith, first.few)) (omega (arith, second.few)) (omega (arith, cd.0)) in
-          let sum : a + b * 2 ^ 16 % 2 ^ 64 + d * 2 ^ 32 % 2 ^ 64 + f * 2 ^ 48 % 2 ^ 64 ≡ 2 ^ 64 - 1 = omega (arith, ab.0, ab.1, cd.1, last.1) in
-          sym bits ∙ sum ∙ sym power),
-      (λ e.
-          let sum : a + b * 2 ^ 16 % 2 ^ 64 + d * 2 ^ 32 % 2 ^ 64 + f * 2 ^ 48 % 2 ^ 64 ≡ 2 ^ 64 - 1 = bits ∙ e ∙ power in
-          let x : a ≡ 65535 = omega (arith, sum, first.few, second.few, third.few, fourth.few) in
-          let y : b ≡ 65535 = omega (arith, sum, first.few, second.few, third.few, fourth.few) in
-          let z : d ≡ 65535 = omega (arith, sum, first.few, second.few, third.few, fourth.few) in
-          let w : f ≡ 65535 = omega (arith, sum, first.few, second.few, third.few, fourth.few) in
-          ap (λ n. nat_eq n 65535) (λ i. bit_and (bit_and (bit_and (x i) (y i)) (z i)) (w i))),
-    )
+returns g c = λ is.
+    (let four : g.row.N ≡ 4 = omega (arith, c.args.front.raw.channels, c.if-this-eq3.false) in
+    let first = c.same_in_part-first in
+    let second = c.same_in_part-second in
+    let third = c.same_in_part-third in
+    let fourth = c.same_in_part in
+    let a = first.result in
+    let b = second.result in
+    let d = third.result in
+    let f = fourth.result in
+    let all = eqb-true (bit_and (bit_and (bit_and a b) d) f) 65535 is in
+    let three : bit_and (bit_and a b) d < 65536 = omega (arith, and_le_r (bit_and a b) d, third.ensures.few) in
+    let last = both (bit_and (bit_and a b) d) f 65535 (omega (arith, three)) (omega (arith, fourth.ensures.few)) (omega (arith, all)) in
+    let cd = both (bit_and a b) d 65535 (omega (arith, and_le_l a b, first.ensures.few)) (omega (arith, third.ensures.few)) (omega (arith, last.0)) in
+    let ab = both a b 65535 (omega (arith, first.ensures.few)) (omega (arith, second.ensures.few)) (omega (arith, cd.0)) in
+    let sum : a + b * 2 ^ 16 % 2 ^ 64 + d * 2 ^ 32 % 2 ^ 64 + f * 2 ^ 48 % 2 ^ 64 ≡ 2 ^ 64 - 1 = omega (arith, ab.0, ab.1, cd.1, last.1) in
+    sym (bits_of_4 _ _ a b d f (rw four (refl {a = 64})) (omega (arith, c.args.front.long, four))
+    first.ensures.few second.ensures.few third.ensures.few fourth.ensures.few first.ensures.bits second.ensures.bits third.ensures.bits fourth.ensures.bits)
+    ∙ sum ∙ sym (ap (λ n. 2 ^ (n * 16) - 1) four))

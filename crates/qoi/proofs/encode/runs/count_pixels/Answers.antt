@@ -1,5 +1,5 @@
 -- The loop ends at another pixel, or if none is left.
-use Rattle.std.proofs.Common.{◌≡◌, List, [], ◌∷◌, Some, length, drop, false, true, refl, sym, ap, ◌∙◌, arith}
+use Rattle.std.proofs.Common.{◌≡◌, List, [], ◌∷◌, Some, drop, false, true, refl, sym, ap, ◌∙◌, arith}
 use Rattle.std.proofs.lemmas.Option.{same_Some}
 use Rattle.std.specs.List.{slice_get}
 use Rattle.qoi.specs.Qoi.{RgbaPixel}
@@ -12,9 +12,6 @@ use Rattle.qoi.proofs.encode.runs.count_pixels.Goals as goal
 first_is : (p : RgbaPixel) (ps : List RgbaPixel) → slice_get ps 0 ≡ Some p → ps ≡ p ∷ drop 1 ps
 first_is p [] e = absurd (let no = e in cc)
 first_is p (q ∷ ps) e = ap (λ z. z ∷ ps) (same_Some _ _ e)
-
-pub skip-rest-requires : goal.skip-rest-requires
-skip-rest-requires g c = (omega arith, omega (arith, ap length (first_is c.args.px (pixels_in c.loop-rest.rest) (c.loop-rest-test.ensures.0 refl))))
 
 pub overflow_add-count : goal.overflow_add-count
 overflow_add-count g c =

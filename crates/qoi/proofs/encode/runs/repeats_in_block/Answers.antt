@@ -15,5 +15,5 @@ returns g c =
 pub returns-then-all_same_in_block-clause-all : goal.returns-then-all_same_in_block-clause-all
 returns-then-all_same_in_block-clause-all g c = (λ e.
     let raw = c.args.front.raw in
-    whole_block g.row.N raw.bytes.now c.args.px raw.channels c.requires c.args.front.long (c.all_same_in_block.ensures.0 c.if-all_same_in_block.true)
+    whole_block g.row.N raw.bytes.now c.args.px raw.channels c.requires c.args.front.long (c.all_same_in_block.ensures c.if-all_same_in_block.true)
     ∙ ap (λ z. replicate 16 c.args.px ++ z) (sym (pixels_drop g.row.N 16 raw.bytes.now raw.channels c.args.front.long)))

@@ -1,12 +1,7 @@
 -- The planes of packed pixels, and the changes from those before.
-use Rattle.std.proofs.Common.{arith}
-use Rattle.std.proofs.Math.Nat.{mul_comm}
 use Rattle.qoi.specs.inner.block.Planes.{block_pixels}
 use Rattle.qoi.proofs.encoding.blocks.PackedBlock.{block_sixteen, block_words}
 use Rattle.qoi.proofs.encode.block.Block.first.Goals as goal
-
-pub first_sixteen-words-requires-clause-enough : goal.first_sixteen-words-requires-clause-enough
-first_sixteen-words-requires-clause-enough g c = omega (arith, c.args.front.long, mul_comm 16 g.row.N)
 
 pub invariant_of-result : goal.invariant_of-result
 invariant_of-result g c =

@@ -1,22 +1,11 @@
--- The vectors, in each style.
-use Rattle.std.proofs.Common.{◌≡◌, ◌⊎◌, inl, inr, List, sym, ◌∙◌, subst}
-use Rattle.qoi.specs.declared.encode.block.spelling.Spelled.{Spelled}
-use Rattle.qoi.specs.declared.types.Style.{Style}
-use Rattle.qoi.specs.declared.types.Style.TheVariants.{Reference, Tight}
+-- Where each pixel is known to have an RGBA chunk.
+use Rattle.std.proofs.Common.{List}
 use Rattle.qoi.specs.Qoi.{RgbaPixel}
 use Rattle.qoi.specs.inner.CoderState.{style_of}
-use Rattle.qoi.specs.inner.block.State.{State, lanes_of}
+use Rattle.qoi.specs.inner.block.State.{lanes_of}
 use Rattle.qoi.specs.inner.block.Planes.{block_pixels}
-use Rattle.qoi.specs.inner.block.Spelling.{HasSpelled}
 use Rattle.qoi.proofs.encoding.blocks.SpelledBlock.{stands_by}
-use Rattle.qoi.proofs.encoding.blocks.StyledBytes.{firsts_tight}
 use Rattle.qoi.proofs.encode.block.Block.spell.Goals as goal
-
--- in style Tight a block is spelled out as in style Reference
-plain : (style : Style) (s : State) (ps : List RgbaPixel) (x : Spelled) → (style ≡ Reference) ⊎ (style ≡ Tight) → HasSpelled Reference s ps x → HasSpelled style s ps x
-plain style s ps x (inl e) h = subst (λ z. HasSpelled z s ps x) (sym e) h
-plain style s ps x (inr e) h = subst (λ z. HasSpelled z s ps x) (sym e)
-    (record { rep_is = h.rep_is; first_is = h.first_is ∙ sym (firsts_tight s.placed s.carry (lanes_of s.held s.last ps)); second_is = h.second_is; size_is = h.size_is; count_is = h.count_is; full_is = h.full_is })
 
 pub returns-then-are_full : goal.returns-then-are_full
 returns-then-are_full g c = λ s before changes carry placed b.
@@ -24,16 +13,3 @@ returns-then-are_full g c = λ s before changes carry placed b.
     let all = changes s before in
     let full = c.are_full.ensures (lanes_of s.held s.last ps) all.steps_are.a_is (stands_by s ps b.sixteen b.last_is c.args.stands b.stands_are) c.if-are_full.true in
     c.spell_full.ensures (style_of g.row.STYLE) s ps b.sixteen b.last_is all.rep_is.is b.red_is full
-
-pub returns-in-Reference : goal.returns-in-Reference
-returns-in-Reference g c = λ s before changes carry placed b.
-    let ps : List RgbaPixel = block_pixels c.args.self.words in
-    plain (style_of g.row.STYLE) s ps c.spell_block-x.result (subst (λ z. (z ≡ Reference) ⊎ (z ≡ Tight)) c.style_of.ensures c.in-Reference.is)
-    (c.spell_block-x.ensures s ps carry (changes s before) b)
-
-pub returns-in-Places : goal.returns-in-Places
-returns-in-Places g c = λ s before changes carry placed b.
-    let ps : List RgbaPixel = block_pixels c.args.self.words in
-    let is = sym c.style_of.ensures ∙ c.in-Places.is in
-    subst (λ z. HasSpelled z s ps c.name_single.result) (sym is)
-    (c.name_single.ensures s ps b.sixteen (placed is) b.stands_are b.places_are (c.spell_block-x.ensures s ps carry (changes s before) b))

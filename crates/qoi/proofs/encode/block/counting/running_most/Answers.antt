@@ -6,8 +6,8 @@ use Rattle.qoi.proofs.encoding.lanes.LaneTests.{lanes_from}
 use Rattle.qoi.proofs.encoding.lanes.RunningMost.{one_most, twice_most, long_next}
 use Rattle.qoi.proofs.encode.block.counting.running_most.Goals as goal
 
-pub returns : goal.returns
-returns c =
+pub returns-clause-most : goal.returns-clause-most
+returns-clause-most c =
     let x = c.args.v in
     let f1 = c.greater-two.result in
     let f2 = c.greater-four.result in
@@ -20,10 +20,7 @@ returns c =
     let e4 = c.greater-eight.ensures ∙ ap (zip2 max f2) (on 12 f2 (omega arith) refl l2) in
     let l4 = long_next f2 f4 4 (omega arith) l2 e4 in
     let e8 = c.greater.ensures ∙ ap (zip2 max f4) (on 8 f4 (omega arith) refl l4) in
-    record {
-      long = long_next f4 c.greater.result 8 (omega arith) l4 e8;
-      most = twice_most x f4 c.greater.result 8 16 (omega arith) refl l4
-          (twice_most x f2 f4 4 8 (omega arith) refl l2
-          (twice_most x f1 f2 2 4 (omega arith) refl l1
-          (twice_most x x f1 1 2 (omega arith) refl c.fits-v.0 (one_most x) e1) e2) e4) e8;
-    }
+    twice_most x f4 c.greater.result 8 16 (omega arith) refl l4
+    (twice_most x f2 f4 4 8 (omega arith) refl l2
+    (twice_most x f1 f2 2 4 (omega arith) refl l1
+    (twice_most x x f1 1 2 (omega arith) refl c.fits-v.0 (one_most x) e1) e2) e4) e8

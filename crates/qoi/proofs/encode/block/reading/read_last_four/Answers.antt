@@ -5,9 +5,6 @@ use Rattle.qoi.specs.Raw.{pixels_of}
 use Rattle.qoi.specs.inner.Packed.{word}
 use Rattle.qoi.proofs.encode.block.reading.read_last_four.Goals as goal
 
-pub returns-then-this-eq4 : goal.returns-then-this-eq4
-returns-then-this-eq4 g c = record { lanes = c.read_four.ensures.lanes ∙ ap (λ (x : List ℕ). map word (take 4 (pixels_of g.row.N x))) c.skip.ensures }
-
 pub read_four_late-requires : goal.read_four_late-requires
 read_four_late-requires g c =
     let three : g.row.N ≡ 3 = omega (arith, c.requires.channels, c.if-this-eq4.false) in

@@ -1,5 +1,5 @@
 -- Repeats and a fresh pixel further, until no pixel is left; then the last run.
-use Rattle.std.proofs.Common.{◌≡◌, ◌≢◌, ◌≤◌, ◌+◌, ◌*◌, inl, inr, [], length, refl, sym, ◌∙◌, arith, subst, append-nil}
+use Rattle.std.proofs.Common.{◌≡◌, ◌≢◌, ◌≤◌, ◌+◌, ◌*◌, ◌++◌, inl, inr, [], length, refl, sym, ◌∙◌, arith, subst, append-nil}
 use Rattle.std.proofs.lemmas.Bool.{true≢false, cases_lt}
 use Rattle.qoi.specs.declared.chunk.Chunk.TheVariants.{Run}
 use Rattle.qoi.specs.declared.encode.piece.TheConstants.{RUNS_AT_ONCE}
@@ -7,6 +7,7 @@ use Rattle.qoi.specs.Qoi.{chunk_max}
 use Rattle.qoi.specs.inner.CoderLoop.{CoderBetween}
 use Rattle.qoi.specs.inner.Piece.{kept_bytes}
 use Rattle.qoi.specs.inner.Pixels.{pixels_in}
+use Rattle.qoi.proofs.encoding.coder.CoderLink.{then_passes}
 use Rattle.qoi.proofs.encoding.coder.CoderSteps.{last_run}
 use Rattle.qoi.proofs.encode.coder.Coder.write_each.Goals as goal
 
@@ -24,13 +25,15 @@ loop-rest-preserved g c =
     record {
       end = near;
       first = λ left some. absurd (omega (arith, left, step.none some));
-      written = λ ahead b.
-          subst (λ ps. CoderBetween next.new.self.style ahead ps next.new.table next.new.self.last (kept_bytes next.new.piece)) (append-nil (pixels_in next.result))
-          (step.written ahead [] (subst (λ ps. CoderBetween c.loop-rest.self.style ahead ps c.loop-rest.table c.loop-rest.self.last (kept_bytes c.loop-rest.piece)) (sym (append-nil (pixels_in c.loop-rest.rest))) (i.written ahead b)));
+      written = then_passes i.written step.written;
     }
 
 pub returns : goal.returns
-returns g c = λ ahead b.
-    (let none : pixels_in c.loop-rest.rest ≡ [] = c.is_empty.ensures.0 c.loop-rest-test.false in
-    let end = subst (λ ps. CoderBetween c.loop-rest.self.style ahead ps c.loop-rest.table c.loop-rest.self.last (kept_bytes c.loop-rest.piece)) none (c.loop-rest.invariant.written ahead b) in
-    last_run end.to_write ∙ sym (c.append_run.ensures.kept (Run 1) refl))
+returns g c = record {
+  all = λ ahead b.
+      let now = c.loop-rest in
+      let none : pixels_in now.rest ≡ [] = c.is_empty.ensures.0 c.loop-rest-test.false in
+      let start = subst (λ ps. CoderBetween c.args.self.now.style ahead ps c.args.table.now c.args.self.now.last (kept_bytes c.args.piece.now)) (sym (append-nil (pixels_in c.args.raw))) b in
+      let end = subst (λ ps. CoderBetween now.self.style ahead (ps ++ []) now.table now.self.last (kept_bytes now.piece)) none (now.invariant.written.on ahead [] start) in
+      last_run end.to_write ∙ sym (c.append_run.ensures.kept (Run 1) refl);
+}

@@ -1,6 +1,7 @@
 -- The chunk is chosen by the table.
-use Rattle.std.proofs.Common.{◌≡◌, ◌≢◌, ◌/◌, ◌^◌, refl, sym, ap, ◌∙◌, arith, subst, take, ◌++◌, [], ◌∷◌, if◌then◌else◌}
+use Rattle.std.proofs.Common.{◌≡◌, inl, inr, ◌≢◌, ◌/◌, ◌^◌, refl, sym, ap, ◌∙◌, arith, subst, take, ◌++◌, [], ◌∷◌, if◌then◌else◌}
 use lib.Lanes.{digits_l}
+use Rattle.qoi.specs.declared.types.Style.TheVariants.{Reference, Places, Tight}
 use Rattle.qoi.specs.Qoi.{IsPixel, hash, seen}
 use Rattle.qoi.specs.Styles.{has_pixel}
 use Rattle.qoi.specs.inner.CoderState.{held_in}
@@ -9,6 +10,7 @@ use Rattle.qoi.proofs.encoding.coder.CoderTable.{fresh_chosen, fresh_held}
 use Rattle.qoi.proofs.encoding.coder.CoderSteps.{fresh_written}
 use Rattle.qoi.proofs.encoding.lists.NotedPixels.{fresh_more}
 use Rattle.qoi.proofs.encode.coder.Coder.write_pixel.Goals as goal
+use Rattle.qoi.proofs.encode.coder.Coder.write_pixel.Goals.{in-Reference, in-Places}
 
 pub returns-clause-written : goal.returns-clause-written
 returns-clause-written g c ahead rest differs none b =
@@ -40,5 +42,11 @@ returns-clause-written g c ahead rest differs none b =
       table_is = fresh_held style past c.args.table.now c.put.new.self p new state.table_is c.put.ensures;
       last_is = refl;
       begun_is = sym (ap has_pixel (fresh_more past p new));
-      placed_is = λ places. c.placed_if.ensures places ∙ d.4;
+      placed_is = λ places. elim c.match-self.branch [
+        | in-Places w ↦ w.self-is ∙ d.4
+        | in-Reference w ↦ absurd (elim w.in-Reference.is [
+          | inl is ↦ (let no : Reference ≡ Places = sym is ∙ places in cc)
+          | inr is ↦ (let no : Tight ≡ Places = sym is ∙ places in cc)
+        ])
+      ];
     })

@@ -8,7 +8,7 @@ use Rattle.qoi.specs.Runs.{IsCount}
 use Rattle.qoi.specs.inner.CoderLoop.{CoderBetween, single}
 use Rattle.qoi.specs.inner.Piece.{kept_bytes}
 use Rattle.qoi.specs.inner.Pixels.{pixels_in}
-use Rattle.qoi.proofs.encoding.coder.CoderLink.{first_more, more_some, some_length}
+use Rattle.qoi.proofs.encoding.coder.CoderLink.{first_more, more_some}
 use Rattle.qoi.proofs.encoding.coder.CoderSteps.{group_written, fulls_written}
 use Rattle.qoi.proofs.encoding.coder.PixelsIn.{NearGroup, near_group, near_some}
 use Rattle.qoi.proofs.encoding.lists.RunBytes.{runs_written}
@@ -31,20 +31,8 @@ some_come g c = elim c.else-carried-eq0.branch [
   | else-carried-eq0-via-else-carried-eq0 w ↦ omega (arith, w.if-carried-eq0.false)
 ]
 
-pub append_full_runs-requires : goal.append_full_runs-requires
-append_full_runs-requires g c = (omega arith, (omega (arith, c.requires.room), omega (arith, (near g (goal.at.append_full_runs-requires g c).After-repeats_of-ahead).few, c.args.self.now.last.few)))
-
-pub ends_after-requires : goal.ends_after-requires
-ends_after-requires g c = (omega arith, (near g (goal.at.ends_after-requires g c).After-repeats_of-ahead).within)
-
-pub returns-clause-end : goal.returns-clause-end
-returns-clause-end g c = omega (arith, c.append_full_runs.ensures.end, c.append_run.ensures.end, (near g (goal.at.returns-clause-end g c).After-repeats_of-ahead).few, c.args.self.now.last.few)
-
 pub returns-clause-each : goal.returns-clause-each
 returns-clause-each g c = omega (arith, c.append_full_runs.ensures.end, c.append_run.ensures.end, some_come g (goal.at.returns-clause-each g c).After-repeats_of-ahead)
-
-pub returns-clause-inside : goal.returns-clause-inside
-returns-clause-inside g c = (near g (goal.at.returns-clause-inside g c).After-repeats_of-ahead).within
 
 -- if the next pixel repeats, too, as many were counted as may be
 pub returns-clause-some : goal.returns-clause-some
@@ -58,28 +46,34 @@ ahead_is : (g : Over) (c : After-repeats_of-ahead g) (more : List RgbaPixel)
 ahead_is g c more = ap (λ ps. ps ++ more) (near g c).same ∙ append_assoc (replicate c.repeats_of-ahead.result c.args.self.now.last.px) (drop c.repeats_of-ahead.result (pixels_in c.args.raw)) more
 
 pub returns-then-ends_after-clause-written : goal.returns-then-ends_after-clause-written
-returns-then-ends_after-clause-written g c all more b =
-    let n = c.repeats_of-ahead.result in
-    let count = c.args.self.now.last.repeats + n in
-    subst (λ style. CoderBetween style all (drop n (pixels_in c.args.raw) ++ more) c.update_after_repeats.new.table c.update_after_repeats.new.self.last (kept_bytes c.append_full_runs.new.self))
-    (sym c.update_after_repeats.ensures.style) (fulls_written b n (count / 62) (drop n (pixels_in c.args.raw) ++ more) (ahead_is g (goal.at.returns-then-ends_after-clause-written g c).After-repeats_of-ahead more)
-    (omega (arith, c.update_after_repeats.ensures.left)) c.append_full_runs.ensures.kept c.update_after_repeats.ensures.state)
+returns-then-ends_after-clause-written g c = record {
+  style = c.update_after_repeats.ensures.style;
+  on = λ all more b.
+      let n = c.repeats_of-ahead.result in
+      let count = c.args.self.now.last.repeats + n in
+      subst (λ style. CoderBetween style all (drop n (pixels_in c.args.raw) ++ more) c.update_after_repeats.new.table c.update_after_repeats.new.self.last (kept_bytes c.append_full_runs.new.self))
+      (sym c.update_after_repeats.ensures.style) (fulls_written b n (count / 62) (drop n (pixels_in c.args.raw) ++ more) (ahead_is g (goal.at.returns-then-ends_after-clause-written g c).After-repeats_of-ahead more)
+      (omega (arith, c.update_after_repeats.ensures.left)) c.append_full_runs.ensures.kept c.update_after_repeats.ensures.state);
+}
 
 pub returns-clause-written : goal.returns-clause-written
-returns-clause-written g c all more b =
-    let n = c.repeats_of-ahead.result in
-    let last = c.args.self.now.last in
-    let count = last.repeats + n in
-    let here = (goal.at.returns-clause-written g c).After-repeats_of-ahead in
-    let group = near g here in
-    let rest = drop n (pixels_in c.args.raw) in
-    let later = rest ++ more in
-    let some : rest ≢ [] = λ none. true≢false (sym (c.ends_after.ensures.1 none) ∙ c.if-ends_after.false) in
-    let first : slice_get later 0 ≡ slice_get rest 0 = first_more rest more (some_length rest some) in
-    let full : n ≡ REPEATS_AT_ONCE - last.repeats → count % 62 ≡ 0 = λ e. omega (arith, e, last.few) in
-    let ends : (slice_get later 0 ≢ Some last.px) ⊎ (count % 62 ≡ 0) =
-    elim group.ends as (λ _. (slice_get later 0 ≢ Some last.px) ⊎ (count % 62 ≡ 0)) [ inl other ↦ inl (λ e. other (sym first ∙ e)) | inr e ↦ inr (full e) ] in
-    let one = single c.args.self.now.style last count in
-    subst (λ style. CoderBetween style all later c.update_after_repeats-2.new.table c.update_after_repeats-2.new.self.last (kept_bytes c.append_run.new.self))
-    (sym c.update_after_repeats-2.ensures.style) (group_written b n later one (ahead_is g here more) ends (λ _. inr (more_some rest more some, refl))
-    (runs_written one count (kept_bytes c.args.piece.now) _ _ c.append_full_runs.ensures.kept (c.append_run.ensures.kept one c.single_repeat_byte.ensures)) c.update_after_repeats-2.ensures.left c.update_after_repeats-2.ensures.state)
+returns-clause-written g c = record {
+  style = c.update_after_repeats-2.ensures.style;
+  on = λ all more b.
+      let n = c.repeats_of-ahead.result in
+      let last = c.args.self.now.last in
+      let count = last.repeats + n in
+      let here = (goal.at.returns-clause-written g c).After-repeats_of-ahead in
+      let group = near g here in
+      let rest = drop n (pixels_in c.args.raw) in
+      let later = rest ++ more in
+      let some : rest ≢ [] = λ none. true≢false (sym (c.ends_after.ensures.1 none) ∙ c.if-ends_after.false) in
+      let first : slice_get later 0 ≡ slice_get rest 0 = first_more rest more some in
+      let full : n ≡ REPEATS_AT_ONCE - last.repeats → count % 62 ≡ 0 = λ e. omega (arith, e, last.few) in
+      let ends : (slice_get later 0 ≢ Some last.px) ⊎ (count % 62 ≡ 0) =
+      elim group.ends as (λ _. (slice_get later 0 ≢ Some last.px) ⊎ (count % 62 ≡ 0)) [ inl other ↦ inl (λ e. other (sym first ∙ e)) | inr e ↦ inr (full e) ] in
+      let one = single c.args.self.now.style last count in
+      subst (λ style. CoderBetween style all later c.update_after_repeats-2.new.table c.update_after_repeats-2.new.self.last (kept_bytes c.append_run.new.self))
+      (sym c.update_after_repeats-2.ensures.style) (group_written b n later one (ahead_is g here more) ends (λ _. inr (more_some rest more some, refl))
+      (runs_written one count (kept_bytes c.args.piece.now) _ _ c.append_full_runs.ensures.kept (c.append_run.ensures.kept one c.single_repeat_byte.ensures)) c.update_after_repeats-2.ensures.left c.update_after_repeats-2.ensures.state);
+}

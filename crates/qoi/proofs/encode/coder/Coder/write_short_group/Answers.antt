@@ -1,5 +1,5 @@
 -- One run, and the fresh pixel.
-use Rattle.std.proofs.Common.{◌≡◌, ◌≢◌, inl, inr, ◌+◌, [], ◌∷◌, ◌++◌, drop, replicate, Option, None, Some, refl, sym, ap, ◌∙◌, subst, append_assoc, take-append-drop}
+use Rattle.std.proofs.Common.{◌≡◌, ◌≢◌, inl, inr, ◌+◌, [], ◌∷◌, ◌++◌, drop, replicate, Option, None, Some, refl, sym, ap, ◌∙◌, subst, arith, append_assoc, drop-drop, take-append-drop}
 use Rattle.std.proofs.lemmas.Option.{same_Some}
 use Rattle.std.specs.List.{slice_get}
 use Rattle.qoi.specs.Qoi.{RgbaPixel}
@@ -7,7 +7,7 @@ use Rattle.qoi.specs.inner.CoderLoop.{CoderBetween, single}
 use Rattle.qoi.specs.inner.Piece.{kept_bytes}
 use Rattle.qoi.specs.inner.Pixels.{pixels_in}
 use Rattle.qoi.proofs.encoding.coder.CoderSteps.{group_written}
-use Rattle.qoi.proofs.encoding.coder.MarkedPixels.{get_drop, drop_more}
+use Rattle.qoi.proofs.encoding.coder.MarkedPixels.{get_drop}
 use Rattle.qoi.proofs.encode.coder.Coder.write_short_group.Goals as goal
 
 pub returns-clause-px : goal.returns-clause-px
@@ -15,29 +15,32 @@ returns-clause-px g c =
     sym (get_drop c.args.group.ahead (pixels_in c.args.group.raw)) ∙ ap (λ ps. slice_get ps 0) (sym c.skip-after.ensures.rest ∙ c.first.ensures) ∙ ap Some (sym c.write_pixel.ensures.px)
 
 pub returns-clause-rest : goal.returns-clause-rest
-returns-clause-rest g c = c.skip.ensures.rest ∙ ap (drop 1) c.skip-after.ensures.rest ∙ drop_more c.args.group.ahead (pixels_in c.args.group.raw)
+returns-clause-rest g c = c.skip.ensures.rest ∙ ap (drop 1) c.skip-after.ensures.rest ∙ drop-drop 1 c.args.group.ahead (pixels_in c.args.group.raw) ∙ ap (λ k. drop k (pixels_in c.args.group.raw)) (omega arith)
 
 pub returns-clause-written : goal.returns-clause-written
-returns-clause-written g c all more b =
-    let n = c.args.group.ahead in
-    let raw = pixels_in c.args.group.raw in
-    let last = c.args.self.now.last in
-    let count = last.repeats + n in
-    let after = pixels_in c.skip-after.result in
-    let px = c.first.result.px in
-    let ahead : after ≡ px ∷ drop 1 after = c.first.ensures in
-    let rest = drop n raw in
-    let later = rest ++ more in
-    let first : slice_get later 0 ≡ Some px = ap (λ ps. slice_get (ps ++ more) 0) (sym c.skip-after.ensures.rest ∙ ahead) in
-    let is : slice_get raw n ≡ Some px = sym (get_drop n raw) ∙ ap (λ ps. slice_get ps 0) (sym c.skip-after.ensures.rest ∙ ahead) in
-    let differs : px ≢ last.px = λ e. c.requires.fresh (is ∙ ap Some e) in
-    let split : raw ++ more ≡ replicate n last.px ++ later =
-    ap (λ ps. ps ++ more) (sym (take-append-drop n raw) ∙ ap (λ ps. ps ++ rest) c.requires.repeat) ∙ append_assoc (replicate n last.px) rest more in
-    let one = single c.args.self.now.style last count in
-    let some : later ≢ [] = λ none. (let no : ◌≡◌ {A = Option RgbaPixel} None (Some px) = ap (λ ps. slice_get ps 0) (sym none) ∙ first in cc) in
-    let group = group_written b n later one split (inl (λ e. differs (same_Some _ _ (sym first ∙ e)))) (λ _. inr (some, refl))
-    (c.append_run.ensures.kept one c.single_repeat_byte.ensures) c.update_after_repeats.ensures.left c.update_after_repeats.ensures.state in
-    let same = c.update_after_repeats.ensures.same.0 in
-    let stand = subst (λ ps. CoderBetween c.update_after_repeats.new.self.style all (ps ++ more) c.update_after_repeats.new.table c.update_after_repeats.new.self.last (kept_bytes c.append_run.new.self)) (sym c.skip-after.ensures.rest ∙ ahead)
-    (subst (λ style. CoderBetween style all later c.update_after_repeats.new.table c.update_after_repeats.new.self.last (kept_bytes c.append_run.new.self)) (sym c.update_after_repeats.ensures.style) group) in
-    rw c.skip.ensures.rest (c.write_pixel.ensures.written all (drop 1 after ++ more) (λ e. differs (e ∙ same)) c.update_after_repeats.ensures.left stand)
+returns-clause-written g c = record {
+  style = c.write_pixel.ensures.style ∙ c.update_after_repeats.ensures.style;
+  on = λ all more b.
+      let n = c.args.group.ahead in
+      let raw = pixels_in c.args.group.raw in
+      let last = c.args.self.now.last in
+      let count = last.repeats + n in
+      let after = pixels_in c.skip-after.result in
+      let px = c.first.result.px in
+      let ahead : after ≡ px ∷ drop 1 after = c.first.ensures in
+      let rest = drop n raw in
+      let later = rest ++ more in
+      let first : slice_get later 0 ≡ Some px = ap (λ ps. slice_get (ps ++ more) 0) (sym c.skip-after.ensures.rest ∙ ahead) in
+      let is : slice_get raw n ≡ Some px = sym (get_drop n raw) ∙ ap (λ ps. slice_get ps 0) (sym c.skip-after.ensures.rest ∙ ahead) in
+      let differs : px ≢ last.px = λ e. c.requires.fresh (is ∙ ap Some e) in
+      let split : raw ++ more ≡ replicate n last.px ++ later =
+      ap (λ ps. ps ++ more) (sym (take-append-drop n raw) ∙ ap (λ ps. ps ++ rest) c.requires.repeat) ∙ append_assoc (replicate n last.px) rest more in
+      let one = single c.args.self.now.style last count in
+      let some : later ≢ [] = λ none. (let no : ◌≡◌ {A = Option RgbaPixel} None (Some px) = ap (λ ps. slice_get ps 0) (sym none) ∙ first in cc) in
+      let group = group_written b n later one split (inl (λ e. differs (same_Some _ _ (sym first ∙ e)))) (λ _. inr (some, refl))
+      (c.append_run.ensures.kept one c.single_repeat_byte.ensures) c.update_after_repeats.ensures.left c.update_after_repeats.ensures.state in
+      let same = c.update_after_repeats.ensures.same.0 in
+      let stand = subst (λ ps. CoderBetween c.update_after_repeats.new.self.style all (ps ++ more) c.update_after_repeats.new.table c.update_after_repeats.new.self.last (kept_bytes c.append_run.new.self)) (sym c.skip-after.ensures.rest ∙ ahead)
+      (subst (λ style. CoderBetween style all later c.update_after_repeats.new.table c.update_after_repeats.new.self.last (kept_bytes c.append_run.new.self)) (sym c.update_after_repeats.ensures.style) group) in
+      rw c.skip.ensures.rest (c.write_pixel.ensures.written all (drop 1 after ++ more) (λ e. differs (e ∙ same)) c.update_after_repeats.ensures.left stand);
+}

@@ -20,12 +20,6 @@ returns-in_err-send_front-clause-refused g c =
           (subst (λ z. WroteBeginning g.W.Writer.wrote c.args.writer.now z c.send_front.new.writer) (sym (take-take full s.end s.bytes.now c.requires.full)) r.1),
     )
 
-pub returns-clause-written : goal.returns-clause-written
-returns-clause-written g c =
-    let s = c.args.self.now in
-    subst (λ z. g.W.Writer.wrote c.args.writer.now z c.send_front.new.writer) (sym (take-take (g.row.ROOM - SPARE) s.end s.bytes.now c.requires.full))
-    c.in_ok-send_front.ensures.written
-
 pub returns-clause-kept : goal.returns-clause-kept
 returns-clause-kept g c =
     let s = c.args.self.now in

@@ -5,13 +5,8 @@ use Rattle.std.proofs.lemmas.List.{length-drop}
 use Rattle.std.proofs.Math.Seq.{drop-length}
 use Rattle.qoi.specs.Raw.{pixels_of}
 use Rattle.qoi.proofs.format.WholePixels.{by_channels}
-use Rattle.qoi.proofs.encoding.coder.PixelsIn.{byte_count, bytes_within}
+use Rattle.qoi.proofs.encoding.coder.PixelsIn.{byte_count}
 use Rattle.qoi.proofs.encode.pixels.Pixels.ends_after.Goals as goal
-
-pub overflow_mul-result : goal.overflow_mul-result
-overflow_mul-result g c =
-    let raw = c.args.self in
-    omega (arith, bytes_within g.row.N c.args.count raw.bytes.now raw.channels raw.whole c.requires)
 
 pub returns : goal.returns
 returns g c =

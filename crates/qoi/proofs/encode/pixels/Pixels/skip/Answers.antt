@@ -1,31 +1,11 @@
 -- So many pixels have so many bytes.
-use Rattle.std.proofs.Common.{◌≡◌, length, drop, ◌%◌, sym, ap, ◌∙◌, arith}
+use Rattle.std.proofs.Common.{◌≡◌, length, drop, sym, ap, ◌∙◌, arith}
 use Rattle.std.proofs.lemmas.List.{length-drop}
 use Rattle.qoi.specs.Raw.{pixels_of}
 use Rattle.qoi.specs.inner.Pixels.{pixels_in}
-use Rattle.qoi.proofs.encoding.lists.GroupRuns.{whole_rest, pixels_drop}
+use Rattle.qoi.proofs.encoding.lists.GroupRuns.{pixels_drop}
 use Rattle.qoi.proofs.encoding.coder.PixelsIn.{bytes_within}
 use Rattle.qoi.proofs.encode.pixels.Pixels.skip.Goals as goal
-
-pub overflow_mul-count : goal.overflow_mul-count
-overflow_mul-count g c =
-    let raw = c.args.self in
-    omega (arith, bytes_within g.row.N c.args.count raw.bytes.now raw.channels raw.whole c.requires)
-
-pub skip-requires : goal.skip-requires
-skip-requires g c =
-    let raw = c.args.self in
-    bytes_within g.row.N c.args.count raw.bytes.now raw.channels raw.whole c.requires
-
-pub invariant_of-result : goal.invariant_of-result
-invariant_of-result g c =
-    let raw = c.args.self in
-    let inside = bytes_within g.row.N c.args.count raw.bytes.now raw.channels raw.whole c.requires in
-    record {
-      channels = raw.channels;
-      whole = ap (λ xs. length xs % g.row.N) c.skip.ensures ∙ ap (λ k. k % g.row.N) (length-drop _ raw.bytes.now)
-          ∙ whole_rest g.row.N c.args.count (length raw.bytes.now) raw.channels raw.whole inside;
-    }
 
 pub returns : goal.returns
 returns g c =

@@ -1,15 +1,8 @@
 -- A pixel is put at its own index position.
-use Rattle.std.proofs.Common.{sym, subst, arith}
+use Rattle.std.proofs.Common.{sym, subst}
 use Rattle.qoi.specs.inner.Table.{Holds}
 use Rattle.qoi.proofs.format.TableHolds.{holds_put}
-use Rattle.qoi.proofs.format.SamePixels.{hash_below}
 use Rattle.qoi.proofs.encode.table.PixelTable.put.Goals as goal
-
-pub listed : goal.listed
-listed c = omega (arith, c.requires, c.self.invariant, hash_below c.args.px)
-
-pub bounds-self-inside-place : goal.bounds-self-inside-place
-bounds-self-inside-place c = omega (arith, c.requires, hash_below c.args.px)
 
 pub returns : goal.returns
 returns c past holds =

@@ -1,21 +1,8 @@
 -- A pixel is put at its own index position, or again what it held.
-use Rattle.std.proofs.Common.{◌≡◌, true, sym, subst, arith, ◌∙◌, refl}
+use Rattle.std.proofs.Common.{◌≡◌, true, sym, subst, ◌∙◌, refl}
 use Rattle.qoi.specs.inner.Table.{Holds}
 use Rattle.qoi.proofs.format.TableHolds.{holds_put}
-use Rattle.qoi.proofs.format.SamePixels.{hash_below}
 use Rattle.qoi.proofs.encode.table.PixelTable.put_if.Goals as goal
-
-pub listed : goal.listed
-listed c = omega (arith, c.requires, c.self.invariant, hash_below c.args.px)
-
-pub bounds-self-inside-place : goal.bounds-self-inside-place
-bounds-self-inside-place c = omega (arith, c.requires, hash_below c.args.px)
-
-pub listed-2 : goal.listed-2
-listed-2 c = omega (arith, c.requires, c.self.invariant, hash_below c.args.px)
-
-pub bounds-self-inside-place-2 : goal.bounds-self-inside-place-2
-bounds-self-inside-place-2 c = omega (arith, c.requires, hash_below c.args.px)
 
 pub returns-clause-puts : goal.returns-clause-puts
 returns-clause-puts c puts past holds =
