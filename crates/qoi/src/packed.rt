@@ -1,5 +1,5 @@
 //! Pixels as single numbers of 32 bits.
-ghost use Rattle.std.specs.Prelude.{◌≡◌, ◌↔◌, ◌+◌, ◌*◌, ◌%◌, ◌^◌, ◌<◌, ◌≤◌, length, take, drop, replicate, IsTrue};
+ghost use Rattle.std.specs.Prelude.{◌≡◌, ◌↔◌, ◌+◌, ◌*◌, ◌%◌, ◌<◌, ◌≤◌, length, take, drop, replicate, IsTrue};
 ghost use Rattle.qoi.specs.Qoi.{IsPixel, pixel, rgba, start, blank, hash};
 ghost use Rattle.qoi.specs.Raw.{IsChannels, output};
 ghost use Rattle.qoi.specs.inner.Packed.{word, pixel_of_word};

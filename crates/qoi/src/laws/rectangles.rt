@@ -1,5 +1,5 @@
 //! Laws on rows and rectangles of raw bytes: an image's, or any others of rows of one length.
-ghost use Rattle.std.specs.Prelude.{◌≡◌, ℕ, ◌+◌, ◌-◌, ◌*◌, ◌<◌, ◌≤◌, List, [], ◌++◌, length, take, drop, slice_index};
+ghost use Rattle.std.specs.Prelude.{◌≡◌, ℕ, ◌+◌, ◌-◌, ◌*◌, ◌<◌, ◌≤◌, List, ◌++◌, length, take, drop, slice_index};
 ghost use Rattle.qoi.specs.Rectangles.{row_bytes, rectangle, with_tile, KeepsOutside};
 
 /// The whole picture is a rectangle of itself, a row is a rectangle of one row, a rectangle of a

@@ -1,5 +1,5 @@
 //! Places in the image of a file, between two chunks.
-ghost use Rattle.std.specs.Prelude.{◌≡◌, ℕ, ◌*◌, ◌<◌, ◌≤◌, length, drop, false, IsOk, IfOk};
+ghost use Rattle.std.specs.Prelude.{◌≡◌, ◌*◌, ◌<◌, ◌≤◌, length, drop, false, IsOk, IfOk};
 ghost use Rattle.qoi.specs.Qoi.{Past, channels_number, pixel_count, pixels_max};
 ghost use Rattle.qoi.specs.inner.Hashed.{pixel_of_lanes, HoldsSeen};
 ghost use Rattle.qoi.specs.inner.Table.{Holds};

@@ -2,7 +2,7 @@
 ghost use Rattle.std.specs.Prelude.{◌≡◌, ℕ, ◌+◌, ◌-◌, ◌*◌, ◌/◌, ◌<◌, ◌≤◌, List, ◌++◌, ◌⊎◌, max, min, length, drop, Some, Ok, Err, false, IsOk, IfOk, IfErr, OnOk, IsErrOf};
 ghost use Rattle.qoi.specs.Decoded.{HasRefusedFile};
 ghost use Rattle.qoi.specs.Images.{front_image, file_image};
-ghost use Rattle.qoi.specs.Qoi.{channels_number, header_of, header_size, pixel_count, pixels_max, IsValid};
+ghost use Rattle.qoi.specs.Qoi.{channels_number, header_of, header_size, pixel_count, IsValid};
 ghost use Rattle.qoi.specs.Reading.{StandsAhead};
 ghost use Rattle.qoi.specs.Rectangles.{rectangle};
 ghost use Rattle.qoi.specs.declared.error.Error.{Error};
