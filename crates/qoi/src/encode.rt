@@ -264,8 +264,8 @@ impl<'a> Encoder<'a> {
         self.header.encode_max_len()
     }
 
-    // Writes the file of an image that has no block, and returns how many bytes it has. It is apart
-    // from `write_to_memory`, which would clear its room too.
+    // Writes the file of an image of fewer than `FEW_BYTES`, and returns how many bytes it has. It is
+    // apart from `write_to_memory`, which would clear its room too.
     fn write_few<W: Writer>(&self, writer: &mut W) -> Result<usize>
         requires few { length self.now.raw < FEW_BYTES }
         requires room { max_file_len self.now.header ≤ W.room writer.old }
@@ -339,6 +339,7 @@ impl<'a> Encoder<'a> {
             });
         }
         let mut writer = BytesMut::new(buf);
+        // Asked here first: each call that passes a `Result` on copies its room.
         if self.data.len() < FEW_BYTES {
             return self.write_few(&mut writer);
         }

@@ -32,8 +32,9 @@ struct Left<'a> {
 }
 
 // Decodes chunks one by one, with every test, after what others reached: if `RUN_FITS`, where the
-// image goes on behind `out`, as long as any run's vectors have room there, else until it is full. `None` if fewer than eight bytes are
-// left before that: the file is cut, since its end marker alone has eight.
+// image goes on behind `out`, as long as any run's vectors have room there, else until it is full.
+// `None` if fewer than eight bytes are left before that: the file is cut, since its end marker alone
+// has eight.
 #[inline(never)]
 fn careful_chunks<'a, const N: usize, const F: usize, const RUN_FITS: bool, const SIZE: usize>(
     table: &mut SizedTerms<SIZE>,

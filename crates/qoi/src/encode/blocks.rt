@@ -38,7 +38,8 @@ fn goes_by_blocks<const N: usize>(style: Style, last: LastPixel, raw: Pixels<N>)
     if go_by_pairs(last.px, raw) || go_by_fresh::<N>(PixelOf { px: last.px }, raw) {
         return false;
     }
-    // In `Tight`, `write_front` relies on a fresh pixel that came.
+    // In `Tight`, `write_front` may make a coder even of the first block's carry (`coder_after`), as
+    // after a fresh pixel.
     let may_open = match style {
         Reference | Places => last.repeats == 0,
         Tight => false,
@@ -142,11 +143,11 @@ fn write_front<'a, 'p, const N: usize, const STYLE: u8, const ROOM: usize, const
     (front.raw.skip(16), after, piece)
 }
 
-// Writes by blocks until the piece is full or fewer pixels than a block has are left. Returns the
-// rest, and what is carried.
+// Writes by blocks until the piece is full or fewer pixels than a block has are left, whatever pixels
+// come meanwhile. Returns the rest, and what is carried.
 //
 // Each style has a loop of its own, and another if `FULL`: where an RGBA chunk is expected to give
-// each pixel. The piece is a value, so that the compiler keeps its fields in registers.
+// each pixel (`encode/full`). The piece is a value, so that the compiler keeps its fields in registers.
 #[inline(always)]
 fn fill<'a, 'p, const N: usize, const STYLE: u8, const ROOM: usize, const FULL: bool>(
     table: &mut PixelTable,
@@ -173,8 +174,8 @@ fn fill<'a, 'p, const N: usize, const STYLE: u8, const ROOM: usize, const FULL: 
     (rest, now, piece)
 }
 
-// Writes blocks (`fill`). Returns the rest. It isn't inlined: where both loops, with `FULL` and without,
-// are one function, they are slower.
+// Writes blocks (`fill`). Returns the rest. It isn't inlined: where both loops, with `FULL` and
+// without, are one function, they are slower.
 #[inline(never)]
 fn write_by_blocks<'a, 'p, const N: usize, const STYLE: u8, const ROOM: usize, const FULL: bool>(
     last: &mut LastPixel,
@@ -221,7 +222,8 @@ fn write_apart<'a, 'p, const N: usize, const STYLE: u8, const ROOM: usize>(
 
 /// Writes what is at the front: blocks, until the piece is full or fewer pixels than a block has are
 /// left; or repeats and the fresh pixel after them, and pairs and blocks of few fresh pixels that
-/// follow (`write_apart`). Returns the rest. Any pixels may follow.
+/// follow (`write_apart`). Returns the rest. Any pixels may follow. Which way is asked only here, so
+/// mostly once a piece.
 #[inline(always)]
 pub(super) fn write_some<'a, 'p, const N: usize, const STYLE: u8, const ROOM: usize>(
     last: &mut LastPixel,

@@ -23,8 +23,9 @@ use crate::types::Channels::{Rgb, Rgba};
 use crate::types::Style::{Places, Reference, Tight};
 use crate::writers::Writer;
 
-// `write_whole` for `N` channels, in the style of a number. Each has a function of its own: one for
-// all would test the style at each pixel.
+// Writes whole pixels of `N` channels (see `write_whole`), in the style of the number `STYLE`
+// (`style_of`). For each pair the compiler makes a loop of its own: one for all would test the style at
+// each pixel.
 #[inline(always)]
 fn write_blocks<'a, 'p, W: Writer, const N: usize, const STYLE: u8, const ROOM: usize>(
     writer: &mut W,

@@ -277,7 +277,7 @@ impl<const N: usize> Coder<N> {
         after.skip(1)
     }
 
-    /// `write_each` as a function of its own, which all images of these channels share.
+    /// `write_each` as a function of its own, which all images of these channels and this room share.
     #[inline(never)]
     pub(super) fn write_few<const ROOM: usize>(
         &mut self,

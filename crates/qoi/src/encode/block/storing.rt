@@ -29,7 +29,8 @@ fn are_short<const N: usize>(size: u8x16) -> bool
     N == 3 || all_set(!where_is(size, 5))
 }
 
-/// Stores the chunks of sixteen pixels from `at` on, and returns where they end.
+/// Stores the chunks of sixteen pixels from `at` on, at most 80 bytes, and returns where they end.
+/// Three more may be stored after the last one, and mean nothing.
 #[inline(always)]
 pub(in crate::encode) fn store_sixteen<const N: usize>(
     out: &mut [u8],
