@@ -33,6 +33,9 @@ before_last g c =
     grown old.items c.deref_mut-2.result.now old.len c.args.size c.requires.channels c.loop-out.invariant.growing old.ok.0
     c.loop-out.invariant.fits c.requires.whole (c.deref_mut-2.ensures.value ∙ c.grow-2.ensures.items)
 
+pub grow-requires-2-clause-step : goal.grow-requires-2-clause-step
+grow-requires-2-clause-step g c = omega (arith, c.loop-out-test.false, c.len.ensures)
+
 pub loop-out-init : goal.loop-out-init
 loop-out-init g c = record {
   whole = none_whole g.row.N c.args.out.now.len c.requires.channels c.requires.empty;
