@@ -185,7 +185,8 @@ fn write_by_blocks<'a, 'p, const N: usize, const STYLE: u8, const ROOM: usize, c
 ) -> (Pixels<'a, N>, Piece<'p, ROOM>)
     requires some { 16 ≤ length (pixels_in raw) }
     requires opaque { N ≡ 3 → last.old.px.a ≡ 255 }
-    requires goes { GoesByBlocks (style_of STYLE) last.old (length (pixels_in raw)) (pixels_in raw) }
+    requires goes { GoesByBlocks (style_of STYLE) last.old
+        (length (pixels_in raw)) (pixels_in raw) }
     ensures { WritesSome (style_of STYLE) raw.entry table.old last.old piece.entry.piece
         result.0 table.new last.new result.1 }
 {
