@@ -12,10 +12,10 @@ use Rattle.qoi.specs.inner.Packed.{word, pixel_of_word}
 abbrev pub spread : RgbaPixel → ℕ
 spread p = p.r + p.b * 2 ^ 16 + p.g * 2 ^ 40 + p.a * 2 ^ 56
 
--- the six low bits of the highest byte of its product, in 64 bits, with the four weights of the
--- hash: 3 * 2^56 + 7 * 2^40 + 5 * 2^16 + 11
+-- the six highest bits of its product, in 64 bits, with four times the weights of the hash:
+-- 3 * 2^56 + 7 * 2^40 + 5 * 2^16 + 11
 abbrev pub product_hash : RgbaPixel → ℕ
-product_hash p = spread p * 0x0300_0700_0005_000b % 2 ^ 64 / 2 ^ 56 % 64
+product_hash p = spread p * 0x0c00_1c00_0014_002c % 2 ^ 64 / 2 ^ 58
 
 -- a pixel packed and unpacked
 pub unpacked : (p : RgbaPixel) → IsPixel p → pixel_of_word (word p) ≡ p

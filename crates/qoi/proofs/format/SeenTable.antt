@@ -1,5 +1,5 @@
 -- What is seen, and what the tables hold, after a pixel came some times.
-use Rattle.std.proofs.Common.{◌≡◌, ℕ, zero, suc, ◌<◌, List, ◌∷◌, ◌++◌, replicate, cond, eqb, Some, arith, refl, sym, ap, ◌∙◌}
+use Rattle.std.proofs.Common.{◌≡◌, ℕ, zero, suc, ◌<◌, Bool, true, false, List, ◌∷◌, ◌++◌, replicate, cond, eqb, eqb-true, Some, arith, refl, sym, ap, ◌∙◌}
 use Rattle.qoi.specs.Qoi.{RgbaPixel, Past, previous, seen, hash}
 use Rattle.qoi.specs.inner.Hashed.{HoldsSeen}
 use Rattle.qoi.specs.inner.Table.{Holds}
@@ -18,6 +18,14 @@ previous_copies (suc n) p past h = refl
 -- the table after a pixel, put once, is that after some copies of it
 pub holds_copies : (table : List RgbaPixel) (p : RgbaPixel) (past : Past) (n : ℕ) → 0 < n → Holds table (p ∷ past) → Holds table (replicate n p ++ past)
 holds_copies table p past n some h i l = h i l ∙ ap Some (sym (seen_copies n p past i some))
+
+-- a pixel that stands at its index position is put there
+pub holds_again : (table : List RgbaPixel) (p : RgbaPixel) (past : Past) → seen past (hash p) ≡ p → Holds table past → Holds table (p ∷ past)
+holds_again table p past is h i l = h i l ∙ ap Some (sym (go (eqb (hash p) i) refl))
+  where
+    go : (same : Bool) → eqb (hash p) i ≡ same → cond same p (seen past i) ≡ seen past i
+    go true e = sym is ∙ ap (seen past) (eqb-true (hash p) i e)
+    go false e = refl
 
 -- and so are the decoder's numbers
 pub holds_seen_copies : (numbers : List ℕ) (p : RgbaPixel) (past : Past) (n : ℕ) → 0 < n → HoldsSeen numbers (p ∷ past)

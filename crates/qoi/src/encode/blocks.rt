@@ -26,8 +26,7 @@ use crate::encode::table::PixelTable;
 use crate::types::Style::{self, Places, Reference, Tight};
 
 // Whether the front goes by blocks: once a fresh pixel came or, except in style `Tight`, if no repeats
-// wait and the next pixel is fresh; but not if over `FRONT_CARRIED` repeats wait and another follows,
-// nor if pairs or a block of few fresh pixels come next.
+// wait and the next pixel is fresh; but not if over `FRONT_CARRIED` repeats wait and another follows.
 #[inline(always)]
 fn goes_by_blocks<const N: usize>(style: Style, last: LastPixel, raw: Pixels<N>) -> bool
     requires some { 16 ≤ length (pixels_in raw) }
@@ -35,9 +34,6 @@ fn goes_by_blocks<const N: usize>(style: Style, last: LastPixel, raw: Pixels<N>)
     ensures { IsTrue result
         → GoesByBlocks style last (length (pixels_in raw.entry)) (pixels_in raw.entry) }
 {
-    if go_by_pairs(last.px, raw) || go_by_fresh::<N>(PixelOf { px: last.px }, raw) {
-        return false;
-    }
     // In `Tight`, `write_front` may make a coder even of the first block's carry (`coder_after`), as
     // after a fresh pixel.
     let may_open = match style {
@@ -196,12 +192,14 @@ fn write_by_blocks<'a, 'p, const N: usize, const STYLE: u8, const ROOM: usize, c
     (rest, piece)
 }
 
-// Writes the repeats that wait, those at the front and the fresh pixel after them; and then pairs, and
-// blocks of few fresh pixels, as long as they come and the piece isn't full. Returns the rest.
+// Writes the repeats that wait, those at the front and the fresh pixel after them; and then pairs or,
+// if not `PAIRS`, blocks of few fresh pixels, as long as they come and the piece isn't full. Returns
+// the rest.
 //
-// It isn't inlined: the loop over blocks would be slower.
+// It isn't inlined, and pairs have a copy: in one function these loops and the one over blocks would be
+// slower.
 #[inline(never)]
-fn write_apart<'a, 'p, const N: usize, const STYLE: u8, const ROOM: usize>(
+fn write_apart<'a, 'p, const N: usize, const STYLE: u8, const ROOM: usize, const PAIRS: bool>(
     last: &mut LastPixel,
     table: &mut PixelTable,
     piece: OpenPiece<'p, ROOM>,
@@ -215,8 +213,11 @@ fn write_apart<'a, 'p, const N: usize, const STYLE: u8, const ROOM: usize>(
     let mut piece = piece.piece;
     let mut coder = Coder::<N>::new(style_of::<STYLE>(), *last);
     let rest = coder.write_next(table, &mut piece, raw);
-    let rest = write_pairs::<N, STYLE, ROOM>(&mut coder, table, &mut piece, rest);
-    let rest = write_sparse::<N, STYLE, ROOM>(&mut coder, table, &mut piece, rest);
+    let rest = if PAIRS {
+        write_pairs::<N, STYLE, ROOM>(&mut coder, table, &mut piece, rest)
+    } else {
+        write_sparse::<N, STYLE, ROOM>(&mut coder, table, &mut piece, rest)
+    };
     *last = coder.last;
     (rest, piece)
 }
@@ -237,8 +238,12 @@ pub(super) fn write_some<'a, 'p, const N: usize, const STYLE: u8, const ROOM: us
     ensures { WritesSome (style_of STYLE) raw.entry table.old last.old piece.entry.piece
         result.0 table.new last.new result.1 }
 {
-    if !goes_by_blocks(style_of::<STYLE>(), *last, raw) {
-        return write_apart::<N, STYLE, ROOM>(last, table, piece, raw);
+    if go_by_pairs(last.px, raw) {
+        return write_apart::<N, STYLE, ROOM, true>(last, table, piece, raw);
+    }
+    let few = go_by_fresh::<N>(PixelOf { px: last.px }, raw);
+    if few || !goes_by_blocks(style_of::<STYLE>(), *last, raw) {
+        return write_apart::<N, STYLE, ROOM, false>(last, table, piece, raw);
     }
     if begin_full(table, last.px, raw) {
         return write_by_blocks::<N, STYLE, ROOM, true>(last, table, piece, raw);

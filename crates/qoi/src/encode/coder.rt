@@ -131,9 +131,10 @@ impl<const N: usize> Coder<N> {
     }
 
     // Writes the fresh pixel `next`: by its index position if it stands there, else as
-    // `chunk_if_absent` has it. Then puts it at its position, and it is the last pixel.
+    // `chunk_if_absent` has it. Then puts it at its position, and it is the last pixel. With `JUMP`
+    // which of them is a jump, which is faster if mostly the same one comes, else a choice of both.
     #[inline(always)]
-    fn write_pixel<const ROOM: usize>(
+    fn write_pixel<const ROOM: usize, const JUMP: bool>(
         &mut self,
         table: &mut PixelTable,
         piece: &mut Piece<ROOM>,
@@ -154,9 +155,7 @@ impl<const N: usize> Coder<N> {
         let px = next.px;
         let place = px.hash_index();
         let stands = table.at(place).is_same(px);
-        let spelled = spell_pixel::<N>(self.last.px, px);
-        let (number, size) = self.chunk_if_absent(table, px, spelled);
-        table.put(place, px);
+        let before = self.last.px;
         self.last = LastPixel {
             px,
             begun: true,
@@ -167,8 +166,15 @@ impl<const N: usize> Coder<N> {
             },
             repeats: 0,
         };
+        if JUMP && stands {
+            piece.append_run(1, place);
+            return;
+        }
+        let spelled = spell_pixel::<N>(before, px);
+        let (number, size) = self.chunk_if_absent(table, px, spelled);
+        table.put(place, px);
         let number = pick(stands, u32::from(place), number);
-        piece.append_chunk::<N>(px.number(), number, pick(stands, 1, size));
+        piece.append_chunk::<N, JUMP>(px.number(), number, pick(stands, 1, size));
     }
 
     // Writes the repeats that came before these pixels and those at their front, at most 992 in
@@ -218,13 +224,14 @@ impl<const N: usize> Coder<N> {
     /// Writes the repeats that came before these pixels and those ahead, all as one run, and the fresh
     /// pixel after them. Returns the rest.
     #[inline(always)]
-    pub(super) fn write_short_group<'a, const ROOM: usize>(
+    pub(super) fn write_short_group<'a, const ROOM: usize, const JUMP: bool>(
         &mut self,
         table: &mut PixelTable,
         piece: &mut Piece<ROOM>,
         group: Group<'a, N>,
     ) -> Pixels<'a, N>
-        requires few { self.old.last.repeats + group.ahead < run_max }
+        requires count { group.count ≡ self.old.last.repeats + group.ahead }
+        requires few { group.count < run_max }
         requires repeat { take group.ahead (pixels_in group.raw)
             ≡ replicate group.ahead self.old.last.px }
         requires fresh { slice_get (pixels_in group.raw) group.ahead ≢ Some self.old.last.px }
@@ -239,11 +246,10 @@ impl<const N: usize> Coder<N> {
         ensures written { CoderPasses self.old table.old piece.old (pixels_in group.entry.raw)
             self.new table.new piece.new (pixels_in result) }
     {
-        let count = self.last.repeats + group.ahead;
-        piece.append_run(count, self.single_repeat_byte(count));
-        self.update_after_repeats(table, count, 0);
+        piece.append_run(group.count, self.single_repeat_byte(group.count));
+        self.update_after_repeats(table, group.count, 0);
         let after = group.raw.skip(group.ahead);
-        self.write_pixel(table, piece, after.first());
+        self.write_pixel::<ROOM, JUMP>(table, piece, after.first());
         after.skip(1)
     }
 
@@ -273,7 +279,7 @@ impl<const N: usize> Coder<N> {
         if after.is_empty() || after.begin_with(self.last.px) {
             return after;
         }
-        self.write_pixel(table, piece, after.first());
+        self.write_pixel::<ROOM, false>(table, piece, after.first());
         after.skip(1)
     }
 

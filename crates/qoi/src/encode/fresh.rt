@@ -61,7 +61,7 @@ pub(crate) fn spell_pixel<const N: usize>(last: Packed, px: Packed) -> (u32, u32
 {
     let steps = steps(last, px);
     let full = px.number() % 0x100_0000 * 256;
-    if (N == 4) & (steps.a() != 0) {
+    if (N == 4) & (px.a() != last.a()) {
         return (full + u32::from(QOI_OP_RGBA), 5);
     }
     let as_diff = diff_steps(steps);

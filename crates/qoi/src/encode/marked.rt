@@ -58,6 +58,7 @@ pub(super) fn write_marked<'a, const N: usize, const ROOM: usize>(
         ≡ fresh_marks coder.old.last.px (take 16 (pixels_in block.front.raw)) }
     ensures rest { pixels_in result ≡ drop 16 (pixels_in block.entry.front.raw) }
     ensures less { length (pixels_in result) < length (pixels_in block.entry.front.raw) }
+    ensures last { slice_get (pixels_in block.entry.front.raw) 15 ≡ Some coder.new.last.px }
     ensures few { coder.new.last.repeats ≤ FRONT_CARRIED }
     ensures begun { coder.new.last.begun ≡ true }
     ensures written { CoderPasses coder.old table.old piece.old (pixels_in block.entry.front.raw)
@@ -72,8 +73,9 @@ pub(super) fn write_marked<'a, const N: usize, const ROOM: usize>(
         let group = Group {
             raw: rest,
             ahead: ahead as usize,
+            count: coder.last.repeats + ahead as usize,
         };
-        rest = coder.write_short_group(table, piece, group);
+        rest = coder.write_short_group::<ROOM, false>(table, piece, group);
         count -= ahead as usize + 1;
         left = (left >> ahead) / 2;
     }

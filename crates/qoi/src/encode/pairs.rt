@@ -60,17 +60,19 @@ pub(super) fn write_pairs<'a, const N: usize, const STYLE: u8, const ROOM: usize
         coder.new table.new piece.new (pixels_in result) }
 {
     let mut rest = raw;
-    while !piece.is_full() && begin_with_pairs(coder.last.px, rest) {
+    while begin_with_pairs(coder.last.px, rest) && !piece.is_full() {
         let pair = Group {
             raw: rest,
             ahead: 1,
+            count: 1,
         };
-        let half = coder.write_short_group(table, piece, pair);
+        let half = coder.write_short_group::<ROOM, true>(table, piece, pair);
         let pair = Group {
             raw: half,
             ahead: 1,
+            count: 1,
         };
-        rest = coder.write_short_group(table, piece, pair);
+        rest = coder.write_short_group::<ROOM, true>(table, piece, pair);
     }
     rest
 }

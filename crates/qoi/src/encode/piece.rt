@@ -115,9 +115,15 @@ impl<'a, const ROOM: usize> Piece<'a, ROOM> {
         self.end = copy_after(self.bytes, self.end, v);
     }
 
-    /// Appends a chunk of `size` bytes, as `store_chunk` stores it.
+    /// Appends a chunk of `size` bytes, as `store_chunk` stores it. With `JUMP` an RGBA chunk has a
+    /// jump of its own, after which its size is known.
     #[inline(always)]
-    pub(super) fn append_chunk<const N: usize>(&mut self, px: u32, number: u32, size: u32)
+    pub(super) fn append_chunk<const N: usize, const JUMP: bool>(
+        &mut self,
+        px: u32,
+        number: u32,
+        size: u32,
+    )
         requires channels { IsChannels N }
         requires room { self.old.end + (chunk_max + marker_size) ≤ ROOM }
         requires few { size ≤ N + 1 }
@@ -125,6 +131,10 @@ impl<'a, const ROOM: usize> Piece<'a, ROOM> {
             ≡ kept_bytes self.old ++ take size (digits_l 256 4 number ++ (px / 2 ^ 24) ∷ []) }
         ensures end { self.new.end ≡ self.old.end + size }
     {
+        if JUMP && size == 5 {
+            self.end = store_chunk::<N>(self.bytes, self.end, px, number, 5);
+            return;
+        }
         self.end = store_chunk::<N>(self.bytes, self.end, px, number, size);
     }
 
@@ -255,11 +265,21 @@ pub(crate) fn store_chunk<const N: usize>(
     ensures written { take result out.new
         ≡ take at out.old ++ take size (digits_l 256 4 number ++ (px / 2 ^ 24) ∷ []) }
 {
+    if N == 4 {
+        // All four bytes, of which alpha stays: no shift is needed.
+        store_four(out, at + 1, px);
+    }
+    store_four(out, at, number);
+    at + size as usize
+}
+
+// Stores the bytes of a number, the lowest first.
+#[inline(always)]
+fn store_four(out: &mut [u8], at: usize, number: u32)
+    requires { at + 4 ≤ length out.old }
+    ensures { out.new ≡ take at out.old ++ (digits_l 256 4 number ++ drop (at + 4) out.old) }
+{
     Simd::<u32, 1>::from_array([number])
         .to_le_bytes()
         .copy_to_slice(&mut out[at..at + 4]);
-    if N == 4 {
-        out[at + 4] = (px / 0x100_0000) as u8;
-    }
-    at + size as usize
 }

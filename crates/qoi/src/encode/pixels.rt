@@ -26,11 +26,13 @@ pub(super) struct PixelOf<const N: usize> {
     ghost opaque: { N ≡ 3 → px.a ≡ 255 },
 }
 
-/// Pixels of which the first `ahead` ones are repeats, and another pixel after them.
+/// Pixels of which the first `ahead` ones are repeats, and another pixel after them; with repeats that
+/// came before there are `count`.
 #[derive(Clone, Copy)]
 pub(super) struct Group<'a, const N: usize> {
     pub(super) raw: Pixels<'a, N>,
     pub(super) ahead: usize,
+    pub(super) count: usize,
     ghost inside: { ahead < length (pixels_of N raw.bytes.now) },
 }
 

@@ -38,7 +38,10 @@ fn fresh_in_block<const N: usize>(front: FrontBlock<N>, last: PixelOf<N>) -> u64
     let second = fresh_in_four(w.one, w.two);
     let third = fresh_in_four(w.two, w.three);
     let fourth = fresh_in_four(w.three, w.four);
-    first + (second << 4) + (third << 8) + (fourth << 12)
+    // In this order the compiler makes one mask of all.
+    let low = first + (second << 4);
+    let high = third + (fourth << 4);
+    low + (high << 8)
 }
 
 /// Whether the pixels go by `write_sparse`: if they are many, and one or two of the first sixteen
@@ -78,7 +81,10 @@ pub(super) fn write_sparse<'a, const N: usize, const STYLE: u8, const ROOM: usiz
         if marks == 0 || !are_few(marks) {
             return rest;
         }
-        rest = write_marked(coder, table, piece, Marked { front, marks });
+        let _after = write_marked(coder, table, piece, Marked { front, marks });
+        // The same pixels, found anew: so the next block doesn't wait for the marks of this one.
+        coder.last.px = front.raw.skip(15).first().px;
+        rest = front.raw.skip(16);
     }
     rest
 }

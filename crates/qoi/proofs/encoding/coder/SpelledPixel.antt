@@ -30,22 +30,24 @@ false_and a b e = ap (λ z. z && b) e
 both : (a b : Bool) → a ≡ true → b ≡ true → (a && b) ≡ true
 both a b ea eb = (λ i. ea i && eb i)
 
--- the test of alpha's step fails: in three channels or in four, it is 0
-pub alpha_kept : (n a : ℕ) (q p : RgbaPixel) → IsChannels n → (n ≡ 3 → p.a ≡ q.a) → IsPixel q → a ≡ (steps q p).a → ((n == 4) && not (a == 0)) ≡ false
+-- the test of alphas fails: in three channels or in four, alpha's step is 0
+pub alpha_kept : (n a b : ℕ) (q p : RgbaPixel) → IsChannels n → (n ≡ 3 → p.a ≡ q.a) → IsPixel q → a ≡ p.a → b ≡ q.a → ((n == 4) && not (a == b)) ≡ false
     → (steps q p).a ≡ 0
-alpha_kept n a q p (inl three) same iq is t = omega (arith, same three, iq.a)
-alpha_kept n a q p (inr four) same iq is t = sym is ∙ go (a == 0) refl
+alpha_kept n a b q p (inl three) same iq is was t = omega (arith, same three, iq.a)
+alpha_kept n a b q p (inr four) same iq is was t = go (a == b) refl
   where
-    go : (b : Bool) → (a == 0) ≡ b → a ≡ 0
-    go true e = eqb-true a 0 e
-    go false e = absurd (true≢false (sym (both (n == 4) (not (a == 0)) (eq-eqb n 4 four) (ap not e)) ∙ t))
+    go : (e : Bool) → (a == b) ≡ e → (steps q p).a ≡ 0
+    go true e = omega (arith, is, was, iq.a, eqb-true a b e)
+    go false e = absurd (true≢false (sym (both (n == 4) (not (a == b)) (eq-eqb n 4 four) (ap not e)) ∙ t))
 
 -- it passes: it isn't 0
-pub alpha_changes : (n a : ℕ) → ((n == 4) && not (a == 0)) ≡ true → (a == 0) ≡ false
-alpha_changes n a t = go (a == 0) refl
+pub alpha_changes : (n a b : ℕ) (q p : RgbaPixel) → IsPixel q → IsPixel p → a ≡ p.a → b ≡ q.a → ((n == 4) && not (a == b)) ≡ true → ((steps q p).a == 0) ≡ false
+alpha_changes n a b q p iq ip is was t = go ((steps q p).a == 0) refl
   where
-    go : (b : Bool) → (a == 0) ≡ b → (a == 0) ≡ false
-    go true e = absurd (true≢false (sym t ∙ and_false (n == 4) (not (a == 0)) (ap not e)))
+    go : (e : Bool) → ((steps q p).a == 0) ≡ e → ((steps q p).a == 0) ≡ false
+    go true e =
+        let same : a ≡ b = omega (arith, is, was, iq.a, ip.a, eqb-true (steps q p).a 0 e) in
+        absurd (true≢false (sym t ∙ and_false (n == 4) (not (a == b)) (ap not (eq-eqb a b same))))
     go false e = e
 
 -- the bytes of a number that begins with a pixel's first three

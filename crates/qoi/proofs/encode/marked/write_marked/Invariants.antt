@@ -1,6 +1,6 @@
 -- The pixels up to here are written, each as at most six bytes; those left of the block have these
 -- bits. Once a fresh pixel is written, no repeats are carried.
-use Rattle.std.proofs.Common.{◌≡◌, ◌⊎◌, ◌+◌, ◌*◌, ◌<◌, ◌≤◌, true, Some, length, take, drop, slice_get}
+use Rattle.std.proofs.Common.{◌≡◌, ◌⊎◌, ◌+◌, ◌-◌, ◌*◌, ◌<◌, ◌≤◌, true, Some, length, take, drop, slice_get}
 use Rattle.qoi.specs.declared.encode.carry.TheConstants.{FRONT_CARRIED}
 use Rattle.qoi.specs.inner.CoderSteps.{CoderPasses}
 use Rattle.qoi.specs.inner.block.Marks.{fresh_marks}
@@ -11,7 +11,8 @@ abbrev pub invariant-loop-left : goal.invariant-loop-left
 invariant-loop-left g l = record {
   lanes_few : l.count ≤ 16;
   enough : l.count ≤ length (pixels_in l.rest);
-  rest_is : drop l.count (pixels_in l.rest) ≡ drop 16 (pixels_in l.fn.block.front.raw);
+  rest_is : pixels_in l.rest ≡ drop (16 - l.count) (pixels_in l.fn.block.front.raw);
+  last_is : l.count < 16 → slice_get (pixels_in l.fn.block.front.raw) (15 - l.count) ≡ Some l.coder.last.px;
   marks_are : l.left ≡ fresh_marks l.coder.last.px (take l.count (pixels_in l.rest));
   few : slice_get (pixels_in l.rest) 0 ≡ Some l.coder.last.px → l.coder.last.repeats ≤ FRONT_CARRIED;
   begun : (0 < l.left) ⊎ ((l.coder.last.begun ≡ true) × (l.coder.last.repeats ≡ 0) × (l.count < 16));

@@ -4,12 +4,12 @@ use Rattle.qoi.specs.inner.CoderSteps.{CoderPasses}
 use Rattle.qoi.specs.inner.Pixels.{pixels_in}
 use Rattle.qoi.proofs.encode.pairs.write_pairs.Given as goal
 
-abbrev pub invariant-loop-rest : goal.invariant-loop-rest
-invariant-loop-rest g l = record {
+abbrev pub invariant-loop-piece : goal.invariant-loop-piece
+invariant-loop-piece g l = record {
   less : length (pixels_in l.rest) ≤ length (pixels_in l.raw);
   none : pixels_in l.rest ≢ [] → l.coder.last.repeats ≡ 0;
   written : CoderPasses l.fn.coder l.fn.table l.fn.piece (pixels_in l.raw) l.coder l.table l.piece (pixels_in l.rest);
 }
 
-abbrev pub decreases-loop-rest : goal.decreases-loop-rest
-decreases-loop-rest g l = length (pixels_in l.rest)
+abbrev pub decreases-loop-piece : goal.decreases-loop-piece
+decreases-loop-piece g l = length (pixels_in l.rest)

@@ -1,13 +1,18 @@
--- Four bytes are put, then perhaps a fifth.
-use Rattle.std.proofs.Common.{arith, ap, ◌∙◌, ◌+◌, take}
-use Rattle.qoi.proofs.format.LaneBytes.{four_put, five_put}
+-- The number's four bytes, and behind them perhaps the pixel's alpha.
+use Rattle.std.proofs.Common.{◌≡◌, arith, ap, ◌∙◌, ◌+◌, take}
+use Rattle.qoi.proofs.format.LaneBytes.{chunk_of_four, chunk_of_five, stored}
 use Rattle.qoi.proofs.encode.piece.store_chunk.Goals as goal
 use Rattle.qoi.proofs.encode.piece.store_chunk.Goals.{then-this-eq4, else-this-eq4}
 
 pub returns-clause-written : goal.returns-clause-written
-returns-clause-written g c = elim c.if-this-eq4.branch [
-  | then-this-eq4 w ↦ ap (take (c.args.at + c.args.size)) w.out-is
-      ∙ five_put c.args.at c.args.size c.args.out.now c.args.number _ c.requires.room (omega (arith, c.requires.few, w.if-this-eq4.true))
-  | else-this-eq4 w ↦ ap (take (c.args.at + c.args.size)) w.out-is
-      ∙ four_put c.args.at c.args.size c.args.out.now c.args.number _ c.requires.room (omega (arith, c.requires.few, c.requires.channels, w.if-this-eq4.false))
-]
+returns-clause-written g c =
+    let at = c.args.at in
+    let size = c.args.size in
+    let number = c.args.number in
+    let whole = λ (out : _) (is : c.if-this-eq4.out ≡ out). ap (take (at + size)) (c.store_four-2.ensures ∙ ap (λ z. stored at z number) is) in
+    elim c.if-this-eq4.branch [
+      | then-this-eq4 w ↦ whole _ (w.out-is ∙ w.store_four.ensures)
+          ∙ chunk_of_five at size number c.args.px c.args.out.now c.requires.room (omega (arith, c.requires.few, w.if-this-eq4.true)) (omega arith)
+      | else-this-eq4 w ↦ whole _ w.out-is
+          ∙ chunk_of_four at size number _ c.args.out.now (omega (arith, c.requires.room)) (omega (arith, c.requires.few, c.requires.channels, w.if-this-eq4.false))
+    ]
