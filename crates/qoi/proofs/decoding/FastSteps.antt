@@ -66,6 +66,18 @@ pub plain_count : (b full rgba : ℕ) → full ≡ bool_byte (nat_le 254 b) → 
     × (b ≡ 255 → 1 + 3 * full + rgba ≡ 5) × (full ≤ 1) × (rgba ≤ 1)
 plain_count b full rgba is last = (λ low. grind (arith, nat_tests), λ rgb. grind (arith, nat_tests), λ more. grind (arith, nat_tests), grind (arith, nat_tests), grind (arith, nat_tests))
 
+-- a byte below an RGB chunk's isn't an RGBA chunk's
+pub below_rgb : (b : ℕ) → nat_le 254 b ≡ false → nat_eq b 255 ≡ false
+below_rgb b low = grind (arith, nat_tests)
+
+-- the byte after it is picked of three
+pub plain_next : (full rgba : Bool) (at f r : ℕ) (bytes : List ℕ) → f ≡ bool_byte full → r ≡ bool_byte rgba → (full ≡ false → rgba ≡ false)
+    → cond full (cond rgba (get_or bytes (at + 5) 0) (get_or bytes (at + 4) 0)) (get_or bytes (at + 1) 0) ≡ get_or bytes (at + (1 + 3 * f + r)) 0
+plain_next true true at f r bytes is last all = let k : at + 5 ≡ at + (1 + 3 * f + r) = omega (arith, is, last) in ap (λ k. get_or bytes k 0) k
+plain_next true false at f r bytes is last all = let k : at + 4 ≡ at + (1 + 3 * f + r) = omega (arith, is, last) in ap (λ k. get_or bytes k 0) k
+plain_next false true at f r bytes is last all = let no : true ≡ false = all refl in cc
+plain_next false false at f r bytes is last all = let k : at + 1 ≡ at + (1 + 3 * f + r) = omega (arith, is, last) in ap (λ k. get_or bytes k 0) k
+
 -- A chunk's pixel was put into the table and is stored, as often as is asked for and a vector holds;
 -- its first byte is at hand, and so is the byte after the chunk.
 pub record Stores {N F : ℕ} (bytes : List ℕ) (now : Progress N F) (table out : List ℕ) (new : Progress N F) (table' out' : List ℕ) : Type 0 where

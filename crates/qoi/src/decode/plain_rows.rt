@@ -8,6 +8,7 @@ use crate::decode::deltas::{advance, is_plain};
 use crate::decode::fast::{OUTPUT_ROOM, Progress};
 use crate::decode::output::store_vector;
 use crate::decode::table::TermTable;
+use crate::utils::pick;
 
 // Bytes of eight RGBA chunks and of the byte after them.
 const ROW_ROOM: usize = 41;
@@ -21,7 +22,8 @@ impl<const N: usize, const F: usize> Progress<N, F> {
     ghost use Rattle.qoi.specs.inner.Filling.{HasAhead, FastStep, FastChunks, IsPlainTag};
 
     // Decodes a plain chunk without a jump. Its bytes are counted by a sum, which is known before a
-    // number of a table would be: the next chunk waits for it.
+    // number of a table would be. The byte that comes next is one of three, which are loaded before it
+    // is known which, and not side by side (`full_chunk`).
     #[inline(always)]
     fn plain_chunk(self, table: &mut TermTable, bytes: &[u8], out: &mut [u8]) -> Self
         requires ahead { HasAhead 6 16 bytes.now out.old self }
@@ -29,17 +31,19 @@ impl<const N: usize, const F: usize> Progress<N, F> {
         ensures { FastStep 1 5 16 bytes.now self.entry table.old out.old result table.new out.new }
     {
         let b1 = self.next as usize;
+        let one = bytes[self.taken + 1];
         let last = self.last.after_plain(table, b1, &bytes[self.taken..]);
         table.put(last);
+        let four = bytes[self.taken + 4];
         store_vector::<N, F>(out, self.at, last);
-        let full = usize::from(b1 >= QOI_OP_RGB as usize);
-        let rgba = usize::from(b1 == QOI_OP_RGBA as usize);
-        let taken = self.taken + (1 + 3 * full + rgba);
+        let five = bytes[self.taken + 5];
+        let full = b1 >= QOI_OP_RGB as usize;
+        let rgba = b1 == QOI_OP_RGBA as usize;
         Progress {
             last,
-            taken,
+            taken: self.taken + (1 + 3 * usize::from(full) + usize::from(rgba)),
             at: self.at + advance::<N>(b1),
-            next: bytes[taken],
+            next: pick(full, pick(rgba, five, four), one),
         }
     }
 

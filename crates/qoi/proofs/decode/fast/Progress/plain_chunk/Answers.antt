@@ -1,19 +1,21 @@
 -- The pixel is that of the chunk, and the byte after it is known by its size.
-use Rattle.std.proofs.Common.{◌+◌, ◌*◌, inl, inr, get_or, arith, refl}
+use Rattle.std.proofs.Common.{◌+◌, ◌*◌, inl, inr, get_or, cond, nat_eq, nat_le, arith, refl, ap, ◌∙◌}
 use Rattle.std.proofs.lemmas.Bool.{cases_lt}
 use Rattle.qoi.specs.declared.decode.fast.Progress.{Progress}
-use Rattle.qoi.proofs.decoding.FastSteps.{Stores, plain_count, plain_short, plain_size, full_step, short_step, step_within}
+use Rattle.qoi.proofs.decoding.FastSteps.{Stores, below_rgb, plain_count, plain_next, plain_short, plain_size, full_step, short_step, step_within}
 use Rattle.qoi.proofs.decode.fast.Progress.plain_chunk.Goals as goal
 
 pub returns : goal.returns
 returns g c =
     let now = c.args.self in
     let bytes = c.args.bytes.now in
-    let counts = plain_count now.next c.from-full.result c.from-rgba.result c.from-full.ensures c.from-rgba.ensures in
-    let size = 1 + 3 * c.from-full.result + c.from-rgba.result in
-    let new : Progress g.row.N g.row.F = record { last = c.after_plain-last.result; taken = now.taken + size; at = now.at + c.advance.result; next = get_or bytes (now.taken + size) 0 } in
+    let counts = plain_count now.next c.from.result c.from-2.result c.from.ensures c.from-2.ensures in
+    let size = 1 + 3 * c.from.result + c.from-2.result in
+    let next = c.pick-2.ensures ∙ ap (λ b. cond (nat_le 254 now.next) b (get_or bytes (now.taken + 1) 0)) c.pick.ensures
+    ∙ plain_next (nat_le 254 now.next) (nat_eq now.next 255) now.taken c.from.result c.from-2.result bytes c.from.ensures c.from-2.ensures (below_rgb now.next) in
+    let new : Progress g.row.N g.row.F = record { last = c.after_plain-last.result; taken = now.taken + size; at = now.at + c.advance.result; next = c.pick-2.result } in
     let stores : Stores bytes now c.args.table.now c.args.out.now new c.put.new.self c.store_vector.new.out =
-    record { put = c.put.ensures; stored = c.store_vector.ensures; size = c.store_vector.auto.out; next = refl; fits = λ i. omega (arith, c.type_inv.bytes i) } in
+    record { put = c.put.ensures; stored = c.store_vector.ensures; size = c.store_vector.auto.out; next = next; fits = λ i. omega (arith, c.type_inv.bytes i) } in
     elim (cases_lt now.next 254) [
       | inl low ↦
           let plain = plain_short g.row.N now.next c.requires.plain low in
