@@ -23,7 +23,6 @@ pub mod Promised
 pub mod Refusals
 pub mod RefusedBytes
 pub mod RowIndexes
-pub mod Rows
 pub mod SlicesRefused
 pub mod StreamReads
 pub mod StreamVerdicts

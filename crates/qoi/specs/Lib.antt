@@ -21,7 +21,6 @@ pub mod Shortest
 pub mod Tight
 -- The list of each style, and the file of an image.
 pub mod Styles
-pub mod Steps
 pub mod WrittenList
 pub mod Encoded
 pub mod EncoderState

@@ -8,6 +8,10 @@ use Rattle.qoi.specs.Qoi.{RgbaPixel, Past, previous, hash, then_chunk}
 use Rattle.qoi.specs.Written.{fresh, IsChoice, WrittenBy}
 use Rattle.qoi.specs.Tight.{IsTightChoice}
 
+-- the style of a number, by which a coder's loops are told apart
+abbrev pub style_of : ℕ → Style
+style_of n = if n == 0 then Reference else (if n == 1 then Places else Tight)
+
 -- the chunk is a run
 abbrev pub is_run : Chunk → Bool
 is_run (Run n) = true

@@ -45,7 +45,3 @@ AreWrongThen n bytes rest = (cs : List Chunk) × (eight : List ℕ) × IsWrong n
 -- wrong: chunks reach n pixels, eight bytes other than the end marker follow, and then any bytes
 abbrev pub AreWrong : ℕ → List ℕ → Type 0
 AreWrong n bytes = (rest : List ℕ) × AreWrongThen n bytes rest
-
--- cut before n pixels, between chunks or inside one
-abbrev pub EndsBefore : ℕ → List ℕ → Type 0
-EndsBefore n bytes = (cs : List Chunk) × (part : List ℕ) × HasChunks n bytes cs part × (length (meaning cs) < n) × IsPartOfChunk part

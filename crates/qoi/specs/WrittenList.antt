@@ -1,16 +1,27 @@
 -- The chunk list that is written for an image in a style, as a function of its pixels. What it must
 -- be, `WrittenIn` says; `laws::writing::written_is_one` ties the two.
-use Rattle.std.specs.Prelude.{ℕ, suc, ◌+◌, ◌*◌, ◌%◌, Bool, ◌==◌, if◌then◌else◌, List, [], ◌∷◌, ◌++◌, replicate, Option, None, Some}
+use Rattle.std.specs.Prelude.{ℕ, suc, ◌+◌, ◌-◌, ◌*◌, ◌%◌, Bool, ◌==◌, if◌then◌else◌, List, [], ◌∷◌, ◌++◌, replicate, Option, None, Some}
 use Rattle.qoi.specs.declared.chunk.Chunk.{Chunk}
 use Rattle.qoi.specs.declared.chunk.Chunk.TheVariants.{Place, Diff, Luma, Run, Rgb, Rgba}
 use Rattle.qoi.specs.declared.types.Style.{Style}
 use Rattle.qoi.specs.declared.types.Style.TheVariants.{Reference, Places, Tight}
-use Rattle.qoi.specs.Qoi.{RgbaPixel, Past, pixel, pixel_eq, blank, previous, seen, hash, diff_tag, luma_tag}
+use Rattle.qoi.specs.Qoi.{RgbaPixel, Past, pixel, moved, pixel_eq, blank, previous, seen, hash, diff_tag, luma_tag}
 use Rattle.qoi.specs.Runs.{runs_by}
 use Rattle.qoi.specs.Written.{noted}
 use Rattle.qoi.specs.Tight.{least_unseen}
 use Rattle.qoi.specs.Styles.{in_style}
-use Rattle.qoi.specs.Steps.{steps, diff_steps, luma_steps}
+
+-- what is added to q's channels for p's; it wraps at 256
+abbrev pub steps : RgbaPixel → RgbaPixel → RgbaPixel
+steps q p = pixel ((p.r + (256 - q.r)) % 256) ((p.g + (256 - q.g)) % 256) ((p.b + (256 - q.b)) % 256) ((p.a + (256 - q.a)) % 256)
+
+-- as a Diff has them
+abbrev pub diff_steps : RgbaPixel → RgbaPixel
+diff_steps s = moved s 2 2 2
+
+-- as a Luma has them
+abbrev pub luma_steps : RgbaPixel → RgbaPixel
+luma_steps s = pixel ((s.r + (264 - s.g)) % 256) ((s.g + 32) % 256) ((s.b + (264 - s.g)) % 256) s.a
 
 -- the steps of a Diff, cut to its bits
 abbrev pub diff_bits : RgbaPixel → RgbaPixel
@@ -33,13 +44,13 @@ abbrev pub spelled : Bool → Bool → Bool → RgbaPixel → RgbaPixel → Rgba
 spelled is_diff is_luma keeps d l p =
     if is_diff then diff_of d else (if is_luma then luma_of l else (if keeps then Rgb p.r p.g p.b else Rgba p.r p.g p.b p.a))
 
--- the same for steps as a Diff and a Luma have them, which fit if the cut leaves them as they are
-abbrev pub spelled_by : ℕ → RgbaPixel → RgbaPixel → RgbaPixel → Chunk
-spelled_by alpha small wide p = spelled (pixel_eq (diff_bits small) small) (pixel_eq (luma_bits wide) wide) (alpha == 0) (diff_bits small) (luma_bits wide) p
-
--- the first of Diff, Luma, Rgb and Rgba that gives p after q
+-- the first of Diff, Luma, Rgb and Rgba that gives p after q; steps fit if the cut leaves them as
+-- they are
 unfoldable pub first_chunk : RgbaPixel → RgbaPixel → Chunk
-first_chunk q p = spelled_by (steps q p).a (diff_steps (steps q p)) (luma_steps (steps q p)) p
+first_chunk q p =
+    let small = diff_steps (steps q p) in
+    let wide = luma_steps (steps q p) in
+    spelled (pixel_eq (diff_bits small) small) (pixel_eq (luma_bits wide) wide) ((steps q p).a == 0) (diff_bits small) (luma_bits wide) p
 
 -- the index position of p if that holds it, else another chunk
 abbrev pub by_position : RgbaPixel → RgbaPixel → Chunk → Chunk

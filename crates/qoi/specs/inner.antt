@@ -1,17 +1,12 @@
 -- States of loops, pixels as single numbers, and kept bytes.
 pub mod BlockLoop
 pub mod Chunks
-pub mod CoderLoop
-pub mod CoderSteps
-pub mod CoderState
+pub mod Coder
 pub mod Conversion
 pub mod Filling
 pub mod Hashed
 pub mod Packed
-pub mod Piece
-pub mod Pixels
 pub mod Sending
-pub mod SpelledOut
 pub mod Table
 -- One block: sixteen pixels at a time.
 pub mod block

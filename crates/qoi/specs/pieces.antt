@@ -1,6 +1,5 @@
 -- Images that are read or written piece by piece.
 pub mod Unread
-pub mod InPlace
 pub mod PixelReader
 pub mod Mark
 pub mod RowIndex

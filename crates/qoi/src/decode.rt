@@ -2,9 +2,9 @@
 ghost use Rattle.std.specs.Prelude.{◌≡◌, ℕ, ◌*◌, ◌-◌, ◌<◌, ◌≤◌, List, length, take, drop, Some, ◌+◌, IfOk, IfErr, IsErr, IsErrOf, IsTrue, ◌⊎◌, Ok, Err};
 ghost use Rattle.qoi.specs.declared.header.Header.{Header};
 ghost use Rattle.qoi.specs.declared.error.Error.{Error};
-ghost use Rattle.qoi.specs.Qoi.{header_of};
+ghost use Rattle.qoi.specs.Qoi.{header_of, IsValid};
 ghost use Rattle.qoi.specs.Decoding.{RefusesBuffer};
-ghost use Rattle.qoi.specs.DecoderState.{output_byte_count};
+ghost use Rattle.qoi.specs.DecoderState.{DecoderState, output_byte_count};
 ghost use Rattle.qoi.specs.Decoded.{HasHeader, HasRefusedHeader, HasDecoded, HasRefused, HasDecodedFile, HasRefusedFile};
 ghost use Rattle.qoi.specs.Reading.{IsCutAhead, IsWrongAhead, SaysWhy};
 ghost use Rattle.qoi.specs.Raw.{capped_byte_count, image_byte_count};
@@ -142,13 +142,9 @@ pub struct Decoder<R> {
 }
 
 impl<R> Model for Decoder<R> {
-    ghost use Rattle.qoi.specs.DecoderState.{DecoderState};
-
     ghost Value = { DecoderState R };
 
     ghost view = { λ d. record { reader = d.reader; header = d.header; channels = d.channels } };
-
-    ghost use Rattle.qoi.specs.Qoi.{IsValid};
 
     ghost invariant = { λ d. IsValid d.header };
 }

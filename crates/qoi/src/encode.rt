@@ -14,7 +14,7 @@ ghost use Rattle.qoi.specs.Encoded.{max_len, max_file_len, image_header, measure
 ghost use Rattle.qoi.specs.Errors.{IsIoError};
 ghost use Rattle.qoi.specs.EncoderState.{free_encoder};
 ghost use Rattle.qoi.specs.Sent.{IsFileFor, MakesFile, PutsFile, SendsFile, SendsPart};
-ghost use Rattle.qoi.specs.inner.Sending.{WroteImage, BeganImage};
+ghost use Rattle.qoi.specs.inner.Sending.{WritesImage};
 
 mod block;
 mod blocks;
@@ -269,9 +269,7 @@ impl<'a> Encoder<'a> {
     fn write_few<W: Writer>(&self, writer: &mut W) -> Result<usize>
         requires few { length self.now.raw < FEW_BYTES }
         requires room { max_file_len self.now.header ≤ W.room writer.old }
-        ensures written { IfOk result (WroteImage W.wrote self.now writer.old writer.new) }
-        ensures refused { IfErr result (λ e. W.IsFault e
-            × BeganImage W.wrote self.now writer.old writer.new) }
+        ensures { WritesImage W.wrote W.IsFault self.now writer.old writer.new result }
     {
         let mut bytes = [0; FEW_ROOM];
         let mut piece = Piece::<FEW_ROOM>::with_header(&mut bytes, &self.header);
@@ -285,9 +283,7 @@ impl<'a> Encoder<'a> {
     #[inline(always)]
     fn write_to_memory<W: Writer>(&self, writer: &mut W) -> Result<usize>
         requires room { max_file_len self.now.header ≤ W.room writer.old }
-        ensures written { IfOk result (WroteImage W.wrote self.now writer.old writer.new) }
-        ensures refused { IfErr result (λ e. W.IsFault e
-            × BeganImage W.wrote self.now writer.old writer.new) }
+        ensures { WritesImage W.wrote W.IsFault self.now writer.old writer.new result }
     {
         if self.data.len() < FEW_BYTES {
             return self.write_few(writer);
@@ -297,19 +293,6 @@ impl<'a> Encoder<'a> {
         }
         if self.data.len() < LARGE_IMAGE {
             return encode_file::<W, SMALL_ROOM>(writer, self);
-        }
-        encode_file::<W, FULL_ROOM>(writer, self)
-    }
-
-    // Writes the file of the image, and returns how many bytes it has.
-    fn write_file<W: Writer>(&self, writer: &mut W) -> Result<usize>
-        requires { max_file_len self.now.header ≤ W.room writer.old }
-        ensures written { IfOk result (WroteImage W.wrote self.now writer.old writer.new) }
-        ensures refused { IfErr result (λ e. W.IsFault e
-            × BeganImage W.wrote self.now writer.old writer.new) }
-    {
-        if self.data.len() < FEW_BYTES {
-            return self.write_few(writer);
         }
         encode_file::<W, FULL_ROOM>(writer, self)
     }
@@ -380,7 +363,11 @@ impl<'a> Encoder<'a> {
             × SendsPart self.now (W.contents writer.old) (W.contents writer.new)) }
     {
         let mut writer = GenericWriter::new(writer);
-        let n = self.write_file(&mut writer)?;
+        let n = if self.data.len() < FEW_BYTES {
+            self.write_few(&mut writer)?
+        } else {
+            encode_file::<_, FULL_ROOM>(&mut writer, self)?
+        };
         Ok(n)
     }
 }

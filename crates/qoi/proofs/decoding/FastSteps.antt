@@ -108,8 +108,7 @@ fast_step {N} {F} {bytes = bytes} {table} {table'} {out} {out'} now new count k 
             between = subst (λ at. DecoderBetween F N gone n (IsFrontAfter front bytes new.taken) (filling table' (reached new.last at) out')) (sym end)
                 (goes_on {old = filling table (reached now.last now.at) out} {new = filling table' (reached new.last (now.at + N * count)) out'} is h.between inside decoded
                 (λ before is_front. ap (λ z. z ++ take k (drop now.taken bytes)) is_front ∙ append_assoc front (take now.taken bytes) (take k (drop now.taken bytes))
-                ∙ ap (λ z. front ++ z) (sym (take-add now.taken k bytes) ∙ ap (λ m. take m bytes) (sym taken)))
-                (rw size fits) ends_whole);
+                ∙ ap (λ z. front ++ z) (sym (take-add now.taken k bytes) ∙ ap (λ m. take m bytes) (sym taken))));
             next_is = next;
           };
       taken = (omega (arith, taken), omega (arith, taken));
@@ -179,9 +178,9 @@ step_on a b least most room = record {
 }
 
 -- the same of numbers
-pub step_then : {N F i j k l m n r s t : ℕ} {bytes table table' table'' out out' out'' : List ℕ} {old middle new : Progress N F} → FastStep i l r bytes old table out middle table' out'
-    → FastStep j m s bytes middle table' out' new table'' out'' → k ≤ i + j → l + m ≤ n → r + s ≤ t → FastStep k n t bytes old table out new table'' out''
-step_then a b least most room = step_on a b (omega (arith, a.taken, b.taken, least)) (omega (arith, a.taken, b.taken, most)) (omega (arith, a.written, b.written, room))
+pub step_then : {N F i j l m r s : ℕ} {bytes table table' table'' out out' out'' : List ℕ} {old middle new : Progress N F} → FastStep i l r bytes old table out middle table' out'
+    → FastStep j m s bytes middle table' out' new table'' out'' → FastStep (i + j) (l + m) (r + s) bytes old table out new table'' out''
+step_then a b = step_on a b (omega (arith, a.taken, b.taken)) (omega (arith, a.taken, b.taken)) (omega (arith, a.written, b.written))
 
 -- a step more, before the end of the bytes and of the output
 pub step_more : {N F i l r : ℕ} {bytes table table' table'' out out' out'' : List ℕ} {old middle new : Progress N F} → FastChunks bytes old table out middle table' out'

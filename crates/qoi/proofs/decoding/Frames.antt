@@ -229,3 +229,6 @@ frames_are_one bytes front rest new offsets ends at images found frames split la
     ∙ behind_frames back ends (drop at bytes) found others in
     let whole : front ≡ back = append_cancel_right front back rest (is ∙ ap (λ z. back ++ z) (sym left)) in
     rw (cut, sym whole, sym (same_offsets front back offsets ends images found frames others whole count)) frames
+
+-- frames are read, and found
+pub ruleset frame_laws = (frame_read, frame_within, frame_stands, frame_count, frame_found, frames_are_one)

@@ -1,5 +1,5 @@
 -- Steps over the pieces of an image, one after another.
-use Rattle.std.proofs.Common.{◌≡◌, ℕ, ◌+◌, ◌-◌, ◌≤◌, List, [], ◌++◌, length, take, drop, min, Bool, Option, Some, Result, arith, refl, sym, ap, ◌∙◌, subst, append-nil, length-append}
+use Rattle.std.proofs.Common.{◌≡◌, ℕ, ◌+◌, ◌-◌, ◌*◌, ◌/◌, ◌≤◌, List, [], ◌++◌, length, take, drop, replicate, min, Bool, Option, Some, Result, arith, refl, sym, ap, ◌∙◌, subst, append-nil, length-append}
 use Rattle.std.proofs.lemmas.List.{length-take-le, take_at}
 use Rattle.std.proofs.lemmas.Result.{MatchResult-weaker}
 use borrow.Rule.Slice.PartMut.{put_mid, mid_of, mid_len, same_len_mid}
@@ -9,9 +9,13 @@ use Rattle.qoi.specs.declared.decode.pixel_reader.unread.Refused.{Refused}
 use Rattle.qoi.specs.declared.decode.conversion.Conversion.{Conversion}
 use Rattle.qoi.specs.declared.types.Channels.TheVariants.{Rgb, Rgba}
 use Rattle.qoi.specs.inner.Chunks.{RefusesFilling, HasFault}
-use Rattle.qoi.specs.inner.Filling.{reached, filling}
-use Rattle.qoi.specs.pieces.Unread.{kept_raw, bytes_left, KeepsPixels, IsUnread, GivesMore, RefusesMore, Steps, StepsIn}
-use Rattle.qoi.proofs.decoding.PieceSteps.{Lent, gives, kept_long, read_two}
+use Rattle.qoi.specs.declared.decode.in_place.InPlace.{InPlace}
+use Rattle.qoi.specs.Raw.{IsChannels}
+use Rattle.qoi.specs.inner.Filling.{HasWritten, upto, reached, filling}
+use Rattle.qoi.specs.inner.Hashed.{pixel_of_lanes}
+use Rattle.qoi.specs.pieces.Unread.{kept_raw, bytes_left, KeepsPixels, IsUnread, GivesMore, RefusesMore, Asks, Steps, StepsIn, TakesInPlace, IsInPlace}
+use Rattle.qoi.proofs.decoding.PieceSteps.{Lent, gives, kept_long, minus_whole, piece_lent, piece_read, placed_most, read_two}
+use Rattle.qoi.proofs.format.WholePixels.{by_channels}
 use Rattle.qoi.proofs.decoding.PixelPieces.{in_three}
 
 -- a step that gives none
@@ -40,6 +44,15 @@ gives_two {f} {c} {ahead} {middle} {rest} {old} {between} {new} {front} {i} more
       left = omega (arith, one.left, two.left);
       fault = two.fault ∙ one.fault;
     }
+
+-- a step that fills what another left of an output
+pub fills_two : {f c : ℕ} {ahead middle rest : Option (List ℕ)} {old between new : Unread} {front : List ℕ} {i : ℕ} (more : List ℕ) (j : ℕ)
+    → GivesMore f c ahead middle old between front i → GivesMore f c middle rest between new more j → length more ≡ length (mid_of i (length front - i) front)
+    → j ≡ length more → GivesMore f c ahead rest old new (put_mid i (length front - i) front more) (length (put_mid i (length front - i) front more))
+fills_two {f} {c} {ahead} {middle} {rest} {old} {between} {new} {front} {i} more j one two same whole =
+    let room = mid_len i (length front) front (omega (arith, one.within)) in
+    let all : i + j ≡ length (put_mid i (length front - i) front more) = omega (arith, same_len_mid i (length front - i) front more same, same, room, one.within, whole) in
+    subst (GivesMore f c ahead rest old new (put_mid i (length front - i) front more)) all (gives_two more j one two same)
 
 -- a step that gives none after another
 pub gives_then_none : {f c : ℕ} {ahead middle rest : Option (List ℕ)} {old between new : Unread} {out : List ℕ} {size : ℕ}
@@ -92,6 +105,27 @@ gives_after_none {f} {c} {ahead} {middle} {rest} {old} {between} {new} {out} {si
   fault = two.fault ∙ one.fault;
 }
 
+-- a piece in place gives what it filled
+pub gives_placed : {f c : ℕ} {ahead rest : Option (List ℕ)} {p : Unread} {before out table : List ℕ} {placed : InPlace} (now behind : List ℕ)
+    → IsChannels c → Asks c p (length before) → 512 ≤ length before → length before + 256 ≤ p.undecoded → length out ≡ length before
+    → HasWritten f c (upto before 0) (upto out (0 + c * (p.run / c))) (replicate (p.run / c) (pixel_of_lanes p.last))
+    → TakesInPlace f c ahead rest (filling p.table (reached p.last p.run) (take (length before / c * c) out)) table now placed
+    → IsInPlace c (length now) placed → length now ≡ length (take (length before / c * c) out)
+    → GivesMore f c ahead rest p (record p { table = table; last = placed.reached.last; run = placed.run; undecoded = p.undecoded - placed.reached.at }) (now ++ behind) placed.reached.at
+gives_placed {f} {c} {ahead} {rest} {p} {before} {out} {table} {placed} now behind is asks long fits same written takes sizes size =
+    let whole = asks.pixels.1 in
+    let room : placed.reached.at + 256 ≤ p.undecoded = omega (arith, sizes.within, size, placed_most c before out is, fits) in
+    let run : placed.run ≤ 248 = by_channels (λ d. placed.run ≤ d * 62 → placed.run ≤ 248) is (λ a. omega (arith, a)) (λ a. omega (arith, a)) sizes.run_short in
+    record {
+      read = λ n start given h.
+          let l = piece_lent p before out is h asks.none whole long fits same written in
+          piece_read l.gone now behind placed h asks.none l.so_far (takes l.gone _ _ l.before) sizes.within (omega (arith, room));
+      within = omega (arith, sizes.within, length-append now behind);
+      pixels = (asks.pixels.0, (minus_whole c p.undecoded placed.reached.at is whole.0 sizes.whole, sizes.run_whole, sizes.run_short, λ some. omega (arith, run, room)));
+      left = omega (arith, room);
+      fault = refl;
+    }
+
 -- kept bytes are given
 pub gives_kept : {f c : ℕ} {ahead : Option (List ℕ)} (p new : Unread) (old out : List ℕ) (k : ℕ) → KeepsPixels c p → k ≡ min (length old) (p.to - p.from)
     → out ≡ take k (kept_raw p) ++ drop k old → new ≡ record p { from = p.from + k } → GivesMore f c ahead ahead p new out k
@@ -108,15 +142,3 @@ gives_kept {f} {c} {ahead} p new old out k pixels few out_is is =
       left = omega (arith, few, within);
       fault = refl;
     })
-
--- an output that is filled by what is kept, and by a step and what it keeps
-pub filled_by : (d m k kept : ℕ) (out long short : List ℕ) → d ≤ length out → length long ≡ length (mid_of d (length out - d) out) → m ≤ length long
-    → length short ≡ length (mid_of (d + m) (length (put_mid d (length out - d) out long) - (d + m)) (put_mid d (length out - d) out long))
-    → k ≡ min (length short) kept → length long ≤ m + kept
-    → (d + m) + k ≡ length (put_mid (d + m) (length (put_mid d (length out - d) out long) - (d + m)) (put_mid d (length out - d) out long) short)
-filled_by d m k kept out long short within long_is some short_is few enough =
-    let two = put_mid d (length out - d) out long in
-    let two_size = same_len_mid d (length out - d) out long long_is in
-    let long_size = mid_len d (length out) out (omega (arith, within)) in
-    let short_size = mid_len (d + m) (length two) two (omega (arith, two_size, long_is, long_size, some, within)) in
-    omega (arith, same_len_mid (d + m) (length two - (d + m)) two short short_is, two_size, long_is, long_size, short_is, short_size, few, enough, within, some)

@@ -1,34 +1,29 @@
 -- A buffer that grows while it is decoded into.
-use Rattle.std.proofs.Common.{◌≡◌, ℕ, ◌+◌, ◌-◌, ◌*◌, ◌/◌, ◌%◌, ◌<◌, ◌≤◌, List, false, Option, None, Some, IfSome, [], ◌∷◌, ◌++◌, length, take, drop, replicate, min, arith, sym, ap, ◌∙◌, subst, length-append}
+use Rattle.std.proofs.Common.{◌≡◌, ℕ, ◌+◌, ◌-◌, ◌*◌, ◌/◌, ◌%◌, ◌<◌, ◌≤◌, List, Bool, false, Option, None, Some, IfSome, inl, refl, [], ◌∷◌, ◌++◌, length, take, drop, replicate, min, arith, sym, ap, ◌∙◌, subst, length-append}
 use Rattle.std.specs.Io.KnownBytes.{Consumes}
 use Rattle.std.proofs.lemmas.List.{length-replicate, take-append-le}
 use lib.Seq.{take-append_seam}
-use Rattle.qoi.specs.declared.chunk.Chunk.{Chunk}
 use Rattle.qoi.specs.declared.decode.chunks.TheConstants.{GROWTH}
 use Rattle.qoi.specs.declared.decode.reached.Reached.{Reached}
-use Rattle.qoi.specs.Qoi.{Past, AreBytes, Each, chunk_bytes, start, then_chunk, then_chunks}
+use Rattle.qoi.specs.Qoi.{Past, chunk_bytes, start, then_chunks}
 use Rattle.qoi.specs.Raw.{IsChannels}
-use Rattle.qoi.specs.Verdicts.{IsPartOfChunk, AreCut, EndsBefore}
+use Rattle.qoi.specs.Verdicts.{IsPartOfChunk}
 use Rattle.qoi.specs.declared.error.Error.TheVariants.{IoError}
 use Rattle.qoi.specs.inner.Hashed.{pixel_of_lanes, HoldsSeen}
 use Rattle.qoi.specs.inner.Filling.{Filling, reached, filling, IsFillable, DecoderBetween}
 use Rattle.qoi.specs.inner.Chunks.{TakesMore, RefusesFilling}
 use Rattle.qoi.proofs.format.WholePixels.{by_channels, whole_pixels}
 use Rattle.qoi.proofs.decoding.LeastBytes.{pixels_most}
-use Rattle.qoi.proofs.decoding.Progress.{fewer, few_left, start_between, stream_ends}
-use Rattle.qoi.proofs.decoding.StreamReads.{cut_before}
-
--- chunks that stand after fewer than m pixels stand after fewer than n, if that is no less
-stays_more : (m n : ℕ) → m ≤ n → (past : Past) (cs : List Chunk) → Each (λ past c. length past < m) past cs → Each (λ past c. length past < n) past cs
-stays_more m n more past [] below = tt
-stays_more m n more past (c ∷ cs) below = (omega (arith, more, below.0), stays_more m n more (then_chunk past c) cs below.1)
+use Rattle.qoi.proofs.decoding.Progress.{fewer, stays_more, start_between}
+use Rattle.std.proofs.KnownBytes.{Consumes-trans}
+use Rattle.qoi.proofs.format.Appended.{length-meaning}
 
 -- if n pixels have more bytes than m, they are more
 more_pixels : (c m n size more : ℕ) → IsChannels c → size ≡ c * m → size + more ≡ c * n → m ≤ n
 more_pixels c m n size more is = by_channels (λ k. size ≡ k * m → size + more ≡ k * n → m ≤ n) is (λ a b. omega arith) (λ a b. omega arith)
 
 -- a buffer that isn't full may have bytes more
-grows : {f c : ℕ} {gone : Past} {m : ℕ} {Taken : List ℕ → Type 0} {table out : List ℕ} {now : Reached} → IsChannels c
+pub grows : {f c : ℕ} {gone : Past} {m : ℕ} {Taken : List ℕ → Type 0} {table out : List ℕ} {now : Reached} → IsChannels c
     → DecoderBetween f c gone m Taken (filling table now out) → now.at < length out → (n : ℕ) (more : List ℕ) → length out + length more ≡ c * n
     → DecoderBetween f c gone n Taken (filling table now (out ++ more))
 grows {c = c} {gone = gone} {m = m} {out = out} {now = now} is s inside n more size =
@@ -50,8 +45,6 @@ grows {c = c} {gone = gone} {m = m} {out = out} {now = now} is s inside n more s
         same = take-append-le now.at out more (omega (arith, inside)) ∙ s.filled.same;
       };
       has_seen = record { table_is = s.has_seen.table_is; last_is = s.has_seen.last_is };
-      within = omega (arith, inside, size_is);
-      whole = s.whole;
     }
 
 -- what stands between two chunks, however many bytes the buffer gets
@@ -80,34 +73,13 @@ grown {f} {c} {Taken} {table} {now} old new len size is g len_is within whole ne
 pub lent_back : (len : ℕ) (buf items : List ℕ) → len ≡ length buf → take len (buf ++ drop (length buf) items) ≡ buf
 lent_back len buf items size = ap (λ k. take k (buf ++ drop (length buf) items)) size ∙ take-append_seam buf (drop (length buf) items)
 
--- after a step that left room
-pub growing_on : {f c m : ℕ} {Taken : List ℕ → Type 0} {table : List ℕ} {now : Reached} (out items : List ℕ) → IsChannels c
-    → DecoderBetween f c [] m Taken (filling table now out) → now.at < length out → items ≡ out → Growing f c Taken table now items
-growing_on {f} {c} {m} {Taken} {table} {now} out items is s inside same = subst (Growing f c Taken table now) (sym same) (grows is s inside)
-
 -- what stands between two chunks can be filled
 pub between_fillable : {f c : ℕ} {gone : Past} {n : ℕ} {Taken : List ℕ → Type 0} {now : Filling} → IsChannels c → DecoderBetween f c gone n Taken now → IsFillable c now.buffer
 between_fillable {c = c} {n = n} {now = now} is s =
-    let size = length now.buffer.out in
-    let whole = by_channels (λ k. size ≡ k * n → size % k ≡ 0) is (λ e. omega arith) (λ e. omega arith) s.filled.room in
-    record { three_or_four = is; within = s.within; whole = (whole, s.whole) }
-
--- if there is room and fewer bytes are left than an end marker has, the bytes are cut for an image
--- of any more pixels
-pub few_left_more : {f c : ℕ} {gone : Past} {n : ℕ} {table out : List ℕ} {now : Reached} (start : Option (List ℕ)) (rest : List ℕ) → IsChannels c
-    → DecoderBetween f c gone n (Consumes start (Some rest)) (filling table now out) → now.at < length out → AreBytes rest → length rest < 8
-    → (k : ℕ) → length gone + n ≤ k → IfSome start (AreCut k)
-few_left_more {f} {c} {gone} {n} {table} {out} {now} start rest is s inside fits few k more =
-    let m = k - length gone in
-    let zeros : List ℕ = replicate (c * m - length out) 0 in
-    let least : length out ≤ c * m = by_channels (λ j. length out ≡ j * n → length out ≤ j * m) is (λ e. omega (arith, more)) (λ e. omega (arith, more)) s.filled.room in
-    let size : length out + length zeros ≡ c * m = omega (arith, least, length-replicate {A = ℕ} (c * m - length out) 0) in
-    let all : length gone + m ≡ k = omega (arith, more) in
-    subst (λ j. IfSome start (AreCut j)) all (few_left start rest is (grows is s inside m zeros size) (omega (arith, inside, length-append out zeros)) fits few)
-
--- a channel or more
-pub some_channels : (c : ℕ) → IsChannels c → 0 < c
-some_channels c is = by_channels (λ k. 0 < k) is (omega arith) (omega arith)
+    let P : ℕ → Type 0 = λ k. length now.buffer.out ≡ k * n → now.buffer.at ≡ k * min n (length s.recent) → (now.buffer.at ≤ length now.buffer.out)
+    × (length now.buffer.out % k ≡ 0) × (now.buffer.at % k ≡ 0) in
+    let all = by_channels P is (λ room at. (omega arith, omega arith, omega arith)) (λ room at. (omega arith, omega arith, omega arith)) s.filled.room s.filled.at_is in
+    record { three_or_four = is; within = all.0; whole = (all.1, all.2) }
 
 -- a step is whole pixels
 pub whole_step : (c len new : ℕ) → IsChannels c → len % c ≡ 0 → new ≡ len + GROWTH * c → new % c ≡ 0
@@ -117,26 +89,22 @@ whole_step c len new is = by_channels (λ k. len % k ≡ 0 → new ≡ len + GRO
 pub fewer_pixels : (c few many : ℕ) → IsChannels c → few ≤ many → few / c ≤ many / c
 fewer_pixels c few many is = by_channels (λ k. few ≤ many → few / k ≤ many / k) is (λ l. omega arith) (λ l. omega arith)
 
--- no bytes are whole pixels
-pub none_whole : (c len : ℕ) → IsChannels c → len ≡ 0 → len % c ≡ 0
-none_whole c len is = by_channels (λ k. len ≡ 0 → len % k ≡ 0) is (λ e. omega arith) (λ e. omega arith)
-
--- what ends before m pixels ends before n, if that is no less
-ends_more : (m n : ℕ) (bytes : List ℕ) → m ≤ n → EndsBefore m bytes → EndsBefore n bytes
-ends_more m n bytes more (cs, part, has, short, is_part) = (
-  cs,
-  part,
-  record { chunks = has.chunks; stays_below = stays_more m n more [] cs has.stays_below; split = has.split },
-  omega (arith, more, short),
-  is_part,
-)
-
 -- if a stream gives no whole chunk, it is refused
-pub stream_refused : {f c : ℕ} {ahead middle : Option (List ℕ)} {old now : Filling} (new : Option (List ℕ)) (part : List ℕ) → IsChannels c → TakesMore f c ahead middle old now
+pub stream_refused : {f c : ℕ} {fits : Bool} {ahead middle : Option (List ℕ)} {old now : Filling} (new : Option (List ℕ)) (part : List ℕ) → TakesMore f c fits ahead middle old now
     → now.buffer.at < length now.buffer.out → Consumes middle new part → IsPartOfChunk part → (e : _) → RefusesFilling f c false ahead new old (IoError e)
-stream_refused new part is on inside took is_part e gone n first h all more =
-    let (taken, so_far, ends) = stream_ends first _ new part is (on.between gone n first h) inside took is_part in
-    (taken, so_far, cut_before all taken (ends_more (length gone + n) all taken more ends))
+stream_refused {middle = middle} new part on inside took is_part e gone n first h all more =
+    let s = on.between gone n first h in (
+      chunk_bytes s.cs ++ part,
+      Consumes-trans first middle new (chunk_bytes s.cs) part s.taken took,
+      (
+        s.cs,
+        part,
+        record {
+          has = record { chunks = s.chunks; stays_below = stays_more (length gone + n) all more [] s.cs s.stays_below; split = refl };
+          ends = inl (rw length-meaning (omega (arith, fewer on.fillable.three_or_four s.filled inside, ap length s.pixels, length-append s.recent gone, more)), is_part);
+        },
+      ),
+    )
 
 -- what is written is at most 248 bytes for each byte ahead
 pub written_most : {f c : ℕ} {gone : Past} {n : ℕ} {now : Filling} (start new : Option (List ℕ)) → IsChannels c → DecoderBetween f c gone n (Consumes start new) now

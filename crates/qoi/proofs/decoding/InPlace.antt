@@ -7,26 +7,18 @@ use Rattle.std.proofs.Math.Seq.{take-add}
 use Rattle.qoi.specs.declared.chunk.Chunk.TheVariants.{Run}
 use Rattle.qoi.specs.declared.decode.in_place.InPlace.{InPlace}
 use Rattle.qoi.specs.declared.decode.reached.Reached.{Reached}
-use Rattle.qoi.specs.Qoi.{Past, RgbaPixel, bytes_of, chunk_bytes, then_chunk, previous}
+use Rattle.qoi.specs.Qoi.{Past, RgbaPixel, bytes_of, chunk_bytes, then_chunk, previous, IsChunk}
 use Rattle.qoi.specs.Raw.{IsChannels, output}
 use Rattle.qoi.specs.inner.Hashed.{pixel_of_lanes, HoldsSeen}
 use Rattle.qoi.specs.inner.Filling.{upto, Filling, filling, HasWritten, DecoderBetween, IsFrontAfter}
-use Rattle.qoi.specs.pieces.InPlace.{TakesPiece}
-use Rattle.qoi.specs.pieces.Unread.{copies, DecoderAfter}
-use Rattle.qoi.proofs.format.Appended.{are_chunks_append, chunk_bytes-last}
+use Rattle.qoi.specs.pieces.Unread.{copies, DecoderAfter, TakesPiece}
+use Rattle.qoi.proofs.format.Appended.{chunk_bytes-last, all_append}
 use Rattle.qoi.proofs.format.ChunkSteps.{then_chunks-append}
 use Rattle.qoi.proofs.format.SeenTable.{holds_seen_copies, previous_copies}
 use Rattle.qoi.proofs.format.WholePixels.{by_channels}
 use Rattle.qoi.proofs.decoding.FirstChunk.{front_1}
 use Rattle.qoi.proofs.decoding.Progress.{front_of_none}
-use Rattle.qoi.proofs.decoding.PieceSteps.{closes, no_copies, output_copies}
-
--- chunks that end before the output leave nothing of a run
-pub piece_stops : {f c n : ℕ} {gone : Past} {Taken : List ℕ → Type 0} {table : List ℕ} {now : Reached} (out : List ℕ) (taken : ℕ) → IsChannels c → now.at < length out
-    → DecoderBetween f c gone n Taken (filling table now out) → TakesPiece f c gone Taken table out (record { taken = taken; reached = now; run = 0 })
-piece_stops {f} {c} {gone = gone} {Taken} {table} {now} out taken is inside h =
-    let (all, after, e) = closes (output f c (reverse gone)) out is h inside refl in
-    record { all = all; after = subst (DecoderAfter Taken table now.last) (sym (no_copies c 0 now.last all is refl)) after; bytes_are = e }
+use Rattle.qoi.proofs.decoding.PieceSteps.{closes, output_copies}
 
 -- a run more
 then_run : {Taken Taken' : List ℕ → Type 0} {table table' : List ℕ} {last : ℕ} {all : Past} (count : ℕ) → 0 < count → count ≤ 62 → DecoderAfter Taken table last all
@@ -37,7 +29,7 @@ then_run {Taken' = Taken'} {table' = table'} {last = last} {all = all} count som
     let same : replicate count (previous all) ++ all ≡ replicate count p ++ all = ap (λ q. replicate count q ++ all) (sym s.last_is) in
     record {
       cs = s.cs ++ Run count ∷ [];
-      chunks = are_chunks_append s.cs (Run count ∷ []) s.chunks ((some, most), tt);
+      chunks = all_append IsChunk s.cs (Run count ∷ []) s.chunks ((some, most), tt);
       pixels = then_chunks-append [] s.cs (Run count ∷ []) ∙ ap (λ z. then_chunk z (Run count)) s.pixels ∙ same;
       taken = subst Taken' (sym (chunk_bytes-last s.cs (Run count))) (takes (chunk_bytes s.cs) s.taken);
       table_is = holds_seen_copies table' p all count some (put all s.table_is);

@@ -4,8 +4,8 @@ use Rattle.std.proofs.lemmas.List.{drop_at}
 use Rattle.qoi.specs.Decoded.{HasHeader}
 use Rattle.qoi.specs.DecoderState.{DecoderState}
 use Rattle.qoi.specs.Qoi.{channels_number, header_size, IsValid}
-use Rattle.qoi.specs.pieces.Mark.{MarkState, mark_of, reader_at, MarksGiven, MarksRows}
-use Rattle.qoi.specs.pieces.PixelReader.{PixelsState, HasGiven, HasRows}
+use Rattle.qoi.specs.pieces.Mark.{MarkState, mark_of, reader_at, MarksGiven}
+use Rattle.qoi.specs.pieces.PixelReader.{PixelsState, HasGiven}
 use Rattle.qoi.specs.pieces.Unread.{KeepsPixels}
 use Rattle.qoi.proofs.decoding.Appended.{given_then}
 
@@ -31,11 +31,6 @@ marks_given d e file bytes given p m is made h =
     subst (λ (m : MarkState). (rest : List ℕ) × (m.at + length rest ≡ header_size + length bytes) × HasGiven d (Some bytes) (Some rest) given (reader_at m rest)) (sym is)
     (p.reader, at, h)
 
-pub marks_rows : (d e : DecoderState (List ℕ)) (file bytes : List ℕ) (stride k : ℕ) (p : PixelsState (List ℕ)) (m : MarkState) → m ≡ mark_of (length file - length p.reader) p
-    → HasHeader e (Some file) (Some bytes) → HasRows d (Some bytes) (Some p.reader) stride k p → MarksRows d bytes stride k m
-unfolding HasRows MarksRows
-marks_rows d e file bytes stride k p m is made (given, many, h) = (given, many, marks_given d e file bytes given p m is made h)
-
 -- the same if bytes are appended
 pub marks_then : (d e : DecoderState (List ℕ)) (file bytes given more : List ℕ) (p : PixelsState (List ℕ)) (m : MarkState) → m ≡ mark_of (length file - length p.reader) p
     → IsValid p.header → (p.refused ≡ false → KeepsPixels (channels_number p.channels) p.unread)
@@ -48,12 +43,6 @@ marks_then d e file bytes given more p m is valid keeps made h =
       omega (arith, at, length-append rest more, length-append bytes more),
       given_then d bytes rest given more _ _ valid refl refl refl refl keeps h,
     ))
-
-pub marks_rows_then : (d e : DecoderState (List ℕ)) (file bytes more : List ℕ) (stride k : ℕ) (p : PixelsState (List ℕ)) (m : MarkState) → m ≡ mark_of (length file - length p.reader) p
-    → IsValid p.header → (p.refused ≡ false → KeepsPixels (channels_number p.channels) p.unread)
-    → HasHeader e (Some file) (Some bytes) → HasRows d (Some bytes) (Some p.reader) stride k p → MarksRows d (bytes ++ more) stride k m
-unfolding HasRows MarksRows
-marks_rows_then d e file bytes more stride k p m is valid keeps made (given, many, h) = (given, many, marks_then d e file bytes given more p m is valid keeps made h)
 
 -- a reader of which it was read goes on behind the mark
 pub goes_on_at : (d e : DecoderState (List ℕ)) (file bytes given : List ℕ) (m : MarkState) → HasHeader e (Some file) (Some bytes) → MarksGiven d bytes given m

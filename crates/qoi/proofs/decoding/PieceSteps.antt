@@ -15,8 +15,7 @@ use Rattle.qoi.specs.Raw.{IsChannels, pixel_bytes, output}
 use Rattle.qoi.specs.Decoding.{ReadsImage}
 use Rattle.qoi.specs.inner.Filling.{HasSeen, HasWritten, upto, reached, filling, DecoderBetween}
 use Rattle.qoi.specs.inner.Hashed.{pixel_of_lanes}
-use Rattle.qoi.specs.pieces.InPlace.{TakesPiece}
-use Rattle.qoi.specs.pieces.Unread.{kept_raw, bytes_left, copies, KeepsWithin, KeepsNothing, AreWhole, DecoderAfter, IsUnread}
+use Rattle.qoi.specs.pieces.Unread.{kept_raw, bytes_left, copies, KeepsWithin, KeepsNothing, AreWhole, DecoderAfter, IsUnread, TakesPiece}
 use Rattle.qoi.proofs.format.ChunkSteps.{times_some, reverse-replicate, length-then_chunks}
 use Rattle.qoi.proofs.format.WholePixels.{by_channels, whole_pixels, length-output, take_whole}
 use Rattle.qoi.proofs.decoding.Progress.{fewer, none_written}
@@ -85,7 +84,7 @@ from_none : (n : ℕ) → n ≡ 0 + n
 from_none n = omega arith
 
 -- no bytes, no copies
-pub no_copies : (c run last : ℕ) (gone : Past) → IsChannels c → run ≡ 0 → copies c run last ++ gone ≡ gone
+no_copies : (c run last : ℕ) (gone : Past) → IsChannels c → run ≡ 0 → copies c run last ++ gone ≡ gone
 no_copies c run last gone is none = ap (λ z. z ++ gone) (by_channels (λ d. run ≡ 0 → copies d run last ≡ []) is (λ e. rw e refl) (λ e. rw e refl) none)
 
 -- the whole pixels in so many bytes
@@ -126,8 +125,6 @@ begun {f} {c} {gone} {Taken} {table} {last} m run out is s size whole fits bytes
         same = bytes ∙ sym (take_all run (output f c recent) (omega (arith, long))) ∙ ap (λ z. take run (output f c z)) (sym (reverse-replicate (run / c) (pixel_of_lanes last)));
       };
       has_seen = subst (HasSeen (filling table (reached last run) out)) (sym s.pixels) (record { table_is = s.table_is; last_is = s.last_is });
-      within = fits;
-      whole = whole;
     }
   where
     least : (m k : ℕ) → k ≤ m → min m k ≡ k
@@ -228,17 +225,22 @@ piece_read {f} {c} {n} {start} {old} {new} {given} {p} {table} gone now rest pla
       ends = λ none. absurd (omega (arith, none, fits));
     }
 
+-- chunks that end before the output leave nothing of a run
+pub piece_stops : {f c n : ℕ} {gone : Past} {Taken : List ℕ → Type 0} {table : List ℕ} {now : Reached} (out : List ℕ) (taken : ℕ) → IsChannels c → now.at < length out
+    → DecoderBetween f c gone n Taken (filling table now out) → TakesPiece f c gone Taken table out (record { taken = taken; reached = now; run = 0 })
+piece_stops {f} {c} {gone = gone} {Taken} {table} {now} out taken is inside h =
+    let (all, after, e) = closes (output f c (reverse gone)) out is h inside refl in
+    record { all = all; after = subst (DecoderAfter Taken table now.last) (sym (no_copies c 0 now.last all is refl)) after; bytes_are = e }
+
 -- chunks were decoded into what was lent
 pub long_read : {f c n m : ℕ} {start old new : Option (List ℕ)} {given : List ℕ} {p : Unread} {out : List ℕ} {table : List ℕ} {to : Reached}
     (now rest : List ℕ) → IsChannels c → IsUnread f c n start old given p → KeepsNothing p → (l : Lent f c n m start old given p out 0)
     → DecoderBetween f c l.gone m (Consumes start new) (filling table to now) → to.at < length now → length now ≤ p.undecoded
     → IsUnread f c n start new (given ++ take to.at (now ++ rest)) (record p { table = table; last = to.last; undecoded = p.undecoded - to.at })
 long_read {f} {c} {n} {m} {start} {old} {new} {given} {p} {out} {table} {to} now rest is h same l after inside fits =
-    let (all, stands, e) = closes (output f c (reverse l.gone)) now is after inside refl in
     let placed : InPlace = record { taken = 0; reached = to; run = 0 } in
-    let t : TakesPiece f c l.gone (Consumes start new) table now placed = record { all = all; after = subst (DecoderAfter (Consumes start new) table to.last) (sym (no_copies c 0 to.last all is refl)) stands; bytes_are = e } in
     subst (λ k. IsUnread f c n start new (given ++ take to.at (now ++ rest)) (record p { table = table; last = to.last; run = k; undecoded = p.undecoded - to.at })) (sym same.1)
-    (piece_read l.gone now rest placed h same.0 l.so_far t (omega (arith, inside)) (omega (arith, inside, fits)))
+    (piece_read l.gone now rest placed h same.0 l.so_far (piece_stops now 0 is inside after) (omega (arith, inside)) (omega (arith, inside, fits)))
 
 -- chunks were decoded into the front of what is kept
 pub kept_read : {f c n m : ℕ} {start old new : Option (List ℕ)} {given : List ℕ} {p : Unread} {out : List ℕ} {table : List ℕ} {to : Reached}

@@ -1,6 +1,7 @@
--- What was given of an image, as a caller sees it.
-use Rattle.std.proofs.Common.{◌≡◌, ℕ, ◌+◌, ◌<◌, ◌≤◌, ◌^◌, List, length, Bool, true, false, Option, arith, refl, ◌∙◌, subst}
-use Rattle.std.proofs.Math.Nat.{mul_comm}
+-- What was given of an image, and rows of it, as a caller sees it.
+use Rattle.std.proofs.Common.{◌≡◌, ℕ, ◌+◌, ◌*◌, ◌<◌, ◌≤◌, ◌^◌, List, ◌++◌, length, take, drop, Bool, true, false, Option, arith, refl, sym, ap, ◌∙◌, subst, length-append}
+use Rattle.std.proofs.Math.Nat.{mul_comm, mul-add}
+use Rattle.std.proofs.lemmas.List.{take_all}
 use Rattle.std.proofs.KnownBytes.{Keeps-refl}
 use Rattle.qoi.specs.declared.error.Error.{Error}
 use Rattle.qoi.specs.declared.header.Header.{Header}
@@ -11,9 +12,11 @@ use Rattle.qoi.specs.Qoi.{channels_number, pixel_count, IsValid}
 use Rattle.qoi.specs.Raw.{byte_count}
 use Rattle.qoi.specs.Decoding.{ReadsImage}
 use Rattle.qoi.specs.DecoderState.{DecoderState, output_byte_count}
-use Rattle.qoi.specs.pieces.PixelReader.{PixelsState, pixels_left, HasGiven, RefusesPixels}
+use Rattle.qoi.specs.pieces.PixelReader.{PixelsState, pixels_left, HasGiven, HasRows, RefusesPixels}
+use Rattle.qoi.specs.Rectangles.{rectangle}
 use Rattle.qoi.specs.inner.Chunks.{RefusesChunks}
 use Rattle.qoi.specs.pieces.Unread.{bytes_left, KeepsPixels, IsUnread}
+use Rattle.qoi.proofs.format.RectangleLaws.{whole_rows}
 use Rattle.qoi.proofs.decoding.PieceFront.{front_given, unread_within}
 use Rattle.qoi.proofs.decoding.PieceSteps.{none_kept}
 use Rattle.qoi.proofs.decoding.ImageSize.{channels_are}
@@ -67,3 +70,21 @@ pub unread_of : {start : Option (List ℕ)} {given : List ℕ} {h g : Header} {c
     → IsUnread (channels_number g.channels) (channels_number k) (pixel_count g) start other given q
     → IsUnread (channels_number h.channels) (channels_number c) (pixel_count h) start now given p
 unread_of header channels ahead unread x = rw (header, channels, ahead, unread) x
+
+-- what fills a buffer of n rows is n rows more
+pub rows_more : {R : Type 0} (d : DecoderState R) (start now : Option (List ℕ)) (stride k n size : ℕ) (given rows : List ℕ) (p : PixelsState R)
+    → HasGiven d start now (given ++ take size rows) p → length given ≡ stride * k → length rows ≡ stride * n → stride * n ≤ size
+    → HasRows d start now stride (k + n) p
+unfolding HasRows
+rows_more d start now stride k n size given rows p h before long fills = (
+  given ++ take size rows,
+  omega (arith, before, length-append given (take size rows), ap length (take_all size rows (omega (arith, long, fills))), long, mul-add stride k n),
+  h,
+)
+
+-- and they are the next ones
+pub rows_next : (image given rows : List ℕ) (stride k n size : ℕ) → take size rows ≡ take size (drop (length given) image) → length given ≡ stride * k
+    → length rows ≡ stride * n → size ≡ stride * n → rows ≡ rectangle stride k 0 n stride image
+rows_next image given rows stride k n size follows before long is =
+    sym (take_all size rows (omega (arith, long, is))) ∙ follows ∙ ap (λ m. take m (drop (length given) image)) is
+    ∙ ap (λ m. take (stride * n) (drop m image)) before ∙ sym (whole_rows stride k n image)

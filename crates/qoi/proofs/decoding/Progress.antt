@@ -1,21 +1,22 @@
 -- A decoder between two chunks: what it has taken, filled and seen.
-use Rattle.std.proofs.Common.{◌≡◌, ℕ, suc, ◌+◌, ◌*◌, ◌/◌, ◌%◌, ◌<◌, ◌≤◌, inl, inr, List, [], ◌∷◌, ◌++◌, length, take, drop, take-append-drop, replicate, reverse, min, Bool, true, false, Option, None, Some, IfSome, arith, refl, sym, ap, ◌∙◌, subst, append_assoc, append-nil, length-append}
-use Rattle.qoi.specs.Qoi.{RgbaPixel, Past, AreBytes, start, bytes_of, chunk_bytes, pixel_after, times, then_chunks, meaning, Reaches, end_marker}
+use Rattle.std.proofs.Common.{◌≡◌, ℕ, suc, ◌+◌, ◌*◌, ◌/◌, ◌%◌, ◌<◌, ◌≤◌, inl, inr, List, [], ◌∷◌, ◌++◌, length, take, drop, take-append-drop, replicate, reverse, min, Bool, true, false, IsTrue, Option, None, Some, IfSome, arith, refl, sym, ap, ◌∙◌, subst, append_assoc, append-nil, length-append}
+use Rattle.qoi.specs.Qoi.{RgbaPixel, Past, AreBytes, start, bytes_of, chunk_bytes, pixel_after, times, then_chunks, meaning, Reaches, end_marker, IsChunk, Each, then_chunk}
 use Rattle.std.specs.Io.KnownBytes.{Consumes}
 use Rattle.std.proofs.KnownBytes.{Consumes-nil, Consumes-trans}
 use Rattle.qoi.specs.Raw.{IsChannels, pixel_bytes, output}
-use Rattle.qoi.specs.inner.Filling.{Buffer, Filling, upto, reached, filling, HasFilled, IsFillable, DecodesChunk, DecoderBetween, IsFrontAfter, TakesOn}
+use Rattle.qoi.specs.inner.Filling.{Buffer, Filling, upto, reached, filling, HasFilled, IsFillable, HasRoom, FillsMore, DecodesChunk, DecoderBetween, IsFrontAfter, TakesOn}
 use Rattle.qoi.specs.inner.Chunks.{TakesMore, TakesChunks, RefusesChunks, ReadsRest, RefusesRest}
 use Rattle.qoi.specs.inner.Hashed.{pixel_of_lanes, HoldsSeen}
-use Rattle.qoi.specs.Verdicts.{IsPartOfChunk, EndsBefore, AreCut}
+use Rattle.qoi.specs.Verdicts.{AreCut}
 use Rattle.qoi.specs.Decoding.{ReadsImage, TakesBytes, RefusesMarker, RefusesTakenMarker}
 use Rattle.qoi.specs.declared.error.Error.{Error}
+use Rattle.qoi.specs.declared.chunk.Chunk.{Chunk}
 use Rattle.qoi.proofs.format.ChunkSteps.{times_some, then_chunks-append, each_append}
 use Rattle.std.proofs.lemmas.Grind.{flat_map-append}
 use Rattle.std.proofs.lemmas.List.{length-reverse, reverse-append}
 use Rattle.std.proofs.Math.Seq.{take-append-add}
 use Rattle.qoi.proofs.format.SomeVerdict.{reading_of}
-use Rattle.qoi.proofs.format.Appended.{are_chunks_append, chunk_bytes-last, length-meaning}
+use Rattle.qoi.proofs.format.Appended.{all_append, chunk_bytes-last, length-meaning}
 use Rattle.qoi.proofs.format.WholePixels.{by_channels, whole_pixels}
 use Rattle.qoi.proofs.decoding.FilledBuffer.{counts, filled_all}
 use Rattle.qoi.proofs.format.SeenTable.{previous_copies}
@@ -50,8 +51,6 @@ start_between f c Taken table last out is whole blank opaque none_taken = record
   taken = none_taken;
   filled = record { room = whole_pixels c (length out) is whole; at_is = none c is; same = refl };
   has_seen = record { table_is = blank; last_is = opaque };
-  within = omega arith;
-  whole = none_written c is;
 }
   where
     none : (c : ℕ) → IsChannels c → 0 ≡ c * min (length out / c) 0
@@ -61,8 +60,8 @@ start_between f c Taken table last out is whole blank opaque none_taken = record
 -- one more chunk, its pixels written and seen
 pub goes_on : {f c : ℕ} {gone : Past} {n : ℕ} {Taken Taken' : List ℕ → Type 0} {old new : Filling} {bytes : List ℕ} → IsChannels c → DecoderBetween f c gone n Taken old
     → old.buffer.at < length old.buffer.out → DecodesChunk f c bytes old new
-    → ((before : List ℕ) → Taken before → Taken' (before ++ bytes)) → new.buffer.at ≤ length new.buffer.out → new.buffer.at % c ≡ 0 → DecoderBetween f c gone n Taken' new
-goes_on {f} {c} {gone} {n} {Taken} {Taken'} {old} {new} {bytes} is s inside g takes within whole =
+    → ((before : List ℕ) → Taken before → Taken' (before ++ bytes)) → DecoderBetween f c gone n Taken' new
+goes_on {f} {c} {gone} {n} {Taken} {Taken'} {old} {new} {bytes} is s inside g takes =
     let chunk = g.chunk in
     let past = then_chunks [] s.cs in
     let pushed = then_chunks-append [] s.cs (chunk ∷ []) in
@@ -74,23 +73,28 @@ goes_on {f} {c} {gone} {n} {Taken} {Taken'} {old} {new} {bytes} is s inside g ta
     let below : length past < length gone + n = omega (arith, fewer is s.filled inside, ap length s.pixels, length-append s.recent gone) in
     record {
       cs = s.cs ++ chunk ∷ [];
-      chunks = are_chunks_append s.cs (chunk ∷ []) s.chunks (g.is_chunk, tt);
+      chunks = all_append IsChunk s.cs (chunk ∷ []) s.chunks (g.is_chunk, tt);
       recent = copies ++ s.recent;
       pixels = pushed ∙ ap (λ z. copies ++ z) s.pixels ∙ sym (append_assoc copies s.recent gone);
       stays_below = each_append (λ past c. length past < length gone + n) [] s.cs (chunk ∷ []) s.stays_below (below, tt);
       taken = subst Taken' (ap (λ z. chunk_bytes s.cs ++ z) g.bytes_are ∙ sym (chunk_bytes-last s.cs chunk)) (takes (chunk_bytes s.cs) s.taken);
       filled = filled;
       has_seen = rw pushed has_seen;
-      within = within;
-      whole = whole;
     }
 
--- the same of a chunk that was taken from the bytes ahead
-pub takes_chunk : {f c : ℕ} {ahead middle rest : Option (List ℕ)} {old now new : Filling} {bytes : List ℕ} → IsChannels c → TakesMore f c ahead middle old now
-    → now.buffer.at < length now.buffer.out → DecodesChunk f c bytes now new → Consumes middle rest bytes → IsFillable c new.buffer → TakesMore f c ahead rest old new
-takes_chunk {middle = middle} {rest = rest} {bytes = bytes} is on inside decoded took to = record {
+-- no chunk was taken
+pub none_taken : {f c : ℕ} {ahead : Option (List ℕ)} {now : Filling} → IsFillable c now.buffer → TakesMore f c true ahead ahead now now
+none_taken is = record { between = λ gone n start h. h; fillable = is; on = omega arith; below = λ _ inside. inside }
+
+-- one more was taken from the bytes ahead
+pub takes_chunk : {f c : ℕ} {fits : Bool} {ahead middle rest : Option (List ℕ)} {old now new : Filling} {bytes : List ℕ} → TakesMore f c fits ahead middle old now
+    → HasRoom c fits now.buffer → DecodesChunk f c bytes now new → Consumes middle rest bytes → FillsMore c 1 256 now.buffer new.buffer → TakesMore f c fits ahead rest old new
+takes_chunk {middle = middle} {rest = rest} {bytes = bytes} so_far room decoded took more = record {
   between = λ gone n first h.
-      goes_on is (on.between gone n first h) inside decoded (λ before so_far. Consumes-trans first middle rest before bytes so_far took) to.within to.whole.1;
+      goes_on room.fillable.three_or_four (so_far.between gone n first h) room.inside decoded (λ before taken. Consumes-trans first middle rest before bytes taken took);
+  fillable = more.fillable;
+  on = omega (arith, so_far.on, more.on);
+  below = λ fit _. more.below (room.vectors fit);
 }
 
 -- if the buffer is full, the chunks reach n pixels, and it holds the first n
@@ -110,7 +114,7 @@ reads_all {f} {c} {gone} {n} {Taken} {now} is s full =
 
 -- what was taken, said in another way
 pub taken_as : {f c : ℕ} {gone : Past} {n : ℕ} {Taken Taken' : List ℕ → Type 0} {now : Filling} → (s : DecoderBetween f c gone n Taken now) → Taken' (chunk_bytes s.cs) → DecoderBetween f c gone n Taken' now
-taken_as s taken = record { cs = s.cs; chunks = s.chunks; recent = s.recent; pixels = s.pixels; stays_below = s.stays_below; taken = taken; filled = s.filled; has_seen = s.has_seen; within = s.within; whole = s.whole }
+taken_as s taken = record { cs = s.cs; chunks = s.chunks; recent = s.recent; pixels = s.pixels; stays_below = s.stays_below; taken = taken; filled = s.filled; has_seen = s.has_seen }
 
 -- no byte of a slice was taken yet
 pub front_of_none : {f c : ℕ} {gone : Past} {n : ℕ} {Taken : List ℕ → Type 0} {now : Filling} (bytes : List ℕ) → (s : DecoderBetween f c gone n Taken now) → DecoderBetween f c gone n (IsFrontAfter (chunk_bytes s.cs) bytes 0) now
@@ -122,30 +126,42 @@ split_taken {bytes} size back = sym (take-append-drop size bytes) ∙ ap (λ z. 
 
 -- the front of what a reader showed was taken
 pub front_taken : {f c : ℕ} {ahead rest : Option (List ℕ)} {old new : Filling} (bytes : List ℕ) (size : ℕ) → TakesOn f c bytes 0 size old new → Consumes ahead rest (take size bytes)
-    → TakesMore f c ahead rest old new
+    → TakesMore f c true ahead rest old new
 front_taken {ahead = ahead} {rest = rest} bytes size fast took = record {
   between = λ gone n first h.
-      let s = fast gone n (chunk_bytes h.cs) (front_of_none bytes h) in
+      let s = fast.between gone n (chunk_bytes h.cs) (front_of_none bytes h) in
       taken_as s (subst (Consumes first rest) (sym s.taken) (Consumes-trans first ahead rest (chunk_bytes h.cs) (take size bytes) h.taken took));
+  fillable = fast.fills.fillable;
+  on = omega (arith, fast.fills.on);
+  below = λ _ inside. fast.fills.below (omega (arith, inside));
 }
 
 -- chunks were taken, and then more of them
-pub chunks_after : {f c : ℕ} {runs_fit : Bool} {ahead middle rest : Option (List ℕ)} {old now new : Filling} → TakesMore f c ahead middle old now
-    → (old.buffer.at < length old.buffer.out → now.buffer.at < length now.buffer.out) → TakesChunks f c runs_fit middle rest now new → TakesChunks f c runs_fit ahead rest old new
-chunks_after on below r = record {
-  goes_on = record { between = λ gone n first h. r.goes_on.between gone n first (on.between gone n first h) };
-  fillable = r.fillable;
-  below = λ fits inside. r.below fits (below inside);
-  filled = r.filled;
-  full = r.full;
+pub more_after : {f c : ℕ} {fits first then : Bool} {ahead middle rest : Option (List ℕ)} {old now new : Filling} → (IsTrue fits → IsTrue first × IsTrue then)
+    → TakesMore f c first ahead middle old now → TakesMore f c then middle rest now new → TakesMore f c fits ahead rest old new
+more_after both a b = record {
+  between = λ gone n start h. b.between gone n start (a.between gone n start h);
+  fillable = b.fillable;
+  on = omega (arith, a.on, b.on);
+  below = λ fit inside. b.below (both fit).1 (a.below (both fit).0 inside);
 }
 
--- if there is room and fewer bytes are left than an end marker has, the bytes are cut
-pub few_left : {f c : ℕ} {gone : Past} {n : ℕ} {now : Filling} (start : Option (List ℕ)) (rest : List ℕ) → IsChannels c → DecoderBetween f c gone n (Consumes start (Some rest)) now
-    → now.buffer.at < length now.buffer.out → AreBytes rest → length rest < 8 → IfSome start (AreCut (length gone + n))
-few_left None rest is s inside fits few = tt
-few_left {gone = gone} {n = n} (Some bytes) rest is s inside fits few =
-    let m = length gone + n in
+-- the same up to where those stop
+pub chunks_after : {f c : ℕ} {fits : Bool} {ahead middle rest : Option (List ℕ)} {old now new : Filling} → TakesMore f c true ahead middle old now
+    → TakesChunks f c fits middle rest now new → TakesChunks f c fits ahead rest old new
+chunks_after on r = record { goes_on = more_after (λ fit. (refl, fit)) on r.goes_on; filled = r.filled; full = r.full }
+
+-- chunks that stand after fewer than m pixels stand after fewer than n, if that is no less
+pub stays_more : (m n : ℕ) → m ≤ n → (past : Past) (cs : List Chunk) → Each (λ past c. length past < m) past cs → Each (λ past c. length past < n) past cs
+stays_more m n more past [] below = tt
+stays_more m n more past (c ∷ cs) below = (omega (arith, more, below.0), stays_more m n more (then_chunk past c) cs below.1)
+
+-- if fewer bytes are left than an end marker has, the bytes are cut for an image of the pixels that are
+-- gone and those that fit, or of more
+pub few_left : {f c : ℕ} {gone : Past} {n : ℕ} {now : Filling} (start : Option (List ℕ)) (rest : List ℕ) → DecoderBetween f c gone n (Consumes start (Some rest)) now
+    → AreBytes rest → length rest < 8 → (m : ℕ) → length gone + n ≤ m → IfSome start (AreCut m)
+few_left None rest s fits few m more = tt
+few_left {gone = gone} {n = n} (Some bytes) rest s fits few m more =
     let r = reading_of (suc (length rest)) m (then_chunks [] s.cs) rest (omega arith) fits in
     let all = s.cs ++ r.found in
     let pushed = then_chunks-append [] s.cs r.found in
@@ -154,8 +170,8 @@ few_left {gone = gone} {n = n} (Some bytes) rest is s inside fits few =
       r.rest,
       record {
         has = record {
-          chunks = are_chunks_append s.cs r.found s.chunks r.chunks;
-          stays_below = each_append (λ past c. length past < m) [] s.cs r.found s.stays_below r.stays_below;
+          chunks = all_append IsChunk s.cs r.found s.chunks r.chunks;
+          stays_below = each_append (λ past c. length past < m) [] s.cs r.found (stays_more (length gone + n) m more [] s.cs s.stays_below) r.stays_below;
           split = s.taken ∙ ap (λ z. chunk_bytes s.cs ++ z) r.split ∙ sym (append_assoc (chunk_bytes s.cs) (chunk_bytes r.found) r.rest)
               ∙ ap (λ z. z ++ r.rest) (sym (flat_map-append bytes_of s.cs r.found));
         };
@@ -171,7 +187,7 @@ pub reads_rest : {f c : ℕ} {ahead middle rest : Option (List ℕ)} {old new : 
     → ReadsRest f c ahead rest old new.buffer.out
 reads_rest {middle = middle} {rest = rest} t took gone n first h =
     let s = t.goes_on.between gone n first h in
-    let all = reads_all t.fillable.three_or_four s (t.full refl) in
+    let all = reads_all t.goes_on.fillable.three_or_four s (t.full refl) in
     record { cs = s.cs; chunks = s.chunks; reaches = all.0; taken = Consumes-trans first middle rest (chunk_bytes s.cs) end_marker s.taken took; out_is = all.1 }
 
 -- or refused in memory
@@ -180,7 +196,7 @@ pub refuses_slice : {f c : ℕ} {bytes middle : List ℕ} {old new : Filling} (r
 refuses_slice rest e t why gone n None h = tt
 refuses_slice {middle = middle} rest e t why gone n (Some first) h =
     let s = t.goes_on.between gone n (Some first) h in
-    bytes_refused (length gone + n) first middle s.cs s.chunks (reads_all t.fillable.three_or_four s (t.full refl)).0 s.taken e why
+    bytes_refused (length gone + n) first middle s.cs s.chunks (reads_all t.goes_on.fillable.three_or_four s (t.full refl)).0 s.taken e why
 
 -- or on a stream
 pub refuses_stream : {f c : ℕ} {ahead middle : Option (List ℕ)} {old new : Filling} (rest : Option (List ℕ)) (e : Error) → TakesChunks f c false ahead middle old new
@@ -189,7 +205,7 @@ refuses_stream {middle = middle} rest e t (taken, more, why) gone n first h =
     let s = t.goes_on.between gone n first h in (
       chunk_bytes s.cs ++ taken,
       Consumes-trans first middle rest (chunk_bytes s.cs) taken s.taken more,
-      refused_after (length gone + n) s.cs s.chunks (reads_all t.fillable.three_or_four s (t.full refl)).0 taken e why,
+      refused_after (length gone + n) s.cs s.chunks (reads_all t.goes_on.fillable.three_or_four s (t.full refl)).0 taken e why,
     )
 
 -- the same of a whole image
@@ -209,13 +225,3 @@ pub refuses_all_of : {f c last : ℕ} {ahead : Option (List ℕ)} {table old : L
 refuses_all_of {f} {c} {last} {ahead} {table} {old} in_memory rest e is whole blank opaque r =
     subst (λ k. RefusesChunks in_memory k ahead rest e) (none_more (length old / c))
     (r [] _ _ (start_between f c (Consumes ahead ahead) table last old is whole blank opaque (Consumes-nil ahead)))
-
--- if a stream gives no whole chunk, what was taken ends before n pixels
-pub stream_ends : {f c : ℕ} {gone : Past} {n : ℕ} (old middle new : Option (List ℕ)) (part : List ℕ) {now : Filling} → IsChannels c → DecoderBetween f c gone n (Consumes old middle) now
-    → now.buffer.at < length now.buffer.out → Consumes middle new part → IsPartOfChunk part
-    → (taken : List ℕ) × Consumes old new taken × EndsBefore (length gone + n) taken
-stream_ends {gone = gone} old middle new part is s inside took is_part = (
-  chunk_bytes s.cs ++ part,
-  Consumes-trans old middle new (chunk_bytes s.cs) part s.taken took,
-  (s.cs, part, record { chunks = s.chunks; stays_below = s.stays_below; split = refl }, rw length-meaning (omega (arith, fewer is s.filled inside, ap length s.pixels, length-append s.recent gone)), is_part),
-)

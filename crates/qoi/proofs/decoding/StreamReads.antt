@@ -1,7 +1,9 @@
 -- What was read from a stream, piece after piece, and why an image is refused.
-use Rattle.std.proofs.Common.{◌≡◌, ◌≢◌, ℕ, zero, suc, ◌+◌, ◌<◌, ◌≤◌, ◌-◌, ◌⊎◌, inl, inr, List, [], ◌∷◌, ◌++◌, length, get_or, take, drop, take-append-drop, arith, refl, sym, ap, ◌∙◌, append-nil}
+use Rattle.std.proofs.Common.{◌≡◌, ◌≢◌, ℕ, zero, suc, ◌+◌, ◌<◌, ◌≤◌, ◌-◌, ◌⊎◌, inl, inr, List, [], ◌∷◌, ◌++◌, length, get_or, take, drop, take-append-drop, Option, arith, refl, sym, ap, ◌∙◌, append-nil}
 use Rattle.std.proofs.lemmas.List.{take-append-le, length-take-le}
 use Rattle.std.proofs.Math.Seq.{take-append-add}
+use Rattle.std.specs.Io.KnownBytes.{Consumes}
+use Rattle.std.proofs.KnownBytes.{Consumes-trans}
 use borrow.Rule.Slice.PartMut.{put_mid, post_of}
 use Rattle.qoi.specs.declared.error.Error.{Error}
 use Rattle.qoi.specs.declared.error.Error.TheVariants.{InvalidPadding, IoError, UnexpectedBufferEnd}
@@ -11,7 +13,7 @@ use Rattle.qoi.specs.inner.Filling.{Filling, DecodesChunk}
 use Rattle.qoi.proofs.format.OneVerdict.{chunks_apart}
 use Rattle.std.proofs.lemmas.Bool.{cases_lt}
 use Rattle.qoi.specs.Qoi.{AreBytes, IsChunk, AreChunks, bytes_of, chunk_bytes, Reaches, marker_size, end_marker}
-use Rattle.qoi.specs.Verdicts.{IsPartOfChunk, EndsBefore, AreCut, AreWrongThen}
+use Rattle.qoi.specs.Verdicts.{IsPartOfChunk, AreCut, AreWrongThen}
 use Rattle.qoi.specs.Decoding.{RefusesBytes, RefusesMarker, RefusesTaken, RefusesTakenMarker}
 use Rattle.qoi.proofs.format.PartOfChunk.{byte_and, part_luma, part_rgb, part_rgba}
 
@@ -57,13 +59,16 @@ part_read_rgba b more fits h is few = part_rgba (b ∷ more) (byte_and b more fi
 abbrev pub IsChunkAhead : List ℕ → List ℕ → Type 0
 IsChunkAhead bytes taken = (c : Chunk) × (rest : List ℕ) × IsChunk c × (taken ≡ bytes_of c) × (bytes ≡ bytes_of c ++ rest)
 
--- the chunk decoded from such bytes is the one taken
-pub decodes_taken : {f c : ℕ} {old new : Filling} (bytes : List ℕ) (size : ℕ) (taken : List ℕ) → IsChunkAhead bytes taken
-    → DecodesChunk f c (take size bytes) old new → DecodesChunk f c taken old new
-decodes_taken bytes size taken (c, more, is_chunk, taken_is, bytes_are) first =
+-- the chunk decoded from such bytes, after the first of which more were taken, is the one taken
+pub decodes_taken : {f c : ℕ} {old new : Filling} (start middle end : Option (List ℕ)) (bytes : List ℕ) (size b : ℕ) (more : List ℕ) → Consumes start middle (b ∷ [])
+    → Consumes middle end more → IsChunkAhead bytes (b ∷ more) → DecodesChunk f c (take size bytes) old new → (taken : List ℕ) × Consumes start end taken × DecodesChunk f c taken old new
+decodes_taken start middle end bytes size b more one others (c, rest, is_chunk, taken_is, bytes_are) first =
     let split = sym (take-append-drop size bytes) ∙ ap (λ z. z ++ drop size bytes) first.bytes_are in
-    let same = chunks_apart c first.chunk more (drop size bytes) is_chunk first.is_chunk (sym bytes_are ∙ split) in
-    record { chunk = first.chunk; is_chunk = first.is_chunk; bytes_are = taken_is ∙ ap bytes_of same.0; decodes = first.decodes }
+    let same = chunks_apart c first.chunk rest (drop size bytes) is_chunk first.is_chunk (sym bytes_are ∙ split) in (
+      b ∷ more,
+      Consumes-trans start middle end (b ∷ []) more one others,
+      record { chunk = first.chunk; is_chunk = first.is_chunk; bytes_are = taken_is ∙ ap bytes_of same.0; decodes = first.decodes },
+    )
 
 -- the byte of an index position, difference or run is a chunk of its own
 pub alone_ahead : (b : ℕ) (zeros : List ℕ) → (b < 128) ⊎ ((192 ≤ b) × (b < 254)) → IsChunkAhead (b ∷ zeros) (b ∷ [])
@@ -92,10 +97,6 @@ pub rgba_ahead : (b : ℕ) (more zeros : List ℕ) → b ≡ 255 → length more
     → IsChunkAhead (b ∷ get_or more 0 0 ∷ get_or more 1 0 ∷ get_or more 2 0 ∷ get_or more 3 0 ∷ zeros) (b ∷ more)
 rgba_ahead x (r ∷ g ∷ b ∷ a ∷ []) zeros is size fits = (Rgba r g b a, zeros, (fits 0, fits 1, fits 2, fits 3), rw is refl, rw is refl)
 rgba_ahead x _ zeros is size fits = absurd (omega arith)
-
--- bytes that end before n pixels are cut
-pub cut_before : (n : ℕ) (taken : List ℕ) → EndsBefore n taken → AreCut n taken
-cut_before n taken (cs, part, takes, short, is_part) = (cs, part, record { has = takes; ends = inl (short, is_part) })
 
 -- chunks that reach n pixels are cut behind them if fewer bytes than a marker's follow
 cut_behind : (n : ℕ) (bytes : List ℕ) (cs : List Chunk) (part : List ℕ) → AreChunks cs → Reaches n cs → bytes ≡ chunk_bytes cs ++ part → length part < marker_size → AreCut n bytes

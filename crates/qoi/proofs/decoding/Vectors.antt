@@ -89,25 +89,17 @@ vector_written f c px out bytes at count is room e le =
       same = whole_written f c (pixel_of_lanes px) out bytes at is room e;
     })
 
--- three bytes stored one by one
-three_put : (at : ℕ) (out : List ℕ) (x y z : ℕ) → at + 3 ≤ length out → take (at + 3) (set (set (set out at x) (at + 1) y) (at + 2) z) ≡ take at out ++ x ∷ y ∷ z ∷ []
-three_put at out x y z room = grind (arith, take-set_at, length-set, append_assoc)
-
--- and four
-four_put : (at : ℕ) (out : List ℕ) (w x y z : ℕ) → at + 4 ≤ length out → take (at + 4) (set (set (set (set out at w) (at + 1) x) (at + 2) y) (at + 3) z) ≡ take at out ++ w ∷ x ∷ y ∷ z ∷ []
-four_put at out w x y z room = grind (arith, take-set_at, length-set, append_assoc)
-
 -- a pixel of three bytes alone
 pub three_bytes_written : (f c : ℕ) (p : RgbaPixel) (out bytes : List ℕ) (at : ℕ) → c ≡ 3 → at + c ≤ length out
     → bytes ≡ take 16 (output f c (replicate 6 p))
     → HasWritten f c (upto out at) (upto (set (set (set out at (get_or bytes 0 0)) (at + 1) (get_or bytes 1 0)) (at + 2) (get_or bytes 2 0)) (at + c)) (p ∷ [])
-three_bytes_written f c p out bytes at e room is = rw (is, e) (record { at_is = omega arith; same = three_put at out _ _ _ (omega (arith, room, e)) })
+three_bytes_written f c p out bytes at e room is = rw (is, e) (record { at_is = omega arith; same = grind (arith, take-set_at, length-set, append_assoc) })
 
 -- a pixel of four bytes alone
 pub four_bytes_written : (f c : ℕ) (p : RgbaPixel) (out bytes : List ℕ) (at : ℕ) → c ≡ 4 → at + c ≤ length out
     → bytes ≡ take 16 (output f c (replicate 6 p))
     → HasWritten f c (upto out at) (upto (set (set (set (set out at (get_or bytes 0 0)) (at + 1) (get_or bytes 1 0)) (at + 2) (get_or bytes 2 0)) (at + 3) (get_or bytes 3 0)) (at + c)) (p ∷ [])
-four_bytes_written f c p out bytes at e room is = rw (is, e) (record { at_is = omega arith; same = four_put at out _ _ _ _ (omega (arith, room, e)) })
+four_bytes_written f c p out bytes at e room is = rw (is, e) (record { at_is = omega arith; same = grind (arith, take-set_at, length-set, append_assoc) })
 
 -- no copies
 pub written_none : (f c : ℕ) (old : List ℕ) (at px : ℕ) → HasCopies f c at 0 px old old

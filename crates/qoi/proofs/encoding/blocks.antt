@@ -1,17 +1,12 @@
 -- Lemmas on sixteen pixels at a time: what they write, and what is carried.
-pub mod AllRepeat
-pub mod BlockPuts
 pub mod BlockStep
 pub mod BlockWritten
 pub mod FourFours
 pub mod FreshWords
-pub mod FrontBlock
 pub mod FullBlock
 pub mod LaneBytes
 pub mod LastCount
-pub mod OpaqueBlock
 pub mod PackedBlock
 pub mod ReadBlock
 pub mod SpelledBlock
 pub mod StyledBytes
-pub mod SwappedPixels

@@ -3,13 +3,9 @@ pub mod BlankLanes
 pub mod LaneBits
 pub mod LaneChunk
 pub mod LaneMasks
-pub mod LaneStamps
 pub mod LaneTests
 pub mod Lanewise
-pub mod NamedLanes
 pub mod OverlaidRuns
-pub mod PlaneWords
-pub mod RereadLanes
 pub mod RunningMost
 pub mod StandMasks
 pub mod WordPlanes

@@ -5,4 +5,3 @@ pub mod ImagePieces
 pub mod PieceSent
 pub mod StreamSent
 pub mod WriterProgress
-pub mod WrittenHeader

@@ -7,10 +7,10 @@ use lib.Count.{count_trailing_zeros, under}
 use lib.Lanes.{zip2, mask_l}
 
 -- a bit that isn't set, and one that is
-even_under : (n t : ℕ) → n % 2 ≡ 0 → under (n % 2) t ≡ suc t
+pub even_under : (n t : ℕ) → n % 2 ≡ 0 → under (n % 2) t ≡ suc t
 even_under n t e = ap (λ d. under d t) e
 
-odd_under : (n t : ℕ) → n % 2 ≡ 1 → under (n % 2) t ≡ 0
+pub odd_under : (n t : ℕ) → n % 2 ≡ 1 → under (n % 2) t ≡ 0
 odd_under n t e = ap (λ d. under d t) e
 
 clear_step : (k : ℕ) (b : Bool) (m n c : ℕ) → m < 2 ^ k → n ≡ 2 ^ suc k - 1 - (cond b 1 0 + 2 * m)

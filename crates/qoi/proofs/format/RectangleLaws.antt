@@ -331,3 +331,6 @@ rows_grow stride top rows old new raw k above here =
     λ xs. rows_follow stride 0 0 top rows stride xs ∙ ap (λ n. rectangle stride 0 0 top stride xs ++ rectangle stride n 0 rows stride xs) (zero-add top) in
     let same : rectangle stride 0 0 top stride new ≡ rectangle stride 0 0 top stride old = front new ∙ rows_above stride top 0 rows stride old new k ∙ sym (front old) in
     all new ∙ ap (λ z. z ++ rectangle stride top 0 rows stride new) (same ∙ above) ∙ ap (λ z. rectangle stride 0 0 top stride raw ++ z) here ∙ sym (all raw)
+
+-- what the laws on rectangles say
+pub ruleset rectangle_laws = (whole_picture, picture_row, rectangle_of_rectangle, rows_follow, length-rectangle, length-part_of_picture, row_of_rectangle, byte_of_rectangle, next_row, of_first_rows, row_end, front_more, row_more, row_kept, row_skipped, rows_put, outside_put, same_picture, keeps_all, with_no_row, with_next_row, tile_stands, outside_tile, rows_grow)

@@ -5,7 +5,7 @@ use Rattle.qoi.specs.inner.Hashed.{HoldsSeen}
 use Rattle.qoi.specs.inner.Table.{Holds}
 
 -- what an index position holds after a pixel came some times
-seen_copies : (n : ℕ) (p : RgbaPixel) (past : Past) (i : ℕ) → 0 < n → seen (replicate n p ++ past) i ≡ cond (eqb (hash p) i) p (seen past i)
+pub seen_copies : (n : ℕ) (p : RgbaPixel) (past : Past) (i : ℕ) → 0 < n → seen (replicate n p ++ past) i ≡ cond (eqb (hash p) i) p (seen past i)
 seen_copies zero p past i h = absurd (omega arith)
 seen_copies (suc zero) p past i h = refl
 seen_copies (suc (suc n)) p past i h = grind (arith, seen_copies (suc n) p past i (omega arith))
@@ -19,15 +19,19 @@ previous_copies (suc n) p past h = refl
 pub holds_copies : (table : List RgbaPixel) (p : RgbaPixel) (past : Past) (n : ℕ) → 0 < n → Holds table (p ∷ past) → Holds table (replicate n p ++ past)
 holds_copies table p past n some h i l = h i l ∙ ap Some (sym (seen_copies n p past i some))
 
--- a pixel that stands at its index position is put there
-pub holds_again : (table : List RgbaPixel) (p : RgbaPixel) (past : Past) → seen past (hash p) ≡ p → Holds table past → Holds table (p ∷ past)
-holds_again table p past is h i l = h i l ∙ ap Some (sym (go (eqb (hash p) i) refl))
+-- a pixel that stands at its index position changes nothing if it is put there
+pub put_again : (p : RgbaPixel) (past : Past) → seen past (hash p) ≡ p → (i : ℕ) → seen (p ∷ past) i ≡ seen past i
+put_again p past is i = go (eqb (hash p) i) refl
   where
     go : (same : Bool) → eqb (hash p) i ≡ same → cond same p (seen past i) ≡ seen past i
     go true e = sym is ∙ ap (seen past) (eqb-true (hash p) i e)
     go false e = refl
 
--- and so are the decoder's numbers
+-- so the table holds it
+pub holds_again : (table : List RgbaPixel) (p : RgbaPixel) (past : Past) → seen past (hash p) ≡ p → Holds table past → Holds table (p ∷ past)
+holds_again table p past is h i l = h i l ∙ ap Some (sym (put_again p past is i))
+
+-- the decoder's numbers after a pixel, put once, are those after some copies of it
 pub holds_seen_copies : (numbers : List ℕ) (p : RgbaPixel) (past : Past) (n : ℕ) → 0 < n → HoldsSeen numbers (p ∷ past)
     → HoldsSeen numbers (replicate n p ++ past)
 holds_seen_copies numbers p past n some h i l = h i l ∙ sym (seen_copies n p past i some)

@@ -29,6 +29,9 @@ holds_put entries p past place size at holds i l = rw at (
     slice_get-get_or (slice_set entries (hash p) p) i blank (omega (arith, length-set entries (hash p) p))
     ∙ ap (λ x. Some x) (held_after entries p i size ∙ ap (cond (eqb (hash p) i) p) (held_at entries past i size l holds)))
 
+-- with a position within the table
+pub ruleset puts = (hash_below, holds_put)
+
 -- the first index position from k on where transparent black is seen, if there is one
 unfoldable pub blank_from : Past → ℕ → Option ℕ
 blank_from past k = find (λ i. pixel_eq (seen past i) blank) (range_with_len k (64 - k))

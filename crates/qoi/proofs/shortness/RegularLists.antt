@@ -1,7 +1,6 @@
 -- The written list is regular, and so is each list of an image without transparent black.
-use Rattle.std.proofs.Common.{◌≡◌, ◌≢◌, ◌⊎◌, inl, inr, ℕ, ◌+◌, ◌<◌, ◌≤◌, List, [], ◌∷◌, ◌++◌, length, reverse, refl, sym, ap, ◌∙◌, subst, arith}
+use Rattle.std.proofs.Common.{◌≡◌, ◌≢◌, inl, inr, ◌+◌, ◌<◌, ◌≤◌, List, [], ◌∷◌, ◌++◌, length, reverse, sym, ap, ◌∙◌, subst, arith}
 use Rattle.std.specs.List.{AllByRecursion}
-use Rattle.std.proofs.lemmas.Bool.{cases_eq}
 use Rattle.std.proofs.lemmas.List.{length-append, length-reverse, reverse-append, reverse-reverse}
 use Rattle.qoi.specs.declared.chunk.Chunk.{Chunk}
 use Rattle.qoi.specs.declared.chunk.Chunk.TheVariants.{Place}
@@ -10,9 +9,9 @@ use Rattle.qoi.specs.Written.{noted, IsChoice, IsAllowedAfter, Written}
 use Rattle.qoi.specs.Raw.{HasChannels}
 use Rattle.qoi.specs.Regular.{NamesPixelThere, Regular, Begins}
 use Rattle.qoi.proofs.format.SamePixels.{cases_pixel}
-use Rattle.qoi.proofs.encoding.lists.NotedPixels.{seen_same, seen_other}
 use Rattle.qoi.proofs.format.ChunkSteps.{given, then_chunks_given}
-use Rattle.qoi.proofs.encoding.lists.WrittenGrows.{all_back, all_reverse}
+use Rattle.qoi.proofs.format.Appended.{all_back, all_reverse}
+use Rattle.qoi.proofs.encoding.styles.TightChoice.{unseen_blank, unseen_or}
 
 -- an index position that an allowed chunk names is its pixel's
 right_named : (past : Past) (c : Chunk) → IsAllowedAfter IsChoice past c → NamesPixelThere past c
@@ -31,14 +30,6 @@ each_map P Q f past (c ∷ cs) h = (f past c h.0, each_map P Q f (then_chunk pas
 pub written_regular : (image : List RgbaPixel) (cs : List Chunk) → Written image cs → Regular cs
 written_regular image cs w = each_map (IsAllowedAfter IsChoice) NamesPixelThere right_named [] cs w.allowed
 
--- what is seen at an index position is transparent black or has that position
-seen_blank_or : (past : Past) (i : ℕ) → (seen past i ≡ blank) ⊎ (hash (seen past i) ≡ i)
-seen_blank_or [] i = inl refl
-seen_blank_or (p ∷ past) i = elim (cases_eq (hash p) i) as (λ _. (seen (p ∷ past) i ≡ blank) ⊎ (hash (seen (p ∷ past) i) ≡ i)) [
-  | inl e ↦ inr (ap hash (seen_same past p i e) ∙ e)
-  | inr n ↦ rw (seen_other past p i n) (seen_blank_or past i)
-]
-
 -- what holds throughout an end of a list holds throughout any end not longer than it
 suffix_all : {A : Type 0} (P : A → Type 0) (xs ys us vs : List A) → xs ++ ys ≡ us ++ vs → length ys ≤ length vs → AllByRecursion P vs → AllByRecursion P ys
 suffix_all P xs ys [] vs e l h = all_back P xs ys (rw (← e) at h)
@@ -53,8 +44,8 @@ named_within : (past : Past) (c : Chunk) (cs : List Chunk) (us vs : List RgbaPix
 named_within past (Place i) cs us vs e l h =
     let s = suffix_all (λ p. p ≢ blank) (reverse (given (seen past i ∷ past) cs)) (seen past i ∷ past) us vs
     (sym (then_chunks_given (seen past i ∷ past) cs) ∙ e) (omega arith) h in
-    elim (seen_blank_or past i) as (λ _. hash (seen past i) ≡ i) [
-      | inl e ↦ absurd (s.0 e)
+    elim (unseen_or past i) as (λ _. hash (seen past i) ≡ i) [
+      | inl e ↦ absurd (s.0 (unseen_blank past i e))
       | inr e ↦ e
     ]
 named_within past c cs us vs e l h = tt

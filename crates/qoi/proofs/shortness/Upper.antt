@@ -13,7 +13,8 @@ use Rattle.qoi.specs.Styles.{is_run}
 use Rattle.qoi.proofs.format.ChunkSteps.{times_other, right_other, then_other}
 use Rattle.qoi.proofs.shortness.Costs.{some_diff-true, some_luma-true, bounds, cost_fresh, cost_run, repeats_run, repeats_fresh}
 use Rattle.qoi.proofs.shortness.SlackSteps.{slack_at, slack_is, slack_more, slack_grows}
-use Rattle.qoi.proofs.encoding.lists.WrittenShape.{channels_all, channels_before, chunk_fits, choice_rgba}
+use Rattle.qoi.proofs.encoding.lists.WrittenExists.{choice_is}
+use Rattle.qoi.proofs.encoding.lists.WrittenShape.{channels_all, channels_before, chunk_fits}
 
 -- if the first chunk is no Diff, no Diff gives the pixel
 no_diff : (past : Past) (p : RgbaPixel) (c : Chunk) → IsFirst past p c → 1 < rank c → some_diff (previous past) p ≡ false
@@ -51,7 +52,7 @@ fresh_cost : (channels : ℕ) (past : Past) (c : Chunk) → IsChunk c → HasCha
 fresh_cost channels past c i h o g r =
     let p = pixel_after past c in
     let place : noted past (hash p) ≡ p → length (bytes_of c) ≡ 1 = (λ e. rw (g.is_chosen.place e) refl) in
-    let most = chunk_fits IsChoice choice_rgba channels past c i h r in
+    let most = chunk_fits IsChoice choice_is channels past c i h r in
     let least_is : noted past (hash p) ≢ p → seen past (hash p) ≢ p → length (bytes_of c) ≤ least past p
     = (λ n u. first_least past p c i (g.is_chosen.spelled n) u) in
     grind (

@@ -15,16 +15,17 @@ abbrev pub RefusesChunks : Bool → ℕ → Option (List ℕ) → Option (List �
 RefusesChunks true n start new e = IfSome start (λ bytes. RefusesBytes n bytes e)
 RefusesChunks false n start new e = TakesBytes start new (λ taken. RefusesTaken n taken e)
 
--- chunks were taken from the bytes ahead, after those before them
-pub record TakesMore (file_channels channels : ℕ) (ahead rest : Option (List ℕ)) (old new : Filling) : Type 0 where
+-- chunks were taken from the bytes ahead, after those before them; if `runs_fit`, they don't fill the output
+pub record TakesMore (file_channels channels : ℕ) (runs_fit : Bool) (ahead rest : Option (List ℕ)) (old new : Filling) : Type 0 where
   pub between : (gone : Past) (n : ℕ) (start : Option (List ℕ)) → DecoderBetween file_channels channels gone n (Consumes start ahead) old
       → DecoderBetween file_channels channels gone n (Consumes start rest) new
+  pub fillable : IsFillable channels new.buffer
+  pub on : old.buffer.at ≤ new.buffer.at
+  pub below : IsTrue runs_fit → old.buffer.at < length old.buffer.out → new.buffer.at < length new.buffer.out
 
 -- the same until the output is full or, if `runs_fit`, until the vectors of a run may not fit
 pub record TakesChunks (file_channels channels : ℕ) (runs_fit : Bool) (ahead rest : Option (List ℕ)) (old new : Filling) : Type 0 where
-  pub goes_on : TakesMore file_channels channels ahead rest old new
-  pub fillable : IsFillable channels new.buffer
-  pub below : IsTrue runs_fit → old.buffer.at < length old.buffer.out → new.buffer.at < length new.buffer.out
+  pub goes_on : TakesMore file_channels channels runs_fit ahead rest old new
   pub filled : IsTrue runs_fit → length new.buffer.out < new.buffer.at + RUN_ROOM
   pub full : IsFalse runs_fit → length new.buffer.out ≤ new.buffer.at
 

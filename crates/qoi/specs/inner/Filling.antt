@@ -2,6 +2,7 @@
 use Rattle.std.specs.Prelude.{◌≡◌, ℕ, ◌-◌, ◌*◌, ◌/◌, ◌%◌, ◌+◌, ◌<◌, ◌≤◌, List, [], ◌++◌, length, take, reverse, replicate, min, slice_index, ◌⊎◌, Bool, IsTrue}
 use Rattle.qoi.specs.declared.chunk.Chunk.{Chunk}
 use Rattle.qoi.specs.declared.decode.fast.Progress.{Progress}
+use Rattle.qoi.specs.declared.decode.fast.TheConstants.{INPUT_ROOM}
 use Rattle.qoi.specs.declared.decode.output.TheConstants.{RUN_ROOM}
 use Rattle.qoi.specs.declared.decode.reached.Reached.{Reached}
 use Rattle.qoi.specs.Qoi.{RgbaPixel, Past, luma_tag, run_tag, rgb_tag, rgba_tag, previous, IsChunk, AreChunks, bytes_of, chunk_bytes, times, then_chunk, then_chunks, StayBelow}
@@ -21,6 +22,11 @@ upto out at = record { out = out; at = at }
 pub record HasWritten (file_channels channels : ℕ) (old new : Buffer) (pixels : List RgbaPixel) : Type 0 where
   pub at_is : new.at ≡ old.at + channels * length pixels
   pub same : take new.at new.out ≡ take old.at old.out ++ output file_channels channels pixels
+
+-- in so many channels, pixels may be stored up to `end`
+pub record CanStore (channels end : ℕ) (out : List ℕ) : Type 0 where
+  pub three_or_four : IsChannels channels
+  pub room : end ≤ length out
 
 -- the pixel of this number was written so often, after what was written before
 abbrev pub HasCopies : ℕ → ℕ → ℕ → ℕ → ℕ → List ℕ → List ℕ → Type 0
@@ -45,17 +51,11 @@ pub record HasRoom (channels : ℕ) (runs_fit : Bool) (b : Buffer) : Type 0 wher
   pub inside : b.at < length b.out
   pub vectors : IsTrue runs_fit → b.at + RUN_ROOM ≤ length b.out
 
--- it can be filled further and, if it wasn't full, still isn't
-pub record StaysFillable (channels : ℕ) (old new : Buffer) : Type 0 where
+-- so many bytes were written at least, and don't fill the buffer if it had this room
+pub record FillsMore (channels least room : ℕ) (old new : Buffer) : Type 0 where
   pub fillable : IsFillable channels new
-  pub on : old.at ≤ new.at
-  pub below : old.at < length old.out → new.at < length new.out
-
--- a chunk's pixels were written, and don't fill the buffer if it had room for the vectors of any run
-pub record FillsMore (channels : ℕ) (old new : Buffer) : Type 0 where
-  pub fillable : IsFillable channels new
-  pub on : old.at < new.at
-  pub below : old.at + RUN_ROOM ≤ length old.out → new.at < length new.out
+  pub on : old.at + least ≤ new.at
+  pub below : old.at + room ≤ length old.out → new.at < length new.out
 
 -- what a decoder has between two chunks: the numbers in the table, that of the last pixel, and the
 -- output
@@ -101,17 +101,16 @@ pub record DecoderBetween (file_channels channels : ℕ) (gone : Past) (n : ℕ)
   pub taken : Taken (chunk_bytes cs)
   pub filled : HasFilled file_channels channels n now.buffer recent
   pub has_seen : HasSeen now (then_chunks [] cs)
-  pub within : now.buffer.at ≤ length now.buffer.out
-  pub whole : now.buffer.at % channels ≡ 0
 
 -- the first `size` bytes were taken after those that were taken before
 abbrev pub IsFrontAfter : List ℕ → List ℕ → ℕ → List ℕ → Type 0
 IsFrontAfter before bytes size taken = taken ≡ before ++ take size bytes
 
--- bytes up to `to` were taken, as chunks after those up to `from`
-abbrev pub TakesOn : ℕ → ℕ → List ℕ → ℕ → ℕ → Filling → Filling → Type 0
-TakesOn f c bytes from to old new = (gone : Past) (n : ℕ) (before : List ℕ)
-    → DecoderBetween f c gone n (IsFrontAfter before bytes from) old → DecoderBetween f c gone n (IsFrontAfter before bytes to) new
+-- bytes up to `to` were taken, as chunks after those up to `from`, which don't fill the output
+pub record TakesOn (file_channels channels : ℕ) (bytes : List ℕ) (from to : ℕ) (old new : Filling) : Type 0 where
+  pub between : (gone : Past) (n : ℕ) (before : List ℕ) → DecoderBetween file_channels channels gone n (IsFrontAfter before bytes from) old
+      → DecoderBetween file_channels channels gone n (IsFrontAfter before bytes to) new
+  pub fills : FillsMore channels 0 1 old.buffer new.buffer
 
 -- the same, with `count` bytes more taken
 abbrev pub taken_further : {N F : ℕ} → ℕ → Progress N F → Progress N F
@@ -129,6 +128,13 @@ pub record HasAhead {N F : ℕ} (input room : ℕ) (bytes out : List ℕ) (now :
   pub byte : now.next < 256
   pub input_is : now.taken + input ≤ length bytes
   pub room_is : now.at + room ≤ length out
+
+-- a loop over rows of so many short chunks and a full one may begin, and so many bytes stand ahead
+pub record CanLoop {N F : ℕ} (row input : ℕ) (bytes out : List ℕ) (now : Progress N F) : Type 0 where
+  pub row_is : (row ≡ 1) ⊎ (row ≡ 8)
+  pub input_is : INPUT_ROOM ≤ length bytes
+  pub room_is : 16 * row + 16 ≤ length out
+  pub ahead : HasAhead input 0 bytes out now
 
 -- the first byte of an RGB or of an RGBA chunk
 abbrev pub IsFullTag : ℕ → Type 0

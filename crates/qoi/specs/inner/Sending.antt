@@ -1,9 +1,12 @@
 -- The bytes ahead of a coder that go through a piece to a writer. `wrote a bytes b` says that the
 -- writer a became b by writing the bytes.
-use Rattle.std.specs.Prelude.{◌≡◌, ℕ, ◌+◌, ◌*◌, ◌%◌, ◌<◌, ◌≤◌, ◌⊎◌, List, [], ◌++◌, length, Option, None}
+use Rattle.std.specs.Prelude.{◌≡◌, ⊤, ℕ, ◌+◌, ◌*◌, ◌%◌, ◌<◌, ◌≤◌, ◌⊎◌, List, [], ◌++◌, length, Option, None, Result, MatchResult}
+use Rattle.std.specs.Borrow.{Bor}
 use Rattle.std.specs.Io.KnownBytes.{Appends}
+use Rattle.qoi.specs.declared.encode.piece.OpenPiece.{OpenPiece}
 use Rattle.qoi.specs.declared.encode.pending.Pending.{Pending}
 use Rattle.qoi.specs.declared.encode.piece.TheConstants.{SPARE, FULL_ROOM}
+use Rattle.qoi.specs.declared.error.Error.{Error}
 use Rattle.qoi.specs.declared.types.Channels.{Channels}
 use Rattle.qoi.specs.declared.types.Style.{Style}
 use Rattle.qoi.specs.Encoded.{IsFileOf, image_file}
@@ -11,7 +14,7 @@ use Rattle.qoi.specs.EncoderState.{EncoderState}
 use Rattle.qoi.specs.Qoi.{channels_number, marker_size, end_marker, start}
 use Rattle.qoi.specs.Raw.{pixels_of}
 use Rattle.qoi.specs.writers.Writes.{WroteBut, WroteBeginning}
-use Rattle.qoi.specs.inner.CoderLoop.{CoderAfter, CoderBetween}
+use Rattle.qoi.specs.inner.Coder.{kept_bytes, CoderAfter, CoderBetween}
 
 -- how many bytes a pixel of the image has
 abbrev pub pixel_size : Pending → ℕ
@@ -50,10 +53,21 @@ pub record GoesOn {W : Type 0} (wrote : W → List ℕ → W → Type 0) (a : W)
 pub record BreaksOff {W : Type 0} (wrote : W → List ℕ → W → Type 0) (a : W) (p : Pending) (kept raw : List ℕ) (b : W) : Type 0 where
   pub off : (ahead more : List ℕ) → Between ahead p kept (raw ++ more) → WroteBeginning wrote a ahead b
 
+-- the first up to what a result has kept and left, or the second after a fault
+abbrev pub GoesOnOrBreaks : {W T : Type 0} → (W → List ℕ → W → Type 0) → (Error → Type 0) → W → Pending → (kept raw : List ℕ) → W → Pending
+    → (kept' raw' : T → List ℕ) → Result T Error → Type 0
+GoesOnOrBreaks wrote IsFault a p kept raw b p' kept' raw' result =
+    MatchResult result (λ r. GoesOn wrote a p kept raw b p' (kept' r) (raw' r)) (λ e. IsFault e × BreaksOff wrote a p kept raw b)
+
 -- From such a state to the end, if no raw bytes follow: all that was ahead was written, and the end
 -- marker. If `wrote` is `WroteBeginning` of another relation, a beginning of that was.
 pub record Ends {W : Type 0} (wrote : W → List ℕ → W → Type 0) (a : W) (p : Pending) (kept raw : List ℕ) (b : W) : Type 0 where
   pub all : (ahead : List ℕ) → Between ahead p kept raw → wrote a (ahead ++ end_marker) b
+
+-- it ended, or did so early with a fault
+abbrev pub EndsWith : {W : Type 0} → (W → List ℕ → W → Type 0) → (Error → Type 0) → W → Pending → (kept raw : List ℕ) → W → Result ⊤ Error → Type 0
+EndsWith wrote IsFault a p kept raw b result =
+    MatchResult result (λ _. Ends wrote a p kept raw b) (λ e. IsFault e × Ends (WroteBeginning wrote) a p kept raw b)
 
 -- Whole pixels can be written through a piece of this size. A writer that can take `free` bytes has
 -- room: for what is ahead and the end marker, or for a full piece at each raw byte and one more.
@@ -72,19 +86,24 @@ pub record WroteWhole {W : Type 0} (wrote : W → List ℕ → W → Type 0) (ro
   pub ready : IsReady (room b) size p' kept' left
   pub written : GoesOn wrote a p kept raw b p' kept' left
 
+-- so they were, and the result has those and the piece; or the coder broke off
+abbrev pub WritesWhole : {W : Type 0} {size : ℕ} → (W → List ℕ → W → Type 0) → (W → ℕ) → (Error → Type 0) → W → Pending → OpenPiece size → List ℕ
+    → W → Pending → Result (Bor (List ℕ) × OpenPiece size) Error → Type 0
+WritesWhole {size = size} wrote room IsFault a p piece raw b p' result = MatchResult result
+    (λ r. WroteWhole wrote room size a p (kept_bytes piece.piece) raw b p' (kept_bytes r.1.piece) r.0.now)
+    (λ e. IsFault e × BreaksOff wrote a p (kept_bytes piece.piece) raw b)
+
 -- Between two pixels of an image: of its file all was written but what is ahead, and the end marker.
 pub record ImageBetween {W : Type 0} (wrote : W → List ℕ → W → Type 0) (e : EncoderState) (a b : W) (p : Pending) (kept raw : List ℕ) : Type 0 where
   pub ahead : List ℕ
   pub went : WroteBut wrote a (image_file e.style e.header e.raw) (ahead ++ end_marker) b
   pub between : Between ahead p kept raw
 
--- the file of an image was written, which has n bytes
-abbrev pub WroteImage : {W : Type 0} → (W → List ℕ → W → Type 0) → EncoderState → W → W → ℕ → Type 0
-WroteImage wrote e a b n = (bytes : List ℕ) × IsFileOf e.style e.header e.raw bytes × (n ≡ length bytes) × wrote a bytes b
-
--- a beginning of it was
-abbrev pub BeganImage : {W : Type 0} → (W → List ℕ → W → Type 0) → EncoderState → W → W → Type 0
-BeganImage wrote e a b = (bytes : List ℕ) × IsFileOf e.style e.header e.raw bytes × WroteBeginning wrote a bytes b
+-- the file of an image was written, and the result is how many bytes it has, or a beginning of it was
+abbrev pub WritesImage : {W : Type 0} → (W → List ℕ → W → Type 0) → (Error → Type 0) → EncoderState → W → W → Result ℕ Error → Type 0
+WritesImage wrote IsFault e a b result = MatchResult result
+    (λ n. (bytes : List ℕ) × IsFileOf e.style e.header e.raw bytes × (n ≡ length bytes) × wrote a bytes b)
+    (λ error. IsFault error × (bytes : List ℕ) × IsFileOf e.style e.header e.raw bytes × WroteBeginning wrote a bytes b)
 
 -- the bytes were appended to those that are known, as a writer's relation
 abbrev pub appended : Option (List ℕ) → List ℕ → Option (List ℕ) → Type 0

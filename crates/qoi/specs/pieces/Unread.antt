@@ -1,15 +1,19 @@
--- What is unread of an image that is read piece by piece.
-use Rattle.std.specs.Prelude.{◌≡◌, ℕ, ◌+◌, ◌-◌, ◌*◌, ◌%◌, ◌<◌, ◌≤◌, ◌/◌, ⊤, List, [], ◌++◌, length, take, drop, reverse, replicate, Bool, Option, Result, MatchResult}
+-- What is unread of an image that is read piece by piece, and what is decoded in place.
+use Rattle.std.specs.Prelude.{◌≡◌, ℕ, ◌+◌, ◌-◌, ◌*◌, ◌%◌, ◌<◌, ◌≤◌, ◌/◌, ⊤, List, [], ◌++◌, length, take, drop, reverse, replicate, Bool, false, Option, None, Result, MatchResult}
 use Rattle.std.specs.Io.KnownBytes.{Consumes}
 use Rattle.qoi.specs.declared.chunk.Chunk.{Chunk}
 use Rattle.qoi.specs.declared.error.Error.{Error}
+use Rattle.qoi.specs.declared.header.Header.{Header}
+use Rattle.qoi.specs.declared.types.Channels.{Channels}
+use Rattle.qoi.specs.declared.decode.in_place.InPlace.{InPlace}
 use Rattle.qoi.specs.declared.decode.conversion.Conversion.{Conversion}
 use Rattle.qoi.specs.declared.decode.pixel_reader.unread.Unread.{Unread}
 use Rattle.qoi.specs.declared.decode.pixel_reader.unread.Refused.{Refused}
-use Rattle.qoi.specs.Qoi.{Past, run_max, previous, channels_number, AreChunks, chunk_bytes, then_chunks}
-use Rattle.qoi.specs.Raw.{output}
+use Rattle.qoi.specs.Qoi.{Past, run_max, previous, channels_number, IsValid, AreChunks, chunk_bytes, then_chunks}
+use Rattle.qoi.specs.Raw.{output, byte_count}
 use Rattle.qoi.specs.Decoding.{ReadsImage}
 use Rattle.qoi.specs.inner.Chunks.{RefusesChunks, HasFault}
+use Rattle.qoi.specs.inner.Filling.{Filling, DecoderBetween}
 use Rattle.qoi.specs.inner.Hashed.{pixel_of_lanes, HoldsSeen}
 
 -- the raw bytes that are decoded and aren't given yet
@@ -43,6 +47,12 @@ AreWhole channels p = (p.undecoded % channels ≡ 0) × (p.run % channels ≡ 0)
 -- both
 abbrev pub KeepsPixels : ℕ → Unread → Type 0
 KeepsPixels channels p = KeepsWithin p × AreWhole channels p
+
+-- it is of an image of this header in these channels: no more than all of it, whole pixels unless it was
+-- refused, and no error stands in its place
+abbrev pub IsRestOf : Header → Channels → Bool → Unread → Type 0
+IsRestOf h channels refused p = IsValid h × KeepsWithin p × (bytes_left p ≤ byte_count h (channels_number channels))
+    × (refused ≡ false → AreWhole (channels_number channels) p) × (p.fault ≡ None)
 
 -- as many copies of a pixel as have so many bytes
 abbrev pub copies : ℕ → ℕ → ℕ → Past
@@ -101,3 +111,22 @@ StepsIn k in_memory ahead rest old new out result = Steps (channels_number k.fil
 -- a step gave all of `out`, or was refused
 abbrev pub Fills : ℕ → ℕ → Bool → Option (List ℕ) → Option (List ℕ) → Unread → Unread → List ℕ → Result ⊤ Refused → Type 0
 Fills f c in_memory ahead rest old new out result = MatchResult result (λ _. GivesMore f c ahead rest old new out (length out)) (λ _. RefusesMore f c in_memory ahead rest old new.fault)
+
+-- Chunks were taken after those of the pixels that are gone, and the output up to where it stopped has
+-- the bytes of their pixels, but for what is left of a run.
+pub record TakesPiece (file_channels channels : ℕ) (gone : Past) (Taken : List ℕ → Type 0) (table out : List ℕ) (now : InPlace) : Type 0 where
+  pub all : Past
+  pub after : DecoderAfter Taken table now.reached.last (copies channels now.run now.reached.last ++ all)
+  pub bytes_are : output file_channels channels (reverse gone) ++ take now.reached.at out ≡ output file_channels channels (reverse all)
+
+-- the same of chunks that stood ahead
+abbrev pub TakesInPlace : ℕ → ℕ → Option (List ℕ) → Option (List ℕ) → Filling → List ℕ → List ℕ → InPlace → Type 0
+TakesInPlace f c ahead rest old table out now = (gone : Past) (n : ℕ) (start : Option (List ℕ)) → DecoderBetween f c gone n (Consumes start ahead) old
+    → TakesPiece f c gone (Consumes start rest) table out now
+
+-- whole pixels lie in an output of so many bytes, and what is left of a run are whole pixels
+pub record IsInPlace (channels size : ℕ) (p : InPlace) : Type 0 where
+  pub within : p.reached.at ≤ size
+  pub whole : p.reached.at % channels ≡ 0
+  pub run_whole : p.run % channels ≡ 0
+  pub run_short : p.run ≤ channels * run_max

@@ -24,7 +24,7 @@ const LONG_PLAIN_ROW: usize = 144;
 const SHORT_BLOCK: usize = 8;
 
 impl<const N: usize, const F: usize> Progress<N, F> {
-    ghost use Rattle.qoi.specs.inner.Filling.{upto, IsFillable, StaysFillable, filling, TakesOn, HasAhead, FastChunks};
+    ghost use Rattle.qoi.specs.inner.Filling.{upto, IsFillable, filling, TakesOn, CanLoop, FastChunks};
 
     // `chunks_ahead` from a state of the loop: in blocks, and in rows of full chunks or of plain ones,
     // if `ROW` is 8, else by `chunks_until`.
@@ -35,10 +35,7 @@ impl<const N: usize, const F: usize> Progress<N, F> {
         bytes: &[u8],
         out: &mut [u8],
     ) -> Self
-        requires row { (ROW ≡ 1) ⊎ (ROW ≡ 8) }
-        requires input { INPUT_ROOM ≤ length bytes.now }
-        requires room { 16 * ROW + 16 ≤ length out.old }
-        requires ahead { HasAhead 1 0 bytes.now out.old self }
+        requires { CanLoop ROW 1 bytes.now out.old self }
         ensures { FastChunks bytes.now self.entry table.old out.old result table.new out.new }
     {
         if ROW == 1 {
@@ -81,11 +78,9 @@ impl<const N: usize, const F: usize> Progress<N, F> {
         requires room { 16 * ROW + 16 ≤ length out.old }
         requires within { from.taken < length bytes.now }
         requires fillable { IsFillable N (upto out.old from.reached.at) }
-        ensures between { TakesOn F N bytes.now from.taken result.taken
+        ensures takes { TakesOn F N bytes.now from.taken result.taken
             (filling table.old from.reached out.old) (filling table.new result.reached out.new) }
         ensures within { result.taken < length bytes.now }
-        ensures on { StaysFillable N
-            (upto out.old from.reached.at) (upto out.new result.reached.at) }
     {
         let old = from.reached;
         let now = Progress::<N, F> {
@@ -113,10 +108,9 @@ impl<const N: usize, const F: usize> Progress<N, F> {
         out: &mut [u8],
     ) -> Decoded
         requires { IsFillable N (upto out.old from.at) }
-        ensures between { TakesOn F N bytes.now 0 result.taken
+        ensures takes { TakesOn F N bytes.now 0 result.taken
             (filling table.old from out.old) (filling table.new result.reached out.new) }
         ensures within { result.taken ≤ length bytes.now }
-        ensures on { StaysFillable N (upto out.old from.at) (upto out.new result.reached.at) }
     {
         let none = Decoded {
             taken: 0,

@@ -1,9 +1,9 @@
 //! Decoding an image from a reader with a buffer of its own.
-ghost use Rattle.std.specs.Prelude.{◌<◌, [], length, false, IfOk, IfErr, OnErr};
+ghost use Rattle.std.specs.Prelude.{◌<◌, [], length, true, false, IfOk, IfErr, OnErr};
 ghost use Rattle.std.specs.Io.KnownBytes.{Consumes};
 ghost use Rattle.qoi.specs.declared.error.Error.{Error};
 ghost use Rattle.qoi.specs.inner.Chunks.{TakesMore, TakesChunks, RefusesFilling};
-ghost use Rattle.qoi.specs.inner.Filling.{upto, IsFillable, StaysFillable, filling};
+ghost use Rattle.qoi.specs.inner.Filling.{upto, IsFillable, filling};
 
 use crate::decode::chunks::Chunks;
 use crate::decode::fast::{OUTPUT_ROOM, Progress};
@@ -28,10 +28,9 @@ fn chunks_in_buffer<R: BufRead, const N: usize, const F: usize>(
     out: &mut [u8],
 ) -> io::Result<Reached>
     requires { IsFillable N (upto out.old from.at) }
-    ensures between { IfOk result (λ now. TakesMore F N
+    ensures takes { IfOk result (λ now. TakesMore F N true
         (R.remaining reader.old) (R.remaining reader.new)
         (filling table.old from out.old) (filling table.new now out.new)) }
-    ensures on { IfOk result (λ now. StaysFillable N (upto out.old from.at) (upto out.new now.at)) }
     ensures failed { OnErr result
         (Consumes (R.remaining reader.old) (R.remaining reader.new) []) }
     ensures unfilled { OnErr result (from.at < length out.old) }

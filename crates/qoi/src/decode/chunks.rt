@@ -7,7 +7,7 @@ ghost use Rattle.qoi.specs.Raw.{IsChannels};
 ghost use Rattle.qoi.specs.Decoding.{ReadsImage};
 ghost use Rattle.qoi.specs.inner.Chunks.{RefusesChunks, TakesChunks, RefusesFilling, ReadsRest, RefusesRest};
 ghost use Rattle.qoi.specs.inner.Filling.{upto, IsFillable, HasRoom, filling};
-ghost use Rattle.qoi.specs.pieces.InPlace.{TakesInPlace, IsInPlace};
+ghost use Rattle.qoi.specs.pieces.Unread.{TakesInPlace, IsInPlace};
 ghost use Rattle.qoi.specs.declared.decode.chunks.TheConstants.{GROWTH};
 ghost use Rattle.qoi.specs.declared.decode.output.TheConstants.{RUN_ROOM};
 

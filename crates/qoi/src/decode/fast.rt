@@ -4,7 +4,6 @@
 ghost use Rattle.std.specs.Prelude.{◌≡◌, ◌⊎◌, ◌↔◌, IsTrue, ◌+◌, ◌-◌, ◌*◌, ◌/◌, ◌<◌, ◌≤◌, ◌^◌, length};
 ghost use Rattle.qoi.specs.Qoi.{run_tag, rgb_tag};
 ghost use Rattle.qoi.specs.Raw.{IsChannels};
-ghost use Rattle.qoi.specs.declared.decode.fast.TheConstants.{INPUT_ROOM};
 
 use crate::consts::{QOI_OP_RGB, QOI_OP_RGBA, QOI_OP_RUN};
 use crate::decode::deltas::{advance, is_luma};
@@ -57,7 +56,7 @@ fn leaves_room<const N: usize>(b1: u8, room: usize) -> bool
 }
 
 impl<const N: usize, const F: usize> Progress<N, F> {
-    ghost use Rattle.qoi.specs.inner.Filling.{taken_further, HasAhead, FastStep, FastChunks};
+    ghost use Rattle.qoi.specs.inner.Filling.{taken_further, CanLoop, HasAhead, FastStep, FastChunks};
 
     // `count` bytes more are taken.
     #[inline(always)]
@@ -232,10 +231,7 @@ impl<const N: usize, const F: usize> Progress<N, F> {
         bytes: &[u8],
         out: &mut [u8],
     ) -> Self
-        requires row { (ROW ≡ 1) ⊎ (ROW ≡ 8) }
-        requires input { INPUT_ROOM ≤ length bytes.now }
-        requires room { 16 * ROW + 16 ≤ length out.old }
-        requires ahead { HasAhead 1 0 bytes.now out.old self }
+        requires { CanLoop ROW 1 bytes.now out.old self }
         ensures { FastChunks bytes.now self.entry table.old out.old result table.new out.new }
     {
         let mut now = self.by_fields();

@@ -1,6 +1,5 @@
 //! Rows of RGB or of RGBA chunks, as noise has them, by a loop of their own.
-ghost use Rattle.std.specs.Prelude.{◌≡◌, ◌≤◌, length};
-ghost use Rattle.qoi.specs.declared.decode.fast.TheConstants.{INPUT_ROOM, OUTPUT_ROOM};
+ghost use Rattle.std.specs.Prelude.{◌≡◌};
 
 use crate::consts::{QOI_OP_RGB, QOI_OP_RGBA};
 use crate::decode::fast::{INPUT_ROOM, OUTPUT_ROOM, Progress};
@@ -70,16 +69,14 @@ impl<const N: usize, const F: usize, const TAG: u8> Row<N, F, TAG> {
 }
 
 impl<const N: usize, const F: usize> Progress<N, F> {
-    ghost use Rattle.qoi.specs.inner.Filling.{HasAhead, FastChunks, IsFullTag};
+    ghost use Rattle.qoi.specs.inner.Filling.{CanLoop, FastChunks, IsFullTag};
 
     // Decodes chunks with the first byte `TAG`, as many as come one after the other, while there is
     // room ahead.
     #[inline(never)]
     fn row_of<const TAG: u8>(self, table: &mut TermTable, bytes: &[u8], out: &mut [u8]) -> Self
         requires tag { IsFullTag TAG }
-        requires input { INPUT_ROOM ≤ length bytes.now }
-        requires room { OUTPUT_ROOM ≤ length out.old }
-        requires ahead { HasAhead 1 0 bytes.now out.old self }
+        requires ahead { CanLoop 8 1 bytes.now out.old self }
         ensures { FastChunks bytes.now self.entry table.old out.old result table.new out.new }
     {
         let before = self.last;
@@ -97,9 +94,7 @@ impl<const N: usize, const F: usize> Progress<N, F> {
     /// Decodes a row of RGB or of RGBA chunks, if one comes next.
     #[inline(always)]
     pub(super) fn full_row(self, table: &mut TermTable, bytes: &[u8], out: &mut [u8]) -> Self
-        requires input { INPUT_ROOM ≤ length bytes.now }
-        requires room { OUTPUT_ROOM ≤ length out.old }
-        requires ahead { HasAhead 11 0 bytes.now out.old self }
+        requires { CanLoop 8 11 bytes.now out.old self }
         ensures { FastChunks bytes.now self.entry table.old out.old result table.new out.new }
     {
         let at = self.taken;

@@ -4,7 +4,7 @@ ghost use Rattle.std.specs.Prelude.{◌≡◌, ◌↔◌, IsTrue, false, ◌-◌
 ghost use Rattle.qoi.specs.Qoi.{Past, run_tag, rgb_tag};
 ghost use Rattle.qoi.specs.Raw.{IsChannels};
 ghost use Rattle.qoi.specs.inner.Filling.{upto, HasRoom, filling, DecoderBetween, IsFrontAfter};
-ghost use Rattle.qoi.specs.pieces.InPlace.{TakesPiece, IsInPlace};
+ghost use Rattle.qoi.specs.pieces.Unread.{TakesPiece, IsInPlace};
 
 use crate::consts::{QOI_OP_RGB, QOI_OP_RUN};
 use crate::decode::deltas::advance;

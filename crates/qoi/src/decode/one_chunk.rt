@@ -1,6 +1,6 @@
 //! How one chunk is decoded. What its bytes do to the last pixel stands in `hashed` and `deltas`.
 ghost use Rattle.std.specs.Prelude.{◌≡◌, ◌+◌, ◌-◌, ◌<◌, ◌≤◌, length, take};
-ghost use Rattle.qoi.specs.Qoi.{run_tag, rgb_tag};
+ghost use Rattle.qoi.specs.declared.decode.output.TheConstants.{RUN_ROOM};
 ghost use Rattle.qoi.specs.inner.Filling.{upto, HasRoom, FillsMore, DecodesChunk, filling};
 
 use crate::consts::{QOI_OP_RGB, QOI_OP_RGBA, QOI_OP_RUN};
@@ -8,19 +8,6 @@ use crate::decode::deltas::{advance, is_luma};
 use crate::decode::output::fill;
 use crate::decode::reached::{Decoded, Reached};
 use crate::decode::table::SizedTerms;
-
-// How many pixels a chunk has, by its first byte.
-#[inline(always)]
-fn times(b1: u8) -> usize
-    ensures run { run_tag ≤ b1 → b1 < rgb_tag → result + (run_tag - 1) ≡ b1 }
-    ensures one { b1 < run_tag → result ≡ 1 }
-    ensures full { rgb_tag ≤ b1 → result ≡ 1 }
-{
-    match b1 {
-        QOI_OP_RUN..QOI_OP_RGB => (b1 - (QOI_OP_RUN - 1)) as usize,
-        _ => 1,
-    }
-}
 
 /// Decodes the first chunk of the bytes. If `RUN_FITS`, the output has room for the vectors of any
 /// run; else how much it has is tested. The second byte is read even if the chunk has only one.
@@ -36,7 +23,7 @@ pub(super) fn decode_chunk<const N: usize, const F: usize, const RUN_FITS: bool,
     ensures taken { result.taken ≤ length bytes.now }
     ensures decodes { DecodesChunk F N (take result.taken bytes.now)
         (filling table.old from out.old) (filling table.new result.reached out.new) }
-    ensures more { FillsMore N (upto out.old from.at) (upto out.new result.reached.at) }
+    ensures more { FillsMore N 1 RUN_ROOM (upto out.old from.at) (upto out.new result.reached.at) }
 {
     let Reached { last, at } = from;
     let b1 = bytes[0];
@@ -51,7 +38,11 @@ pub(super) fn decode_chunk<const N: usize, const F: usize, const RUN_FITS: bool,
     };
     table.put(last);
     let size = advance::<N>(b1 as usize);
-    let at = fill::<N, F, RUN_FITS>(out, Reached { last, at }, times(b1), size);
+    let count = match b1 {
+        QOI_OP_RUN..QOI_OP_RGB => (b1 - (QOI_OP_RUN - 1)) as usize,
+        _ => 1,
+    };
+    let at = fill::<N, F, RUN_FITS>(out, Reached { last, at }, count, size);
     Decoded {
         taken,
         reached: Reached { last, at },

@@ -1,9 +1,8 @@
 //! What the decoders' loops store in the output: pixels, by vectors of sixteen bytes.
-ghost use Rattle.std.specs.Prelude.{◌≡◌, IsTrue, ◌+◌, ◌*◌, ◌/◌, ◌%◌, ◌-◌, ◌<◌, ◌≤◌, ℕ, [], ◌∷◌, ◌++◌, length, replicate};
+ghost use Rattle.std.specs.Prelude.{◌≡◌, ◌+◌, ◌*◌, ◌/◌, ◌%◌, ◌-◌, ◌<◌, ◌≤◌, ℕ, [], ◌∷◌, ◌++◌, length, replicate};
 ghost use Rattle.qoi.specs.Qoi.{Past, run_max};
 ghost use Rattle.qoi.specs.declared.decode.output.TheConstants.{VECTOR, RUN_ROOM};
-ghost use Rattle.qoi.specs.Raw.{IsChannels};
-ghost use Rattle.qoi.specs.inner.Filling.{upto, HasWritten, HasCopies, HasFilled, HasRoom};
+ghost use Rattle.qoi.specs.inner.Filling.{upto, CanStore, HasWritten, HasCopies, HasFilled, HasRoom};
 ghost use Rattle.qoi.specs.inner.Hashed.{pixel_of_lanes};
 
 use crate::decode::hashed::Hashed;
@@ -19,8 +18,7 @@ pub(super) const RUN_ROOM: usize = 256;
 // Stores a pixel at `at` in `N` channels, of a file of `F` channels.
 #[inline(always)]
 fn store_pixel<const N: usize, const F: usize>(out: &mut [u8], at: usize, px: Hashed)
-    requires channels { IsChannels N }
-    requires room { at + N ≤ length out.old }
+    requires { CanStore N (at + N) out.old }
     ensures { HasWritten F N (upto out.old at) (upto out.new (at + N)) (pixel_of_lanes px ∷ []) }
 {
     // One by one: a copied slice is stored on the stack, and loading it again from there stalls.
@@ -37,8 +35,7 @@ fn store_pixel<const N: usize, const F: usize>(out: &mut [u8], at: usize, px: Ha
 /// a byte more. What goes past the pixels that the caller counts is written again later.
 #[inline(always)]
 pub(super) fn store_vector<const N: usize, const F: usize>(out: &mut [u8], at: usize, px: Hashed)
-    requires channels { IsChannels N }
-    requires room { at + VECTOR ≤ length out.old }
+    requires { CanStore N (at + VECTOR) out.old }
     ensures { (count : ℕ) → count ≤ VECTOR / N → HasCopies F N at count px out.old out.new }
 {
     px.repeated::<N, F>()
@@ -48,8 +45,7 @@ pub(super) fn store_vector<const N: usize, const F: usize>(out: &mut [u8], at: u
 // Stores two vectors, the second at the end of the whole pixels of the first.
 #[inline(always)]
 fn store_two_vectors<const N: usize, const F: usize>(out: &mut [u8], at: usize, px: Hashed)
-    requires channels { IsChannels N }
-    requires room { at + N * (2 * (VECTOR / N)) + VECTOR % N ≤ length out.old }
+    requires { CanStore N (at + N * (2 * (VECTOR / N)) + VECTOR % N) out.old }
     ensures { (count : ℕ) → count ≤ 2 * (VECTOR / N) → HasCopies F N at count px out.old out.new }
 {
     store_vector::<N, F>(out, at, px);
@@ -59,8 +55,7 @@ fn store_two_vectors<const N: usize, const F: usize>(out: &mut [u8], at: usize, 
 // Stores four vectors of a pixel one behind the other.
 #[inline(always)]
 fn store_four_vectors<const N: usize, const F: usize>(out: &mut [u8], at: usize, px: Hashed)
-    requires channels { IsChannels N }
-    requires room { at + N * (4 * (VECTOR / N)) + VECTOR % N ≤ length out.old }
+    requires { CanStore N (at + N * (4 * (VECTOR / N)) + VECTOR % N) out.old }
     ensures { (count : ℕ) → count ≤ 4 * (VECTOR / N) → HasCopies F N at count px out.old out.new }
 {
     store_two_vectors::<N, F>(out, at, px);
@@ -70,8 +65,7 @@ fn store_four_vectors<const N: usize, const F: usize>(out: &mut [u8], at: usize,
 // Stores eight vectors of a pixel one behind the other.
 #[inline(always)]
 fn store_eight_vectors<const N: usize, const F: usize>(out: &mut [u8], at: usize, px: Hashed)
-    requires channels { IsChannels N }
-    requires room { at + N * (8 * (VECTOR / N)) + VECTOR % N ≤ length out.old }
+    requires { CanStore N (at + N * (8 * (VECTOR / N)) + VECTOR % N) out.old }
     ensures { (count : ℕ) → count ≤ 8 * (VECTOR / N) → HasCopies F N at count px out.old out.new }
 {
     store_four_vectors::<N, F>(out, at, px);
@@ -87,8 +81,7 @@ pub(super) fn store_run<const N: usize, const F: usize>(
     px: Hashed,
     count: usize,
 )
-    requires channels { IsChannels N }
-    requires room { at + RUN_ROOM ≤ length out.old }
+    requires space { CanStore N (at + RUN_ROOM) out.old }
     requires short { count ≤ run_max }
     ensures { HasCopies F N at count px out.old out.new }
 {
@@ -103,8 +96,7 @@ pub(super) fn store_run<const N: usize, const F: usize>(
 // one.
 #[inline(always)]
 fn store_pixels<const N: usize, const F: usize>(out: &mut [u8], at: usize, px: Hashed, count: usize)
-    requires channels { IsChannels N }
-    requires room { at + N * count ≤ length out.old }
+    requires { CanStore N (at + N * count) out.old }
     ensures { HasCopies F N at count px out.old out.new }
 {
     let mut done = 0;
@@ -129,8 +121,7 @@ fn store_from_both_ends<const N: usize, const F: usize>(
     px: Hashed,
     count: usize,
 )
-    requires channels { IsChannels N }
-    requires room { at + N * count + VECTOR % N ≤ length out.old }
+    requires space { CanStore N (at + N * count + VECTOR % N) out.old }
     requires some { VECTOR / N ≤ count }
     requires short { count ≤ run_max }
     ensures { HasCopies F N at count px out.old out.new }
@@ -159,8 +150,7 @@ pub(super) fn store_exactly<const N: usize, const F: usize>(
     px: Hashed,
     count: usize,
 )
-    requires channels { IsChannels N }
-    requires room { at + N * count ≤ length out.old }
+    requires space { CanStore N (at + N * count) out.old }
     requires short { count ≤ run_max }
     ensures { HasCopies F N at count px out.old out.new }
 {
@@ -182,24 +172,11 @@ pub(super) fn store_late_run<const N: usize, const F: usize>(
     px: Hashed,
     count: usize,
 )
-    requires channels { IsChannels N }
-    requires room { at + N * count ≤ length out.old }
+    requires space { CanStore N (at + N * count) out.old }
     requires short { count ≤ run_max }
     ensures { HasCopies F N at count px out.old out.new }
 {
     store_exactly::<N, F>(out, at, px, count);
-}
-
-// How many bytes of room to rely on after the first `at`: all that there are, or if `RUN_FITS` just
-// those of the vectors of any run, without a test.
-#[inline(always)]
-fn known_room<const RUN_FITS: bool>(size: usize, at: usize) -> usize
-    requires within { at ≤ size }
-    requires room { IsTrue RUN_FITS → at + RUN_ROOM ≤ size }
-    ensures within { at + result ≤ size }
-    ensures all { result < RUN_ROOM → result ≡ size - at }
-{
-    if RUN_FITS { RUN_ROOM } else { size - at }
 }
 
 /// Stores the last pixel `count` times, or as often as there is room, and returns where it stopped.
@@ -223,7 +200,7 @@ pub(super) fn fill<const N: usize, const F: usize, const RUN_FITS: bool>(
     ensures below { from.at + RUN_ROOM ≤ length out.old → result < length out.new }
 {
     let Reached { last, at } = from;
-    let room = known_room::<RUN_FITS>(out.len(), at);
+    let room = if RUN_FITS { RUN_ROOM } else { out.len() - at };
     // By the size, so that `count` is computed for long runs alone.
     if size <= VECTOR {
         if VECTOR <= room {

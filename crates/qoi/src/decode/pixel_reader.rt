@@ -4,10 +4,9 @@ ghost use Rattle.std.specs.Prelude.{◌*◌, ◌≡◌, ℕ, ◌+◌, ◌-◌, �
 ghost use Rattle.qoi.specs.Decoded.{HasDecoded};
 ghost use Rattle.qoi.specs.DecoderState.{DecoderState, output_byte_count};
 ghost use Rattle.qoi.specs.Images.{front_image, front_rest};
-ghost use Rattle.qoi.specs.inner.Conversion.{conversion_of};
-ghost use Rattle.qoi.specs.pieces.PixelReader.{as_decoder, pixels_left, HasGiven, HasRows, RefusesPixels, IsSpent};
+ghost use Rattle.qoi.specs.pieces.PixelReader.{PixelsState, as_decoder, pixels_left, HasGiven, HasRows, RefusesPixels, IsSpent};
 ghost use Rattle.qoi.specs.Qoi.{channels_number};
-ghost use Rattle.qoi.specs.pieces.Unread.{bytes_left, kept_count, KeepsPixels, Asks, StepsIn, Fills};
+ghost use Rattle.qoi.specs.pieces.Unread.{bytes_left, IsRestOf, KeepsPixels, Asks, Fills};
 ghost use Rattle.qoi.specs.Reading.{StandsAhead, IsCutAhead, IsWrongAhead, SaysWhy};
 ghost use Rattle.qoi.specs.Rectangles.{row_bytes, rectangle};
 ghost use Rattle.qoi.specs.declared.error.Error.{Error};
@@ -47,12 +46,6 @@ pub struct PixelReader<R> {
 }
 
 impl<R> Model for PixelReader<R> {
-    ghost use Rattle.std.specs.Prelude.{◌≡◌, ◌≤◌, None, false};
-    ghost use Rattle.qoi.specs.Qoi.{channels_number, IsValid};
-    ghost use Rattle.qoi.specs.DecoderState.{output_byte_count};
-    ghost use Rattle.qoi.specs.pieces.Unread.{bytes_left, KeepsWithin, AreWhole};
-    ghost use Rattle.qoi.specs.pieces.PixelReader.{PixelsState};
-
     ghost Value = { PixelsState R };
 
     ghost view = { λ p. record {
@@ -63,10 +56,7 @@ impl<R> Model for PixelReader<R> {
       refused = p.refused;
     } };
 
-    ghost invariant = { λ p. IsValid p.decoder.header × KeepsWithin p.unread
-        × (bytes_left p.unread ≤ output_byte_count p.decoder)
-        × (p.refused ≡ false → AreWhole (channels_number p.decoder.channels) p.unread)
-        × (p.unread.fault ≡ None) };
+    ghost invariant = { λ p. IsRestOf p.decoder.header p.decoder.channels p.refused p.unread };
 }
 
 impl<R: Reader> Decoder<R> {
@@ -88,26 +78,26 @@ impl<R: Reader> Decoder<R> {
         }
     }
 
-    // `next_piece` once nothing is kept: asks the reader for bytes, and returns how many are in `out`,
-    // maybe none; what it lacks, and more, is in `unread`. Not inlined: what `read` does for
-    // bytes that are kept is then a few instructions.
+    // `next_piece` once nothing is kept: asks the reader for bytes that are decoded in place, and for
+    // more that are then kept, and gives these. Not inlined: what `read` does for bytes that are kept is
+    // then a few instructions.
     #[inline(never)]
-    fn ask_reader(&mut self, unread: &mut Unread, out: &mut [u8]) -> PieceResult<usize>
+    fn ask_reader(&mut self, unread: &mut Unread, out: &mut [u8]) -> PieceResult<()>
         requires { Asks (channels_number self.old.channels) unread.old (length out.old) }
-        ensures step { StepsIn (conversion_of self.old) R.in_memory
-            (R.ahead self.old.reader) (R.ahead self.new.reader)
-            unread.old unread.new out.new result }
-        ensures enough { IfOk result (λ size. length out.new ≤ size + kept_count unread.new) }
+        ensures step { Fills (channels_number self.old.header.channels)
+            (channels_number self.old.channels) R.in_memory (R.ahead self.old.reader)
+            (R.ahead self.new.reader) unread.old unread.new out.new result }
         ensures kept { IsTrue R.in_memory
             → OnErr result (Keeps (R.ahead self.old.reader) (R.ahead self.new.reader)) }
         ensures unchanged { self.new ≡ record self.old { reader = self.new.reader } }
     {
         let conversion = self.conversion();
-        self.reader.decode_piece(unread, out, conversion)
+        let given = self.reader.decode_piece(unread, out, conversion)?;
+        unread.give(&mut out[given..]);
+        Ok(())
     }
 
-    // Fills `out` with the next bytes of the image: with what is kept, with more that is decoded in
-    // place, and with what is then kept.
+    // Fills `out` with the next bytes of the image: with what is kept, and else by the reader.
     #[inline(always)]
     fn next_piece(&mut self, unread: &mut Unread, out: &mut [u8]) -> PieceResult<()>
         requires fits { length out.old ≤ bytes_left unread.old }
@@ -123,13 +113,7 @@ impl<R: Reader> Decoder<R> {
         if done == out.len() {
             return Ok(());
         }
-        let more = self.ask_reader(unread, &mut out[done..])?;
-        let given = done + more;
-        if given == out.len() {
-            return Ok(());
-        }
-        unread.give(&mut out[given..]);
-        Ok(())
+        self.ask_reader(unread, &mut out[done..])
     }
 }
 
@@ -172,7 +156,7 @@ impl<R: Reader> PixelReader<R> {
 
     /// How many raw bytes of the image are unread: none after the last ones, and some for ever after
     /// a refusal.
-    #[tactic(auto, unfolding(crate::specs::pieces::PixelReader::pixels_left))]
+    #[tactic(auto, unfolding(crate::specs::pieces::PixelReader::pixels_left, crate::specs::pieces::PixelReader::HasGiven))]
     pub fn left(&self) -> usize
         ensures left { result ≡ pixels_left self.now }
         // If none are left, the decoder's image was decoded, and these are its bytes.

@@ -1,4 +1,6 @@
 //! Where a decoder takes its bytes from: bytes in memory, a stream, or a reader with a buffer.
+#![tactic(auto, using(crate::proofs::decoding::GivenMore::steps_in_three))]
+
 ghost use Rattle.std.specs.Io.KnownBytes.{Keeps};
 ghost use Rattle.std.specs.Prelude.{◌≡◌, ℕ, ◌+◌, ◌-◌, ◌≤◌, ◌/◌, ◌%◌, List, length, Option, Some, IfOk, IfErr, OnOk, OnErr, IsSome, IsTrue, Bool, true, false, Err, refl};
 ghost use Rattle.std.specs.Vec.{vec_len, vec_capacity};

@@ -3,6 +3,7 @@ ghost use Rattle.std.specs.Prelude.{◌<◌, [], ◌∷◌, length, false, IfOk,
 ghost use Rattle.std.specs.Io.KnownBytes.{Consumes};
 ghost use Rattle.qoi.specs.Qoi.{AreBytes, end_marker};
 ghost use Rattle.qoi.specs.declared.error.Error.{Error};
+ghost use Rattle.qoi.specs.declared.decode.output.TheConstants.{RUN_ROOM};
 ghost use Rattle.qoi.specs.Verdicts.{IsPartOfChunk};
 ghost use Rattle.qoi.specs.Decoding.{TakesBytes, RefusesTakenMarker};
 ghost use Rattle.qoi.specs.inner.Chunks.{TakesChunks, RefusesFilling};
@@ -100,7 +101,8 @@ pub(super) fn next_chunk<R: Read, const N: usize, const F: usize, const RUN_FITS
     ensures read { IfOk result (λ now.
         TakesBytes (R.remaining reader.old) (R.remaining reader.new) (λ taken.
         DecodesChunk F N taken (filling table.old from out.old) (filling table.new now out.new))) }
-    ensures more { IfOk result (λ now. FillsMore N (upto out.old from.at) (upto out.new now.at)) }
+    ensures more { IfOk result (λ now.
+        FillsMore N 1 RUN_ROOM (upto out.old from.at) (upto out.new now.at)) }
     ensures failed { OnErr result (TakesBytes (R.remaining reader.old) (R.remaining reader.new)
         IsPartOfChunk) }
 {

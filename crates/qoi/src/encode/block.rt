@@ -5,16 +5,14 @@ ghost use Rattle.std.specs.Prelude.{◌≡◌, ℕ, Bool, false, ◌+◌, ◌-�
 ghost use Rattle.qoi.specs.declared.types.Style.TheVariants.{Places, Tight};
 ghost use Rattle.qoi.specs.Qoi.{RgbaPixel};
 ghost use Rattle.qoi.specs.Raw.{IsChannels, AreOpaque};
-ghost use Rattle.qoi.specs.inner.block.Lanes.{mask};
+ghost use Rattle.qoi.specs.inner.block.Lanes.{mask, State, NoneBlank};
+ghost use Rattle.qoi.specs.Styles.{style_of};
 ghost use Rattle.qoi.specs.inner.block.Marks.{fresh_marks};
-ghost use Rattle.qoi.specs.inner.block.State.{State, NoneBlank};
 ghost use Rattle.qoi.specs.inner.block.Block.{ChangesFrom, FitsBlock, MissesNoBlank, last_pixel};
 ghost use Rattle.qoi.specs.inner.BlockLoop.{InBlocks};
-ghost use Rattle.qoi.specs.inner.CoderState.{style_of};
-ghost use Rattle.qoi.specs.inner.Piece.{kept_bytes};
-ghost use Rattle.qoi.specs.inner.Pixels.{pixels_in};
+ghost use Rattle.qoi.specs.inner.Coder.{pixels_in, kept_bytes};
 ghost use Rattle.qoi.specs.inner.block.Planes.{ArePacked, ArePlanes, block_pixels};
-ghost use Rattle.qoi.specs.inner.block.Spelling.{IsBlock, HasSpelled};
+ghost use Rattle.qoi.specs.inner.block.Vectors.{IsBlock, HasSpelled};
 ghost use Rattle.qoi.specs.inner.Table.{Holds};
 
 mod counting;

@@ -3,7 +3,7 @@
 ghost use Rattle.std.specs.Prelude.{◌≡◌, ◌+◌, ◌<◌, nat_lt, if◌then◌else◌, ◌++◌, length, take, drop, slice_index};
 ghost use Rattle.qoi.specs.Qoi.{run_max};
 ghost use Rattle.qoi.specs.Raw.{IsChannels, IsChannels-prop};
-ghost use Rattle.qoi.specs.inner.block.State.{group_bytes};
+ghost use Rattle.qoi.specs.inner.block.Lanes.{group_bytes};
 ghost use Rattle.qoi.specs.inner.block.Block.{last_pixel};
 
 use crate::consts::QOI_OP_RUN;

@@ -1,15 +1,13 @@
 //! The chunks of an image, through a piece to a writer (QOI specification 1.0, "Data"): all at once,
 //! or those of some raw bytes.
-ghost use Rattle.std.specs.Prelude.{◌≡◌, ℕ, ◌-◌, ◌*◌, ◌%◌, ◌<◌, ◌≤◌, List, length, take, IfOk, OnOk, IfErr};
+ghost use Rattle.std.specs.Prelude.{◌≡◌, ℕ, ◌-◌, ◌*◌, ◌%◌, ◌<◌, ◌≤◌, List, length, take};
 ghost use Rattle.qoi.specs.declared.encode.piece.TheConstants.{SPARE, FULL_ROOM, FEW_ROOM};
 ghost use Rattle.qoi.specs.Qoi.{header_bytes};
 ghost use Rattle.qoi.specs.Raw.{pixels_of};
 ghost use Rattle.qoi.specs.Encoded.{image_file, max_file_len};
-ghost use Rattle.qoi.specs.inner.CoderSteps.{CoderEnds};
-ghost use Rattle.qoi.specs.inner.CoderState.{style_of};
-ghost use Rattle.qoi.specs.inner.Piece.{kept_bytes};
-ghost use Rattle.qoi.specs.inner.Sending.{pixel_size, EndsOpaque, StaysIn, Between, IsReady, WroteWhole, BreaksOff, Ends, WroteImage, BeganImage};
-ghost use Rattle.qoi.specs.writers.Writes.{WroteBeginning};
+ghost use Rattle.qoi.specs.inner.Sending.{pixel_size, EndsOpaque, StaysIn, Between, IsReady, WritesWhole, EndsWith, WritesImage};
+ghost use Rattle.qoi.specs.Styles.{style_of};
+ghost use Rattle.qoi.specs.inner.Coder.{kept_bytes, CoderEnds};
 
 use crate::encode::Encoder;
 use crate::encode::blocks::write_some;
@@ -38,11 +36,8 @@ fn write_blocks<'a, 'p, W: Writer, const N: usize, const STYLE: u8, const ROOM: 
     requires ready { IsReady (W.room writer.old) ROOM pending.old (kept_bytes piece.piece)
         «data».now }
     ensures stays { StaysIn pending.old pending.new }
-    ensures written { IfOk result (λ r. WroteWhole W.wrote W.room ROOM
-        writer.old pending.old (kept_bytes piece.entry.piece) «data».entry.now
-        writer.new pending.new (kept_bytes r.1.piece) r.0.now) }
-    ensures refused { IfErr result (λ e. W.IsFault e × BreaksOff W.wrote writer.old pending.old
-        (kept_bytes piece.entry.piece) «data».entry.now writer.new) }
+    ensures written { WritesWhole W.wrote W.room W.IsFault writer.old pending.old piece.entry
+        «data».entry.now writer.new pending.new result }
 {
     let table = &mut pending.table;
     let mut last = pending.last;
@@ -71,11 +66,8 @@ pub(super) fn write_whole<'a, 'p, W: Writer, const ROOM: usize>(
 ) -> Result<(&'a [u8], OpenPiece<'p, ROOM>)>
     requires { IsReady (W.room writer.old) ROOM pending.old (kept_bytes piece.piece) «data».now }
     ensures stays { StaysIn pending.old pending.new }
-    ensures written { IfOk result (λ r. WroteWhole W.wrote W.room ROOM
-        writer.old pending.old (kept_bytes piece.entry.piece) «data».entry.now
-        writer.new pending.new (kept_bytes r.1.piece) r.0.now) }
-    ensures refused { IfErr result (λ e. W.IsFault e × BreaksOff W.wrote writer.old pending.old
-        (kept_bytes piece.entry.piece) «data».entry.now writer.new) }
+    ensures written { WritesWhole W.wrote W.room W.IsFault writer.old pending.old piece.entry
+        «data».entry.now writer.new pending.new result }
 {
     // A loop for each pair, in which channels and style are constants.
     match (pending.channels, pending.style) {
@@ -139,10 +131,8 @@ pub(super) fn write_end<W: Writer, const ROOM: usize>(
     requires few { length left.now < 16 * pixel_size pending.old }
     requires not_full { piece.old.end < ROOM - SPARE }
     requires ready { IsReady (W.room writer.old) ROOM pending.old (kept_bytes piece.old) left.now }
-    ensures written { OnOk result (Ends W.wrote
-        writer.old pending.old (kept_bytes piece.old) left.now writer.new) }
-    ensures refused { IfErr result (λ e. W.IsFault e × Ends (WroteBeginning W.wrote)
-        writer.old pending.old (kept_bytes piece.old) left.now writer.new) }
+    ensures { EndsWith W.wrote W.IsFault
+        writer.old pending.old (kept_bytes piece.old) left.now writer.new result }
 {
     write_left(pending, piece, left);
     piece.finish(writer)
@@ -156,9 +146,7 @@ pub(super) fn encode_file<W: Writer, const ROOM: usize>(
 ) -> Result<usize>
     requires piece { (2 * SPARE ≤ ROOM) × (ROOM ≤ FULL_ROOM) }
     requires room { max_file_len encoder.now.header ≤ W.room writer.old }
-    ensures written { IfOk result (WroteImage W.wrote encoder.now writer.old writer.new) }
-    ensures refused { IfErr result (λ e. W.IsFault e
-        × BeganImage W.wrote encoder.now writer.old writer.new) }
+    ensures { WritesImage W.wrote W.IsFault encoder.now writer.old writer.new result }
 {
     let room = writer.capacity();
     let mut bytes = [0; ROOM];

@@ -8,11 +8,7 @@ ghost use Rattle.qoi.specs.Qoi.{RgbaPixel, Past, run_max, chunk_max, marker_size
 ghost use Rattle.qoi.specs.Raw.{IsChannels, IsChannels-prop};
 ghost use Rattle.qoi.specs.Runs.{runs_by};
 ghost use Rattle.qoi.specs.Written.{IsFirst};
-ghost use Rattle.qoi.specs.Styles.{choice_in};
-ghost use Rattle.qoi.specs.inner.CoderLoop.{CoderAfter, CoderBetween, single};
-ghost use Rattle.qoi.specs.inner.CoderState.{held_in, last_chunk, style_of};
-ghost use Rattle.qoi.specs.inner.SpelledOut.{HasBytes};
-ghost use Rattle.qoi.specs.inner.Piece.{kept_bytes};
+ghost use Rattle.qoi.specs.Styles.{choice_in, style_of};
 ghost use Rattle.qoi.specs.inner.Table.{Holds};
 
 use crate::consts::{QOI_OP_RUN, QOI_RUN_MAX};
@@ -49,8 +45,7 @@ pub(super) struct Coder<const N: usize> {
 }
 
 impl<const N: usize> Coder<N> {
-    ghost use Rattle.qoi.specs.inner.CoderSteps.{CoderPasses, CoderEnds};
-    ghost use Rattle.qoi.specs.inner.Pixels.{pixels_in};
+    ghost use Rattle.qoi.specs.inner.Coder.{held_in, last_chunk, pixels_in, kept_bytes, HasBytes, CoderAfter, single, CoderBetween, CoderPasses, CoderEnds};
 
     /// The coder in this style, after this pixel.
     #[inline(always)]

@@ -3,8 +3,8 @@ ghost use Rattle.std.specs.Prelude.{◌≡◌, ◌+◌, ◌≤◌};
 ghost use Rattle.qoi.specs.declared.chunk.Chunk.{Chunk};
 ghost use Rattle.qoi.specs.Qoi.{IsPixel};
 ghost use Rattle.qoi.specs.Raw.{IsChannels};
-ghost use Rattle.qoi.specs.inner.SpelledOut.{SpellsOut};
-ghost use Rattle.qoi.specs.Steps.{steps, diff_steps, luma_steps};
+ghost use Rattle.qoi.specs.inner.Coder.{SpellsOut};
+ghost use Rattle.qoi.specs.WrittenList.{steps, diff_steps, luma_steps};
 
 use crate::consts::{QOI_OP_DIFF, QOI_OP_LUMA, QOI_OP_RGB, QOI_OP_RGBA};
 use crate::packed::Packed;

@@ -1,6 +1,6 @@
 //! Pixels of which an RGBA chunk gives nearly each (QOI specification 1.0, "Chunks").
 ghost use Rattle.std.specs.Prelude.{◌≤◌, length};
-ghost use Rattle.qoi.specs.inner.Pixels.{pixels_in};
+ghost use Rattle.qoi.specs.inner.Coder.{pixels_in};
 
 use crate::encode::pixels::Pixels;
 use crate::encode::table::PixelTable;

@@ -22,7 +22,7 @@ impl LastPixel {
     ghost use Rattle.std.specs.Prelude.{[], List, None};
     ghost use Rattle.qoi.specs.Qoi.{RgbaPixel};
     ghost use Rattle.qoi.specs.declared.types.Style.{Style};
-    ghost use Rattle.qoi.specs.inner.CoderLoop.{CoderAfter};
+    ghost use Rattle.qoi.specs.inner.Coder.{CoderAfter};
     ghost use Rattle.qoi.specs.inner.Table.{Holds};
 
     /// Before the first pixel, as if opaque black came before.

@@ -3,8 +3,7 @@
 ghost use Rattle.std.specs.Prelude.{◌≡◌, ◌-◌, ◌%◌, ◌<◌, ◌≤◌, true, Some, length, take, drop, slice_get, IsTrue};
 ghost use Rattle.qoi.specs.declared.encode.carry.TheConstants.{FRONT_CARRIED};
 ghost use Rattle.qoi.specs.declared.encode.piece.TheConstants.{SPARE};
-ghost use Rattle.qoi.specs.inner.CoderSteps.{CoderPasses};
-ghost use Rattle.qoi.specs.inner.Pixels.{pixels_in};
+ghost use Rattle.qoi.specs.inner.Coder.{pixels_in, CoderPasses};
 ghost use Rattle.qoi.specs.inner.block.Marks.{fresh_marks};
 
 use crate::encode::carry::{Carry, FRONT_CARRIED};

@@ -2,8 +2,7 @@
 //! 1.0, "Chunks").
 ghost use Rattle.std.specs.Prelude.{◌≡◌, ◌≢◌, ◌≤◌, [], length, take, IsTrue};
 ghost use Rattle.qoi.specs.declared.encode.pairs.TheConstants.{TWO_PAIRS};
-ghost use Rattle.qoi.specs.inner.CoderSteps.{CoderPasses};
-ghost use Rattle.qoi.specs.inner.Pixels.{pixels_in};
+ghost use Rattle.qoi.specs.inner.Coder.{pixels_in, CoderPasses};
 ghost use Rattle.qoi.specs.inner.block.Marks.{fresh_marks};
 
 use crate::encode::block::reading::read_four;

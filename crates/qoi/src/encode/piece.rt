@@ -61,7 +61,7 @@ pub(super) struct OpenPiece<'a, const ROOM: usize> {
 }
 
 impl<'a, const ROOM: usize> Piece<'a, ROOM> {
-    ghost use Rattle.qoi.specs.inner.Piece.{kept_bytes};
+    ghost use Rattle.qoi.specs.inner.Coder.{kept_bytes};
 
     /// An empty piece in this room.
     #[inline(always)]

@@ -53,7 +53,7 @@ pub(super) struct Marked<'a, const N: usize> {
 }
 
 impl<'a, const N: usize> Pixels<'a, N> {
-    ghost use Rattle.qoi.specs.inner.Pixels.{pixels_in};
+    ghost use Rattle.qoi.specs.inner.Coder.{pixels_in};
 
     /// The pixels of raw bytes.
     #[inline(always)]
@@ -74,6 +74,7 @@ impl<'a, const N: usize> Pixels<'a, N> {
     }
 
     /// Whether there are as many as a block has.
+    #[tactic(auto, using(crate::proofs::encoding::coder::PixelsIn::sizes))]
     #[inline(always)]
     pub(super) fn has_block(self) -> bool
         ensures { IsTrue result ↔ (16 ≤ length (pixels_in self.entry)) }
@@ -137,6 +138,7 @@ impl<'a, const N: usize> Pixels<'a, N> {
     }
 
     /// The first `most` pixels, or all if there are fewer.
+    #[tactic(auto, using(crate::proofs::encoding::coder::PixelsIn::pixels_near))]
     #[inline(always)]
     pub(super) fn at_most(self, most: usize) -> Pixels<'a, N>
         requires { most ≤ REPEATS_AT_ONCE }

@@ -5,7 +5,7 @@ ghost use Rattle.std.specs.Prelude.{nat_eq, ◌≡◌, ◌+◌, ◌-◌, ◌*◌
 ghost use Rattle.qoi.specs.Qoi.{rgba};
 ghost use Rattle.qoi.specs.Raw.{IsChannels, output, pixels_of};
 ghost use Rattle.qoi.specs.Runs.{IsCount};
-ghost use Rattle.qoi.specs.inner.Pixels.{pixels_in};
+ghost use Rattle.qoi.specs.inner.Coder.{pixels_in};
 
 use crate::encode::pixels::{FrontBlock, PixelOf, Pixels};
 use crate::packed::Packed;
@@ -45,6 +45,7 @@ pub(super) fn repeats_of<const N: usize>(raw: Pixels<N>, pixel: PixelOf<N>) -> u
 }
 
 // Counts pixel by pixel.
+#[tactic(auto, using(crate::proofs::encoding::coder::PixelsIn::pixels_few))]
 #[inline(always)]
 fn count_pixels<const N: usize>(raw: Pixels<N>, px: Packed) -> usize
     ensures within { result ≤ length (pixels_in raw.entry) }

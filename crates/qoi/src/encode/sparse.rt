@@ -1,9 +1,8 @@
 //! Blocks of which few pixels are fresh, one after the other (QOI specification 1.0, "Chunks"): packed
 //! pixels are compared with those before them, and no planes are made.
 ghost use Rattle.std.specs.Prelude.{◌≡◌, ◌≢◌, ◌<◌, ◌≤◌, ◌^◌, [], length, take, slice_index};
-ghost use Rattle.qoi.specs.inner.CoderSteps.{CoderPasses};
+ghost use Rattle.qoi.specs.inner.Coder.{pixels_in, CoderPasses};
 ghost use Rattle.qoi.specs.inner.Packed.{pixel_of_word};
-ghost use Rattle.qoi.specs.inner.Pixels.{pixels_in};
 ghost use Rattle.qoi.specs.inner.block.Marks.{fresh_marks};
 ghost use Rattle.qoi.specs.inner.block.Planes.{AreFour, pixels_of_words};
 

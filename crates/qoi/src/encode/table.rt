@@ -4,7 +4,7 @@ ghost use Rattle.std.specs.Prelude.{◌≡◌, ◌<◌, ◌≤◌, ◌+◌, ℕ,
 ghost use Rattle.qoi.specs.Qoi.{RgbaPixel, IsPixel, Past, positions, hash, seen};
 ghost use Rattle.qoi.specs.inner.Packed.{word};
 ghost use Rattle.qoi.specs.inner.block.Planes.{AreFourWords};
-ghost use Rattle.qoi.specs.inner.block.Positions.{HasPut};
+ghost use Rattle.qoi.specs.inner.block.Positions.{HasPut, HasPutOne};
 ghost use Rattle.qoi.specs.inner.Table.{Holds, first_blank};
 
 use crate::packed::Packed;
@@ -50,7 +50,7 @@ impl PixelTable {
     }
 
     /// Puts a pixel at its index position.
-    #[tactic(auto, using(crate::proofs::format::SamePixels::hash_below))]
+    #[tactic(auto, using(crate::proofs::format::TableHolds::puts))]
     #[inline(always)]
     pub(super) fn put(&mut self, place: u8, px: Packed)
         requires { place ≡ hash px }
@@ -60,7 +60,7 @@ impl PixelTable {
     }
 
     /// Puts a pixel at its index position, or nothing. No jump is needed.
-    #[tactic(auto, using(crate::proofs::format::SamePixels::hash_below))]
+    #[tactic(auto, using(crate::proofs::format::TableHolds::puts))]
     #[inline(always)]
     pub(super) fn put_if(&mut self, puts: bool, place: u8, px: Packed)
         requires { place ≡ hash px }
@@ -76,10 +76,8 @@ impl PixelTable {
     #[inline(always)]
     fn swap(&mut self, place: usize, px: u32) -> u32
         requires { place < 64 }
-        ensures was { (past : Past) → Holds self.old past
-            → (result ≡ word (seen past place)) × IsPixel (seen past place) }
-        ensures put { (past : Past) (p : RgbaPixel) → Holds self.old past → IsPixel p
-            → px ≡ word p → place ≡ hash p → Holds self.new (p ∷ past) }
+        ensures { (past : Past) (p : RgbaPixel) → Holds self.old past → IsPixel p → px ≡ word p
+            → place ≡ hash p → HasPutOne past p result self.new }
     {
         let held = self.pixels[place];
         self.pixels[place] = Packed::of_number(px);

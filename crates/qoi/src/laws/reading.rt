@@ -195,6 +195,7 @@ pub fn frames_stay()
 {}
 
 /// Each frame of a store is read at its offset.
+#[tactic(auto, using(crate::proofs::decoding::Frames::frame_laws))]
 pub fn frames_are_read()
     ensures read { (bytes offsets : List ℕ) (images : List (List ℕ)) (k : ℕ)
         → AreFrames bytes offsets images → k < length offsets
@@ -211,7 +212,7 @@ pub fn frames_are_read()
 
 /// A file behind frames is one more. The frames in front of bytes are these and no others, if no
 /// file follows.
-#[tactic(auto, using(crate::proofs::decoding::Frames::frame_found, crate::proofs::decoding::Frames::frames_are_one))]
+#[tactic(auto, using(crate::proofs::decoding::Frames::frame_laws))]
 pub fn frames_are_found()
     ensures found { (bytes offsets more : List ℕ) (images : List (List ℕ)) (at end : ℕ)
         → AreFrames (take at bytes) offsets images → BeginsWithFile (drop at bytes)

@@ -1,4 +1,6 @@
 //! Laws on rows and rectangles of raw bytes: an image's, or any others of rows of one length.
+#![tactic(auto, using(crate::proofs::format::RectangleLaws::rectangle_laws))]
+
 ghost use Rattle.std.specs.Prelude.{◌≡◌, ℕ, ◌+◌, ◌-◌, ◌*◌, ◌<◌, ◌≤◌, List, ◌++◌, length, take, drop, slice_index};
 ghost use Rattle.qoi.specs.Rectangles.{row_bytes, rectangle, with_tile, KeepsOutside};
 

@@ -1,6 +1,6 @@
 -- From one block of sixteen pixels to the next.
 use Rattle.std.proofs.Common.{◌≡◌, ◌⊎◌, inl, inr, ◌%◌, ◌≢◌, if◌then◌else◌, nat_lt, ℕ, zero, suc, ◌+◌, ◌-◌, ◌<◌, ◌≤◌, Bool, true, false, List, [], ◌∷◌, ◌++◌, length, map, get_or, take, slice_index, Some, refl, sym, ap, ◌∙◌, arith, subst}
-use Rattle.std.proofs.lemmas.Bool.{true≢false, cases_eq, lt-ltb}
+use Rattle.std.proofs.lemmas.Bool.{true≢false, cases_eq, le-ltb, lt-ltb}
 use Rattle.std.proofs.lemmas.List.{length-map}
 use Rattle.std.specs.List.{slice_get}
 use Rattle.qoi.specs.declared.encode.carry.Carry.{Carry}
@@ -10,15 +10,13 @@ use Rattle.qoi.specs.declared.types.Style.{Style}
 use Rattle.qoi.specs.declared.types.Style.TheVariants.{Reference, Places, Tight}
 use Rattle.qoi.specs.Qoi.{RgbaPixel, pixel_eq, seen, hash}
 use Rattle.qoi.specs.Styles.{names}
-use Rattle.qoi.specs.inner.block.Lanes.{mask}
+use Rattle.qoi.specs.inner.block.Lanes.{mask, State, lanes_of, is_rep, group_bytes, next_state, more_of, block_bytes, NoneBlank, next_by}
 use Rattle.qoi.specs.inner.block.Block.{last_pixel}
 use Rattle.qoi.specs.inner.block.Marks.{fresh_marks}
-use Rattle.qoi.specs.inner.block.State.{State, lanes_of, is_rep, group_bytes, next_state, more_of, block_bytes, NoneBlank, next_by}
 use Rattle.qoi.specs.inner.BlockLoop.{InBlocks}
-use Rattle.qoi.specs.inner.CoderLoop.{Ahead}
-use Rattle.qoi.specs.inner.block.Counting.{counts}
+use Rattle.qoi.specs.inner.block.Vectors.{counts, HasSpelled}
+use Rattle.qoi.specs.inner.Coder.{Ahead}
 use Rattle.qoi.specs.inner.block.Planes.{AreSixteen, ArePlanes}
-use Rattle.qoi.specs.inner.block.Spelling.{HasSpelled}
 use Rattle.qoi.specs.inner.block.Positions.{put_all, stand_tests}
 use Rattle.qoi.specs.inner.Table.{Holds}
 use Rattle.qoi.proofs.format.SamePixels.{same_pixel, pixel_eq-true, pixel_eq-from}
@@ -27,7 +25,6 @@ use Rattle.qoi.proofs.encoding.blocks.BlockWritten.{Carrying, flushed, block_wri
 use Rattle.qoi.proofs.encoding.blocks.LastCount.{last_count, end_state}
 use Rattle.qoi.proofs.encoding.blocks.SpelledBlock.{lanes_long}
 use Rattle.qoi.proofs.encoding.blocks.StyledBytes.{firsts_anew}
-use Rattle.qoi.proofs.encoding.lanes.LaneBits.{not_lt}
 use Rattle.qoi.proofs.encoding.coder.CoderLink.{goes_on}
 use Rattle.qoi.proofs.encoding.coder.MarkedPixels.{none_first}
 
@@ -105,7 +102,7 @@ ready {begun} style ahead s (p ∷ ps) rest x placed at end kept next small few 
     }
 
     fresh : pixel_eq p s.last ≡ false → (k : ℕ) → s.carry ≡ k → Ready style ahead s (p ∷ ps) (p ∷ (ps ++ rest)) x (take end next)
-    fresh e zero none = stays (ends false false 0 e none (not_lt 0 0 (omega arith))) (λ some. absurd (omega (arith, none, some))) (omega (arith, none))
+    fresh e zero none = stays (ends false false 0 e none (le-ltb 0 0 (omega arith))) (λ some. absurd (omega (arith, none, some))) (omega (arith, none))
     fresh e (suc k) some =
         let differs : p ≢ s.last = λ same. true≢false (sym (pixel_eq-from p s.last same) ∙ e) in
         let bytes : kept ++ group_bytes style s.placed s.last (suc k) ≡ take end next =
@@ -125,7 +122,7 @@ ready {begun} style ahead s (p ∷ ps) rest x placed at end kept next small few 
     go : (b : Bool) → pixel_eq p s.last ≡ b → Ready style ahead s (p ∷ ps) (p ∷ (ps ++ rest)) x (take end next)
     go true e =
         let same = pixel_eq-true p s.last e in
-        stays (ends true false s.carry e refl (not_lt 255 s.carry (omega (arith, small)))) (λ some. same) (few (ap Some same))
+        stays (ends true false s.carry e refl (le-ltb 255 s.carry (omega (arith, small)))) (λ some. same) (few (ap Some same))
     go false e = fresh e s.carry refl
 
 -- as many repeats are carried after pixels as came

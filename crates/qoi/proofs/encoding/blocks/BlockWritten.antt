@@ -1,5 +1,5 @@
 -- A block of pixels is written, lane by lane.
-use Rattle.std.proofs.Common.{◌≡◌, ◌≢◌, ◌⊎◌, inl, inr, ℕ, zero, suc, ◌+◌, ◌%◌, ◌/◌, ◌<◌, Bool, true, false, ◌==◌, List, [], ◌∷◌, ◌++◌, length, replicate, Option, Some, refl, sym, ap, ◌∙◌, arith, subst, append_assoc, append-nil, if◌then◌else◌}
+use Rattle.std.proofs.Common.{◌≡◌, ◌≢◌, ◌⊎◌, inl, inr, ℕ, zero, suc, ◌+◌, ◌<◌, Bool, true, false, ◌==◌, List, [], ◌∷◌, ◌++◌, length, replicate, Option, Some, refl, sym, ap, ◌∙◌, arith, subst, append_assoc, append-nil, if◌then◌else◌}
 use Rattle.std.specs.List.{AllByRecursion, slice_get}
 use Rattle.std.proofs.lemmas.Bool.{true≢false, true_from_ne_false, eq-eqb}
 use Rattle.std.proofs.lemmas.Option.{same_Some}
@@ -8,23 +8,23 @@ use Rattle.qoi.specs.declared.chunk.Chunk.TheVariants.{Place, Run}
 use Rattle.qoi.specs.declared.types.Style.{Style}
 use Rattle.qoi.specs.declared.types.Style.TheVariants.{Reference, Places, Tight}
 use Rattle.qoi.specs.Qoi.{RgbaPixel, IsPixel, Past, previous, pixel_eq, blank, seen, hash, IsChunk, bytes_of, chunk_bytes}
-use Rattle.qoi.specs.Runs.{runs_by, last_by}
+use Rattle.qoi.specs.Runs.{runs_by}
 use Rattle.qoi.specs.Written.{fresh, IsFirst}
 use Rattle.qoi.specs.Styles.{has_pixel, some_fresh, names, choice_in}
-use Rattle.qoi.specs.inner.CoderState.{held_in, single_chunk, last_chunk}
-use Rattle.qoi.specs.inner.CoderLoop.{Ahead}
-use Rattle.qoi.proofs.format.ChunkSteps.{previous_repeats}
+use Rattle.qoi.specs.inner.Coder.{held_in, single_chunk, last_chunk, Ahead}
 use Rattle.qoi.proofs.format.SamePixels.{pixel_eq-true, pixel_eq-from, pixel_eq-ne, hash_below, cases_pixel}
+use Rattle.qoi.proofs.format.SeenTable.{seen_copies, put_again}
 use Rattle.qoi.proofs.encoding.lists.NotedPixels.{fresh_repeat, fresh_more, seen_same}
 use Rattle.qoi.proofs.encoding.lists.GroupRuns.{not_one}
+use Rattle.qoi.proofs.encoding.lists.RunBytes.{few_by}
 use Rattle.qoi.proofs.encoding.coder.CoderSteps.{over_repeat, over_group, over_fresh}
-use Rattle.qoi.proofs.encoding.coder.CoderTable.{place_chosen, spelled_out}
+use Rattle.qoi.proofs.encoding.coder.CoderTable.{fresh_held_in, fresh_repeats, place_chosen, spelled_out}
 use Rattle.qoi.proofs.encoding.lists.WrittenExists.{spells_no_place}
-use Rattle.qoi.specs.inner.block.Lanes.{lane_bytes}
-use Rattle.qoi.specs.inner.block.State.{State, lane_of, group_bytes, next_by, step_by, next_state, more_of, block_bytes, NoneBlank}
+use Rattle.qoi.specs.inner.block.Lanes.{lane_bytes, State, lane_of, group_bytes, next_by, step_by, next_state, more_of, block_bytes, NoneBlank}
 use Rattle.qoi.proofs.encoding.blocks.LaneBytes.{carry_few}
 use Rattle.qoi.proofs.encoding.lanes.LaneChunk.{spelled_lane}
 use Rattle.qoi.proofs.encoding.blocks.LastCount.{end_state}
+use Rattle.qoi.proofs.encoding.styles.PlacedLists.{seen_last}
 use Rattle.qoi.proofs.encoding.styles.StyledGroup.{runs_name_none}
 
 -- repeats are carried only if the next pixel is one
@@ -35,12 +35,6 @@ CarryGoesOn s (p ∷ ps) = 0 < s.carry → p ≡ s.last
 -- the state once the carried repeats are written, before a fresh pixel
 abbrev pub flushed_state : State → State
 flushed_state s = record { held = s.held; last = s.last; carry = 0; placed = false }
-
--- a group of fewer than 62 repeats
-runs_few : (one : Chunk) (n : ℕ) → n < 62 → runs_by one n ≡ last_by one n
-unfolding runs_by
-runs_few one n l = let q : n / 62 ≡ 0 = omega arith in let r : n % 62 ≡ n = omega arith in
-    λ i. replicate (q i) (Run 62) ++ last_by one (r i)
 
 -- Written up to `carry` repeats of the last pixel, which have come. `begun` says whether a fresh
 -- pixel came; if not, the next one is fresh, and no repeats are carried.
@@ -73,66 +67,41 @@ group_next {style} {ahead} {past} {before} {kept} k p more placed q b differs fe
 
     bytes_are : (k : ℕ) → k < 61 → chunk_bytes (runs_by (one (suc k)) (suc k)) ≡ group_bytes style placed q (suc k)
     bytes_are zero l =
-        ap chunk_bytes (runs_few (one 1) 1 (omega arith)) ∙ append-nil (bytes_of (one 1))
+        ap chunk_bytes (few_by (one 1) 1 (omega arith)) ∙ append-nil (bytes_of (one 1))
         ∙ (λ i. bytes_of (single_chunk style (begun i) (placed_of i) (hash (last_is i)) 1))
     bytes_are (suc k) l =
-        ap chunk_bytes (runs_few (one (suc (suc k))) (suc (suc k)) (omega arith)) ∙ append-nil (bytes_of (Run (suc (suc k))))
+        ap chunk_bytes (few_by (one (suc (suc k))) (suc (suc k)) (omega arith)) ∙ append-nil (bytes_of (Run (suc (suc k))))
         ∙ sym (ap (λ b. bytes_of (if b then single_chunk style true placed (hash q) 1 else Run (suc (suc k)))) (not_one k))
 
--- the table, into which repeats are put too
-
 -- once a fresh pixel came, the last of them is the last pixel
-fresh_first : (past : Past) → some_fresh past ≡ true → (i : ℕ) → hash (previous past) ≡ i → seen (fresh past) i ≡ previous past
-fresh_first [] b i h = absurd (let no : false ≡ true = b in cc)
-fresh_first (p ∷ past) b i h = go (fresh_first past) (cases_pixel p (previous past))
+fresh_first : (past : Past) → some_fresh past ≡ true → seen (fresh past) (hash (previous past)) ≡ previous past
+fresh_first [] b = absurd (true≢false (sym b))
+fresh_first (p ∷ past) b = go (fresh_first past) (cases_pixel p (previous past))
   where
-    go : (some_fresh past ≡ true → (i : ℕ) → hash (previous past) ≡ i → seen (fresh past) i ≡ previous past)
-        → (p ≡ previous past) ⊎ (p ≢ previous past) → seen (fresh (p ∷ past)) i ≡ p
+    go : (some_fresh past ≡ true → seen (fresh past) (hash (previous past)) ≡ previous past) → (p ≡ previous past) ⊎ (p ≢ previous past)
+        → seen (fresh (p ∷ past)) (hash p) ≡ p
     go before (inl e) =
         let f = fresh_repeat past p e in
-        ap (λ x. seen x i) f ∙ before (sym (ap has_pixel f) ∙ b) i (sym (ap hash e) ∙ h) ∙ sym e
-    go before (inr n) = ap (λ x. seen x i) (fresh_more past p n) ∙ seen_same (fresh past) p i h
+        ap (λ x. seen x (hash p)) f ∙ ap (λ q. seen (fresh past) (hash q)) e ∙ before (sym (ap has_pixel f) ∙ b) ∙ sym e
+    go before (inr n) = ap (λ x. seen x (hash p)) (fresh_more past p n) ∙ seen_same (fresh past) p (hash p) refl
 
 -- so in each style the last pixel stands at its position
-stands_there : (style : Style) (past : Past) → some_fresh past ≡ true → (i : ℕ) → hash (previous past) ≡ i → seen (held_in style past) i ≡ previous past
-stands_there Reference past b i h = fresh_first past b i h
-stands_there Places past b i h = fresh_first past b i h
-stands_there Tight [] b i h = absurd (let no : false ≡ true = b in cc)
-stands_there Tight (p ∷ past) b i h = seen_same past p i h
-
--- putting what stands there changes nothing
-put_again : (held : Past) (p : RgbaPixel) → ((i : ℕ) → hash p ≡ i → seen held i ≡ p) → (i : ℕ) → seen (p ∷ held) i ≡ seen held i
-put_again held p there i = go (hash p == i) refl
-  where
-    go : (b : Bool) → (hash p == i) ≡ b → (if hash p == i then p else seen held i) ≡ seen held i
-    go true e = rw e (sym (there i (grind arith)))
-    go false e = rw e refl
-
--- a repeat that has come changes nothing that is seen
-repeat_held : (style : Style) (past : Past) → some_fresh past ≡ true → (i : ℕ) → seen (held_in style (previous past ∷ past)) i ≡ seen (held_in style past) i
-repeat_held Reference past b i = ap (λ x. seen x i) (fresh_repeat past (previous past) refl)
-repeat_held Places past b i = ap (λ x. seen x i) (fresh_repeat past (previous past) refl)
-repeat_held Tight past b i = put_again past (previous past) (stands_there Tight past b) i
+stands_there : (style : Style) (past : Past) → some_fresh past ≡ true → seen (held_in style past) (hash (previous past)) ≡ previous past
+stands_there Reference past b = fresh_first past b
+stands_there Places past b = fresh_first past b
+stands_there Tight past b = seen_last past b
 
 -- repeats leave it so that a fresh pixel came
 pub still_begun : (n : ℕ) (past : Past) → some_fresh past ≡ true → some_fresh (replicate n (previous past) ++ past) ≡ true
-still_begun zero past b = b
-still_begun (suc n) past b =
-    ap has_pixel (fresh_repeat (replicate n (previous past) ++ past) (previous past) (sym (previous_repeats n past))) ∙ still_begun n past b
+still_begun n past b = ap has_pixel (fresh_repeats n past) ∙ b
 
--- nor do several
+-- repeats change nothing that is seen
 pub repeats_held : (style : Style) (n : ℕ) (past : Past) → some_fresh past ≡ true → (i : ℕ)
     → seen (held_in style (replicate n (previous past) ++ past)) i ≡ seen (held_in style past) i
-repeats_held style zero past b i = refl
-repeats_held style (suc n) past b i =
-    let q = replicate n (previous past) ++ past in
-    ap (λ z. seen (held_in style (z ∷ q)) i) (sym (previous_repeats n past)) ∙ repeat_held style q (still_begun n past b) i ∙ repeats_held style n past b i
-
--- a fresh pixel is put in each style
-fresh_held_in : (style : Style) (past : Past) (p : RgbaPixel) → p ≢ previous past → held_in style (p ∷ past) ≡ p ∷ held_in style past
-fresh_held_in Reference past p n = fresh_more past p n
-fresh_held_in Places past p n = fresh_more past p n
-fresh_held_in Tight past p n = refl
+repeats_held Reference n past b i = ap (λ x. seen x i) (fresh_repeats n past)
+repeats_held Places n past b i = ap (λ x. seen x i) (fresh_repeats n past)
+repeats_held Tight zero past b i = refl
+repeats_held Tight (suc n) past b i = seen_copies (suc n) (previous past) past i (omega arith) ∙ put_again (previous past) past (seen_last past b) i
 
 -- after a fresh pixel one came
 fresh_begun : (past : Past) (p : RgbaPixel) → p ≢ previous past → some_fresh (p ∷ past) ≡ true
@@ -141,8 +110,6 @@ fresh_begun past p n = ap has_pixel (fresh_more past p n)
 -- a pixel put into tables that hold the same
 put_same : (p : RgbaPixel) (xs ys : Past) → ((i : ℕ) → seen xs i ≡ seen ys i) → (i : ℕ) → seen (p ∷ xs) i ≡ seen (p ∷ ys) i
 put_same p xs ys same i = ap (λ z. if hash p == i then p else z) (same i)
-
--- one lane
 
 -- how a fresh pixel that isn't at its position is given, if it isn't transparent black in style
 -- Tight
@@ -165,6 +132,10 @@ module _ {begun : Bool} {style : Style} {ahead : List ℕ} (s : State) (p : Rgba
   begun_carried : (c : Carrying begun style ahead s (p ∷ tail) kept) (k : ℕ) → s.carry ≡ suc k → some_fresh c.past ≡ true
   begun_carried c k some = c.begun_is ∙ true_from_ne_false begun (λ no. absurd (omega (arith, (c.opens no).0, some)))
 
+  -- and the last pixel stands at its position
+  put_there : (c : Carrying begun style ahead s (p ∷ tail) kept) → some_fresh c.past ≡ true → previous c.past ≡ p → seen s.held (hash p) ≡ p
+  put_there c has is = subst (λ q. seen s.held (hash q) ≡ q) is (c.held_is _ ∙ stands_there style c.past has)
+
   -- a repeat that another one follows, or nothing, is carried
   repeat_on : Carrying begun style ahead s (p ∷ tail) kept → p ≡ s.last → Carrying true style ahead (next_by true true s p) tail (kept ++ [])
   repeat_on c e =
@@ -176,7 +147,7 @@ module _ {begun : Bool} {style : Style} {ahead : List ℕ} (s : State) (p : Rgba
         last_is = c.last_is ∙ sym e;
         begun_is = begun_at c e;
         opens = λ no. absurd (true≢false no);
-        held_is = λ i. put_again s.held p (λ j h. c.held_is j ∙ stands_there style c.past has j (ap hash (c.last_is ∙ sym e) ∙ h) ∙ c.last_is ∙ sym e) i ∙ c.held_is i;
+        held_is = λ i. put_again p s.held (put_there c has (c.last_is ∙ sym e)) i ∙ c.held_is i;
         placed_is = c.placed_is ∙ ap (λ q. names c.before (hash q)) (sym e);
       }
 
@@ -232,8 +203,7 @@ module _ {begun : Bool} {style : Style} {ahead : List ℕ} (s : State) (p : Rgba
         last_is = p_is;
         begun_is = still_begun (suc s.carry) c.past has;
         opens = λ no. absurd (true≢false no);
-        held_is = λ i. put_again s.held p (λ j h. c.held_is j ∙ stands_there style c.past has j (ap hash p_is ∙ h) ∙ p_is) i ∙ c.held_is i
-            ∙ sym (repeats_held style (suc s.carry) c.past has i);
+        held_is = λ i. put_again p s.held (put_there c has p_is) i ∙ c.held_is i ∙ sym (repeats_held style (suc s.carry) c.past has i);
         placed_is = sym (runs_name_none (suc s.carry) c.before (hash p) (omega arith));
       }
 
@@ -253,8 +223,6 @@ module _ {begun : Bool} {style : Style} {ahead : List ℕ} (s : State) (p : Rgba
         held_is = λ i. c.held_is i ∙ sym (repeats_held style (suc k) c.past has i);
         placed_is = sym (runs_name_none (suc k) c.before (hash s.last) (omega arith));
       }
-
--- all of them
 
 -- after a lane repeats are carried only if the next pixel is one
 carry_on : (s : State) (p : RgbaPixel) (ps : List RgbaPixel) → CarryGoesOn (next_state s p (more_of p ps)) ps

@@ -1,16 +1,14 @@
 -- Pixels of which an RGBA chunk gives each: what their lanes have, and their bytes.
-use Rattle.std.proofs.Common.{◌≡◌, ℕ, suc, ◌+◌, ◌-◌, ◌%◌, Bool, true, false, not, ◌&&◌, ◌||◌, List, [], ◌∷◌, ◌++◌, length, map, replicate, take, bit_and, bit_or, if◌then◌else◌, refl, sym, ap, ◌∙◌, arith}
+use Rattle.std.proofs.Common.{◌≡◌, ℕ, suc, ◌+◌, ◌-◌, ◌%◌, Bool, true, false, not, ◌||◌, List, [], ◌∷◌, ◌++◌, length, map, replicate, take, bit_and, bit_or, if◌then◌else◌, refl, sym, ap, ◌∙◌, arith}
 use Rattle.std.specs.Prelude.{max}
 use Rattle.std.specs.List.{AllByRecursion}
-use Rattle.std.proofs.lemmas.Bool.{and_parts, true≢false}
+use Rattle.std.proofs.lemmas.Bool.{and_parts, and_right, true≢false}
 use Rattle.std.proofs.lemmas.Nat.{and_le_l}
 use Rattle.qoi.specs.declared.types.Style.{Style}
 use Rattle.qoi.specs.Qoi.{RgbaPixel, pixel_eq, hash}
-use Rattle.qoi.specs.inner.block.Bytes.{named_in, firsts_in, sizes}
-use Rattle.qoi.specs.inner.block.Counting.{all_true, counts}
-use Rattle.qoi.specs.inner.block.Full.{is_full, AreFull, full_bytes}
-use Rattle.qoi.specs.inner.block.Lanes.{Lane, IsLane, AreLanes, mask, as_diff, as_luma, fits_in_diff, fits_in_luma, same_alpha, fits_diff, fits_luma, first_of, first_by, second_of, second_by, size_of, size_by}
-use Rattle.qoi.specs.inner.block.State.{State, lanes_of, is_rep, goes_on, step_by, next_state, more_of, block_bytes}
+use Rattle.qoi.specs.inner.block.Vectors.{named_in, firsts_in, sizes, all_true, counts, is_full, AreFull}
+use Rattle.qoi.specs.inner.block.Storing.{full_bytes}
+use Rattle.qoi.specs.inner.block.Lanes.{Lane, IsLane, AreLanes, mask, as_diff, as_luma, fits_in_diff, fits_in_luma, same_alpha, fits_diff, fits_luma, first_of, first_by, second_of, second_by, size_of, size_by, State, lanes_of, is_rep, goes_on, step_by, next_state, more_of, block_bytes}
 use Rattle.qoi.proofs.format.SamePixels.{hash_below}
 use Rattle.qoi.proofs.encoding.blocks.LaneBytes.{repeat_fits, none_and}
 use Rattle.qoi.proofs.encoding.blocks.StyledBytes.{fresh_stays}
@@ -36,8 +34,8 @@ full_lane l is full =
     let both = neither_of (same_alpha l) l.stands full in
     let k = both.0 in
     let st = both.1 in
-    let d : fits_diff l ≡ false = (λ i. fits_in_diff (as_diff l) && k i) ∙ and_false (fits_in_diff (as_diff l)) in
-    let u : fits_luma l ≡ false = (λ i. fits_in_luma (as_luma l) && k i) ∙ and_false (fits_in_luma (as_luma l)) in
+    let d : fits_diff l ≡ false = and_right (fits_in_diff (as_diff l)) (same_alpha l) k in
+    let u : fits_luma l ≡ false = and_right (fits_in_luma (as_luma l)) (same_alpha l) k in
     record {
       fresh = go k (is_rep l) refl;
       first_is = λ i. if st i then hash l.px else first_by (d i) (u i) (k i) (as_diff l) (as_luma l);
@@ -45,9 +43,6 @@ full_lane l is full =
       size_is = λ i. size_by (st i || d i) (u i) (k i);
     }
   where
-    and_false : (a : Bool) → (a && false) ≡ false
-    and_false a = grind arith
-
     go : same_alpha l ≡ false → (b : Bool) → is_rep l ≡ b → is_rep l ≡ false
     go k true e = absurd (true≢false (sym (and_parts (fits_in_diff (as_diff l)) (same_alpha l) (repeat_fits l is.px_is e)).1 ∙ k))
     go k false e = e

@@ -1,11 +1,11 @@
 -- The bytes of one lane, and of lanes one after the other.
 use Rattle.std.proofs.Common.{◌≡◌, ℕ, suc, ◌+◌, ◌%◌, ◌<◌, ◌≤◌, Bool, true, false, ◌||◌, List, [], ◌∷◌, ◌++◌, take, bit_and, refl, ap, ◌∙◌, arith}
+use Rattle.std.proofs.lemmas.Bool.{or_right}
 use Rattle.std.specs.Prelude.{max}
 use Rattle.std.proofs.lemmas.Nat.{and_mask, and_comm, and_le_l}
 use Rattle.qoi.specs.Qoi.{RgbaPixel, IsPixel, Past}
 use Rattle.qoi.proofs.format.SamePixels.{pixel_eq-true, hash_below}
-use Rattle.qoi.specs.inner.block.Lanes.{Lane, as_diff, step_of, same_alpha, fits_diff, fits_luma, first_of, second_of, size_of, size_by}
-use Rattle.qoi.specs.inner.block.State.{State, lanes_of, is_rep, goes_on, next_by, more_of}
+use Rattle.qoi.specs.inner.block.Lanes.{Lane, as_diff, step_of, same_alpha, fits_diff, fits_luma, first_of, second_of, size_of, size_by, State, lanes_of, is_rep, goes_on, next_by, more_of}
 use Rattle.qoi.proofs.encoding.lanes.LaneChunk.{from_small}
 
 -- a lane's chunk of s bytes, of which f is the first
@@ -36,10 +36,7 @@ module _ (l : Lane) (i : IsPixel l.px) (e : is_rep l ≡ true) where
 
   -- it has one byte
   pub repeat_size : size_of l ≡ 1
-  repeat_size = ap (λ b. size_by b (fits_luma l) (same_alpha l)) (or_true l.stands (fits_diff l) repeat_fits)
-    where
-      or_true : (a b : Bool) → b ≡ true → (a || b) ≡ true
-      or_true a b e = grind arith
+  repeat_size = ap (λ b. size_by b (fits_luma l) (same_alpha l)) (or_right l.stands (fits_diff l) repeat_fits)
 
   -- which is below those of runs
   pub repeat_first : first_of l < 128

@@ -2,9 +2,8 @@
 use Rattle.std.proofs.Common.{◌≡◌, ℕ, suc, Bool, true, false, List, [], ◌∷◌, length, map, get_or, if◌then◌else◌, refl, sym, ap, ◌∙◌}
 use Rattle.std.proofs.lemmas.Bool.{true≢false}
 use Rattle.qoi.specs.Qoi.{RgbaPixel, pixel_eq}
-use Rattle.qoi.specs.inner.block.State.{State, lanes_of, is_rep, goes_on, next_by, next_state, more_of}
-use Rattle.qoi.specs.inner.block.Lanes.{Lane}
-use Rattle.qoi.specs.inner.block.Counting.{counts}
+use Rattle.qoi.specs.inner.block.Lanes.{State, lanes_of, is_rep, goes_on, next_by, next_state, more_of, Lane}
+use Rattle.qoi.specs.inner.block.Vectors.{counts}
 use Rattle.qoi.proofs.encoding.blocks.LaneBytes.{goes_is}
 
 -- the state after all pixels

@@ -4,7 +4,7 @@ use Rattle.std.specs.List.{AllByRecursion}
 use Rattle.qoi.specs.declared.encode.block.planes.Words.{Words}
 use Rattle.qoi.specs.Qoi.{IsPixel}
 use Rattle.qoi.specs.inner.Packed.{word, pixel_of_word}
-use Rattle.qoi.proofs.encoding.lists.WrittenGrows.{all_append}
+use Rattle.qoi.proofs.format.Appended.{all_append}
 use Rattle.qoi.specs.inner.block.Planes.{AreFour, AreSixteen, AreBlockWords, ArePacked, pixels_of_words, block_pixels}
 
 -- a number of 32 bits is a pixel

@@ -2,11 +2,10 @@
 use Rattle.std.proofs.Common.{◌≡◌, ℕ, suc, false, List, [], ◌∷◌, length, map, take, refl, sym, ap, ◌∙◌, arith}
 use Rattle.std.specs.List.{AllByRecursion}
 use Rattle.qoi.specs.Qoi.{RgbaPixel, IsPixel, Past, pixel, hash, seen, pixel_eq}
-use Rattle.qoi.specs.inner.block.Lanes.{Lane, AreLanes, mask}
+use Rattle.qoi.specs.inner.block.Lanes.{Lane, AreLanes, mask, State, lanes_of}
 use Rattle.qoi.specs.declared.encode.block.planes.Planes.{Planes}
-use Rattle.qoi.specs.inner.block.LaneVectors.{AreBy, AreMasks, ArePlanesBy}
+use Rattle.qoi.specs.inner.block.Vectors.{AreBy, AreMasks, ArePlanesBy}
 use Rattle.qoi.specs.inner.block.Planes.{AreSixteen, ArePlanes}
-use Rattle.qoi.specs.inner.block.State.{State, lanes_of}
 use Rattle.qoi.specs.inner.block.Positions.{stand_tests}
 use Rattle.qoi.proofs.encoding.lanes.LaneTests.{befores, themselves}
 

@@ -10,10 +10,9 @@ use Rattle.qoi.specs.declared.types.Style.TheVariants.{Reference, Places, Tight}
 use Rattle.qoi.specs.Qoi.{RgbaPixel, IsPixel, pixel_eq, hash, seen, bytes_of}
 use Rattle.qoi.proofs.format.SamePixels.{hash_below}
 use Rattle.qoi.proofs.encoding.lists.GroupRuns.{not_one}
-use Rattle.qoi.specs.inner.CoderState.{single_chunk}
-use Rattle.qoi.specs.inner.block.Lanes.{Lane, AreLanes, mask, same_alpha, as_diff, as_luma, fits_diff, fits_luma, first_of, size_of}
-use Rattle.qoi.specs.inner.block.State.{State, lane_of, lanes_of, is_rep, goes_on, group_bytes, next_by, step_by, next_state, more_of, block_bytes}
-use Rattle.qoi.specs.inner.block.Bytes.{named_in, first_in, firsts_in, sizes}
+use Rattle.qoi.specs.inner.block.Lanes.{Lane, AreLanes, mask, same_alpha, as_diff, as_luma, fits_diff, fits_luma, first_of, size_of, State, lane_of, lanes_of, is_rep, goes_on, group_bytes, next_by, step_by, next_state, more_of, block_bytes}
+use Rattle.qoi.specs.inner.block.Vectors.{named_in, first_in, firsts_in, sizes}
+use Rattle.qoi.specs.inner.Coder.{single_chunk}
 use Rattle.qoi.proofs.encoding.lanes.LaneBits.{or_mask}
 use Rattle.qoi.proofs.encoding.blocks.LaneBytes.{chunk_of, chunks_of, repeat_size, repeat_first, run_byte, none_and, size_small, goes_is, carry_few}
 use Rattle.qoi.proofs.encoding.stores.StoredBlock.{chunk_pixels, second_small, first_small, over_small}

@@ -11,9 +11,7 @@ use Rattle.qoi.specs.declared.types.Style.TheVariants.{Tight}
 use Rattle.qoi.specs.Qoi.{RgbaPixel}
 use Rattle.qoi.specs.inner.block.Block.{last_pixel}
 use Rattle.qoi.specs.inner.BlockLoop.{IsCarried, OpensBlock, GoesByBlocks, InBlocks}
-use Rattle.qoi.specs.inner.CoderLoop.{CoderBetween}
-use Rattle.qoi.specs.inner.CoderSteps.{CoderPasses}
-use Rattle.qoi.specs.inner.Piece.{kept_bytes}
+use Rattle.qoi.specs.inner.Coder.{kept_bytes, CoderBetween, CoderPasses}
 use Rattle.qoi.proofs.encoding.coder.CoderSteps.{over_sent, repeats_joined}
 
 -- what stands first doesn't depend on what follows
@@ -31,14 +29,16 @@ pub then_passes : {N size : ℕ} {a b c : Coder N} {ta tb tc : List RgbaPixel} {
     → CoderPasses a ta pa xs b tb pb ys → CoderPasses b tb pb ys c tc pc zs → CoderPasses a ta pa xs c tc pc zs
 then_passes p q = record { style = q.style ∙ p.style; on = λ ahead more b. q.on ahead more (p.on ahead more b) }
 
+-- a coder with this style and last pixel stands ahead of these
+pub of_coder : {ahead kept : List ℕ} {rest table : List RgbaPixel} {s t : Style} {q l : LastPixel} → t ≡ s → l ≡ q
+    → CoderBetween s ahead rest table q kept → CoderBetween t ahead rest table l kept
+of_coder {ahead} {kept} {rest} {table} {t = t} {q = q} style last b = subst (λ l. CoderBetween t ahead rest table l kept) (sym last) (subst (λ s. CoderBetween s ahead rest table q kept) (sym style) b)
+
 module _ {N size : ℕ} {style : Style} {ahead : List ℕ} {pixels rest table table' : List RgbaPixel} {c c' : Coder N} {piece piece' : Piece size} where
   -- a coder keeps its style
   pub in_style : CoderPasses c table piece pixels c' table' piece' rest → c.style ≡ style → {last : LastPixel} → c.last ≡ last → (more : List RgbaPixel)
       → CoderBetween style ahead (pixels ++ more) table last (kept_bytes piece) → CoderBetween style ahead (rest ++ more) table' c'.last (kept_bytes piece')
-  in_style p is {last} last_is more b =
-      subst (λ s. CoderBetween s ahead (rest ++ more) table' c'.last (kept_bytes piece')) (p.style ∙ is)
-      (p.on ahead more (subst (λ s. CoderBetween s ahead (pixels ++ more) table c.last (kept_bytes piece)) (sym is)
-      (subst (λ l. CoderBetween style ahead (pixels ++ more) table l (kept_bytes piece)) (sym last_is) b)))
+  in_style p is last_is more b = of_coder (sym (p.style ∙ is)) refl (p.on ahead more (of_coder is last_is b))
 
 module _ {N : ℕ} {style : Style} {ahead : List ℕ} {n : ℕ} {pixels more : List RgbaPixel} {table : List RgbaPixel} {carry : Carry N} {kept : List ℕ} where
   -- a fresh pixel came if the next one repeats the last

@@ -12,14 +12,13 @@ use Rattle.qoi.specs.Qoi.{AreBytes, RgbaPixel, IsPixel, Past, previous, hash, Is
 use Rattle.qoi.specs.Runs.{runs_by}
 use Rattle.qoi.specs.Styles.{fresh_next, some_fresh, names, choice_in, styled}
 use Rattle.qoi.specs.WrittenList.{chosen, list_after, written_list}
-use Rattle.qoi.specs.inner.CoderState.{single_chunk, last_chunk}
-use Rattle.qoi.specs.inner.CoderLoop.{Ahead, CoderAfter, single, CoderBetween}
+use Rattle.qoi.specs.inner.Coder.{single_chunk, last_chunk, Ahead, CoderAfter, single, CoderBetween}
 use Rattle.qoi.proofs.format.ChunkSteps.{previous_repeats}
 use Rattle.qoi.proofs.encoding.lists.ListAhead.{runs_full, none_ahead, repeat_ahead, repeats_ahead, chunk_ahead, fulls_ahead, runs_ahead}
 use Rattle.qoi.proofs.encoding.styles.StyleLists.{chooses_in}
 use Rattle.qoi.proofs.encoding.styles.StyledGroup.{WritesOne, styled_runs, styled_chunk}
-use Rattle.qoi.proofs.encoding.lists.WrittenExists.{is_pixel_start}
-use Rattle.qoi.proofs.encoding.lists.WrittenGrows.{all_back}
+use Rattle.qoi.proofs.encoding.lists.WrittenExists.{gives_pixel, no_run, is_pixel_start}
+use Rattle.qoi.proofs.format.Appended.{all_back}
 
 -- `AreBytes` by recursion
 pub all_bytes : (bytes : List ℕ) → AreBytes bytes → AllByRecursion (λ b. b < 256) bytes
@@ -40,7 +39,7 @@ fresh_starts : (style : Style) (past : Past) (p : RgbaPixel) (rest : List RgbaPi
     → fresh_next (list_after (chosen style) past 0 (p ∷ rest)) ≡ true
 fresh_starts style past p rest before is differs =
     let choices = chooses_in style in
-    ap fresh_next (chunk_ahead (chosen style) past p rest differs) ∙ ap not (choices.no_run past p (chosen style past p) (choices.some past p before is).1)
+    ap fresh_next (chunk_ahead (chosen style) past p rest differs) ∙ ap not (no_run past p _ (choices.is past p (chosen style past p) (choices.some past p before is).1))
 
 -- nothing is styled if there is nothing
 styled_none : (style : Style) (past : Past) (before : Option Chunk) → styled style past before [] ≡ []
@@ -132,13 +131,14 @@ module _ {style : Style} {ahead : List ℕ} {past : Past} {before : Option Chunk
       let are : AllByRecursion IsPixel (p ∷ rest) = b.are in
       let left = list_after (chosen style) (p ∷ past) 0 rest in
       let some = choices.some past p b.before_is are.0 in
+      let given = choices.is past p c choice in
       let same : chosen style past p ≡ c = choices.only past p (chosen style past p) c some.0 is some.1 choice in
       record {
         are = are.1;
         before_is = are.0;
         ahead_is = bytes_next ahead kept (c ∷ []) (styled style (p ∷ past) (Some c) left)
             (b.ahead_is ∙ ap (λ cs. kept ++ chunk_bytes (styled style past before cs)) (chunk_ahead (chosen style) past p rest differs ∙ ap (λ d. d ∷ left) same)
-            ∙ ap (λ cs. kept ++ chunk_bytes cs) (styled_chunk style past before p c left (choices.no_run past p c choice) (choices.gives past p c choice)))
+            ∙ ap (λ cs. kept ++ chunk_bytes cs) (styled_chunk style past before p c left (no_run past p c given) (gives_pixel past p c given)))
             ∙ ap (λ x. (kept ++ x) ++ chunk_bytes (styled style (p ∷ past) (Some c) left)) (append-nil (bytes_of c));
       }
 

@@ -8,10 +8,9 @@ use Rattle.qoi.specs.declared.types.Style.{Style}
 use Rattle.qoi.specs.declared.types.Style.TheVariants.{Reference, Places, Tight}
 use Rattle.qoi.specs.Qoi.{RgbaPixel, Past, previous, hash, IsChunk, seen}
 use Rattle.qoi.specs.inner.Table.{Holds}
-use Rattle.qoi.specs.inner.SpelledOut.{HasBytes}
 use Rattle.qoi.specs.Written.{fresh, IsFirst}
 use Rattle.qoi.specs.Styles.{names, choice_in}
-use Rattle.qoi.specs.inner.CoderState.{held_in}
+use Rattle.qoi.specs.inner.Coder.{held_in, HasBytes}
 use Rattle.qoi.proofs.format.ChunkSteps.{previous_repeats}
 use Rattle.qoi.proofs.format.SamePixels.{hash_below}
 use Rattle.qoi.proofs.format.SeenTable.{holds_copies}
@@ -73,15 +72,17 @@ none_held Reference table holds = holds
 none_held Places table holds = holds
 none_held Tight table holds = holds
 
--- a fresh pixel is put at its index position
+-- a fresh pixel is put in each style
+pub fresh_held_in : (style : Style) (past : Past) (p : RgbaPixel) → p ≢ previous past → held_in style (p ∷ past) ≡ p ∷ held_in style past
+fresh_held_in Reference past p n = fresh_more past p n
+fresh_held_in Places past p n = fresh_more past p n
+fresh_held_in Tight past p n = refl
+
+-- at its index position
 pub fresh_held : (style : Style) (past : Past) (old table : List RgbaPixel) (px : RgbaPixel) → px ≢ previous past → Holds old (held_in style past)
     → ((held : Past) → Holds old held → Holds table (px ∷ held)) → Holds table (held_in style (px ∷ past))
-fresh_held style past old table px differs s puts = go style (puts (held_in style past) s)
-  where
-    go : (style : Style) → Holds table (px ∷ held_in style past) → Holds table (held_in style (px ∷ past))
-    go Reference h = subst (λ x. Holds table x) (sym (fresh_more past px differs)) h
-    go Places h = subst (λ x. Holds table x) (sym (fresh_more past px differs)) h
-    go Tight h = h
+fresh_held style past old table px differs s puts =
+    subst (λ x. Holds table x) (sym (fresh_held_in style past px differs)) (puts (held_in style past) s)
 
 -- repeats are none of the fresh pixels
 pub fresh_repeats : (k : ℕ) (past : Past) → fresh (replicate k (previous past) ++ past) ≡ fresh past

@@ -9,7 +9,8 @@ use lib.Count.{count_trailing_zeros, under}
 use lib.Lanes.{mask_l}
 use Rattle.qoi.specs.Qoi.{RgbaPixel, Past, pixel_eq}
 use Rattle.qoi.specs.inner.block.Marks.{fresh_marks}
-use Rattle.qoi.specs.inner.block.State.{lanes_of, is_rep}
+use Rattle.qoi.specs.inner.block.Lanes.{lanes_of, is_rep}
+use Rattle.qoi.proofs.format.LaneRuns.{even_under, odd_under}
 use Rattle.qoi.proofs.format.SamePixels.{pixel_eq-true, pixel_eq-from}
 
 -- a bit of a lane, by whether it repeats
@@ -42,13 +43,6 @@ pub record IsMarked (q : RgbaPixel) (ps : List RgbaPixel) (bits n : ℕ) : Type 
   pub is : slice_get ps n ≡ Some p
   pub other : p ≢ q
   pub later : bits / 2 ^ n / 2 ≡ fresh_marks p (drop (suc n) ps)
-
--- the lowest bit of an even number, and of an odd one
-even_under : (n t : ℕ) → n % 2 ≡ 0 → under (n % 2) t ≡ suc t
-even_under n t e = ap (λ d. under d t) e
-
-odd_under : (n t : ℕ) → n % 2 ≡ 1 → under (n % 2) t ≡ 0
-odd_under n t e = ap (λ d. under d t) e
 
 -- a bit further
 further : (n m a : ℕ) → n ≡ 2 * m → n / 2 ^ suc a / 2 ≡ m / 2 ^ a / 2

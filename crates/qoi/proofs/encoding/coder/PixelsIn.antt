@@ -2,7 +2,7 @@
 use Rattle.std.proofs.Common.{◌≡◌, ◌≢◌, ◌⊎◌, inl, inr, ℕ, zero, suc, ◌-◌, ◌*◌, ◌/◌, ◌%◌, ◌<◌, ◌≤◌, List, [], ◌∷◌, ◌++◌, length, take, drop, replicate, min, Some, refl, sym, ap, ◌∙◌, arith, take-append-drop, append-nil, length-drop}
 use Rattle.std.proofs.Math.Seq.{take-length}
 use Rattle.std.proofs.lemmas.Bool.{cases_lt}
-use Rattle.std.proofs.lemmas.List.{length-take-le, take-append-le}
+use Rattle.std.proofs.lemmas.List.{length-take-le, take-append-le, take_all}
 use Rattle.std.specs.List.{slice_get}
 use Rattle.qoi.specs.Qoi.{RgbaPixel}
 use Rattle.qoi.specs.Raw.{IsChannels, pixels_of}
@@ -29,6 +29,9 @@ pixels_within n k bytes is whole inside =
     let size = byte_count n bytes is whole in
     by_channels (λ c. length bytes ≡ c * length (pixels_of n bytes) → c * k ≤ length bytes → k ≤ length (pixels_of n bytes)) is
     (λ e l. omega arith) (λ e l. omega arith) size inside
+
+-- both
+pub ruleset sizes = (bytes_within, pixels_within)
 
 -- there are no more pixels than bytes
 pub pixels_few : (n : ℕ) (bytes : List ℕ) → IsChannels n → length bytes % n ≡ 0 → length (pixels_of n bytes) ≤ length bytes
@@ -65,12 +68,6 @@ pixels_near n most m bytes is whole m_is = elim (cases_lt (n * most) (length byt
       (λ a b. omega arith) (λ a b. omega arith) size all in
       ap (λ k. pixels_of n (take k bytes)) e ∙ ap (pixels_of n) (take-length bytes) ∙ sym (take_all most (pixels_of n bytes) few)
 ]
-  where
-    take_all : (k : ℕ) (ps : List RgbaPixel) → length ps ≤ k → take k ps ≡ ps
-    take_all zero [] few = refl
-    take_all (suc k) [] few = refl
-    take_all zero (p ∷ ps) few = absurd (omega arith)
-    take_all (suc k) (p ∷ ps) few = ap (λ z. p ∷ z) (take_all k ps (omega arith))
 
 -- The first `count` pixels are p, at most `most` of them; and another pixel, or none, comes after
 -- them, or `count` is `most`.

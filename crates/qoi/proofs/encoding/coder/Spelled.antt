@@ -5,8 +5,7 @@ use Rattle.qoi.specs.declared.chunk.Chunk.{Chunk}
 use Rattle.qoi.specs.declared.chunk.Chunk.TheVariants.{Diff, Luma, Rgb, Rgba}
 use Rattle.qoi.specs.Qoi.{RgbaPixel, pixel_eq, IsPixel, Past, previous, IsChunk, pixel_after, after_diff, after_luma}
 use Rattle.qoi.specs.Written.{rank, IsFirst}
-use Rattle.qoi.specs.WrittenList.{diff_bits, luma_bits, diff_of, luma_of, spelled, first_chunk}
-use Rattle.qoi.specs.Steps.{steps, diff_steps, luma_steps}
+use Rattle.qoi.specs.WrittenList.{steps, diff_steps, luma_steps, diff_bits, luma_bits, diff_of, luma_of, spelled, first_chunk}
 use Rattle.qoi.proofs.format.SamePixels.{same_pixel, pixel_eq-true, pixel_eq-from}
 
 -- the steps from q to p fit a Diff: the cut leaves them as they are

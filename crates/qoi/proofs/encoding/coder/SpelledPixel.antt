@@ -1,34 +1,21 @@
 -- One fresh pixel: the number that is computed for it has the bytes of its chunk.
 use Rattle.std.proofs.Common.{◌≡◌, ℕ, ◌+◌, ◌*◌, ◌/◌, ◌%◌, ◌<◌, Bool, true, false, not, nat_lt, ◌&&◌, ◌==◌, inl, inr, [], ◌∷◌, ◌++◌, take, refl, sym, ap, ◌∙◌, arith, eqb-true, eq-eqb}
-use Rattle.std.proofs.lemmas.Bool.{true≢false}
+use Rattle.std.proofs.Math.Bool.{and_assoc}
+use Rattle.std.proofs.lemmas.Bool.{true≢false, and_from, and_left, and_right}
 use lib.Lanes.{digits_l}
 use Rattle.qoi.specs.declared.chunk.Chunk.{Chunk}
 use Rattle.qoi.specs.Qoi.{RgbaPixel, IsPixel}
 use Rattle.qoi.specs.Raw.{IsChannels}
 use Rattle.qoi.specs.inner.block.Lanes.{Lane, as_diff, as_luma, same_alpha, fits_in_diff, fits_in_luma, fits_diff, fits_luma, first_by, second_by, size_by, diff_of, lane_bytes}
-use Rattle.qoi.specs.inner.SpelledOut.{SpellsOut}
-use Rattle.qoi.specs.Steps.{steps, diff_steps, luma_steps}
+use Rattle.qoi.specs.inner.Coder.{SpellsOut}
+use Rattle.qoi.specs.WrittenList.{steps, diff_steps, luma_steps}
 use Rattle.qoi.specs.inner.Packed.{word}
-use Rattle.qoi.proofs.encoding.lanes.LaneBits.{and_assoc}
 use Rattle.qoi.proofs.encoding.lanes.LaneChunk.{three_small, spelled_lane}
 
 -- three tests of equal numbers
 pub three_tests : (t : Bool) (a b c x y z l m n : ℕ) → a ≡ x → b ≡ y → c ≡ z → ((nat_lt a l && nat_lt b m) && nat_lt c n) ≡ t
     → ((nat_lt x l && nat_lt y m) && nat_lt z n) ≡ t
 three_tests t a b c x y z l m n ax by cz e = sym (λ i. (nat_lt (ax i) l && nat_lt (by i) m) && nat_lt (cz i) n) ∙ e
-
--- if the second of two fails, both don't hold
-and_false : (a b : Bool) → b ≡ false → (a && b) ≡ false
-and_false true b e = e
-and_false false b e = refl
-
--- if the first of two fails, both don't hold
-false_and : (a b : Bool) → a ≡ false → (a && b) ≡ false
-false_and a b e = ap (λ z. z && b) e
-
--- what both tests say
-both : (a b : Bool) → a ≡ true → b ≡ true → (a && b) ≡ true
-both a b ea eb = (λ i. ea i && eb i)
 
 -- the test of alphas fails: in three channels or in four, alpha's step is 0
 pub alpha_kept : (n a b : ℕ) (q p : RgbaPixel) → IsChannels n → (n ≡ 3 → p.a ≡ q.a) → IsPixel q → a ≡ p.a → b ≡ q.a → ((n == 4) && not (a == b)) ≡ false
@@ -38,7 +25,7 @@ alpha_kept n a b q p (inr four) same iq is was t = go (a == b) refl
   where
     go : (e : Bool) → (a == b) ≡ e → (steps q p).a ≡ 0
     go true e = omega (arith, is, was, iq.a, eqb-true a b e)
-    go false e = absurd (true≢false (sym (both (n == 4) (not (a == b)) (eq-eqb n 4 four) (ap not e)) ∙ t))
+    go false e = absurd (true≢false (sym (and_from (n == 4) (not (a == b)) (eq-eqb n 4 four) (ap not e)) ∙ t))
 
 -- it passes: it isn't 0
 pub alpha_changes : (n a b : ℕ) (q p : RgbaPixel) → IsPixel q → IsPixel p → a ≡ p.a → b ≡ q.a → ((n == 4) && not (a == b)) ≡ true → ((steps q p).a == 0) ≡ false
@@ -47,7 +34,7 @@ alpha_changes n a b q p iq ip is was t = go ((steps q p).a == 0) refl
     go : (e : Bool) → ((steps q p).a == 0) ≡ e → ((steps q p).a == 0) ≡ false
     go true e =
         let same : a ≡ b = omega (arith, is, was, iq.a, ip.a, eqb-true (steps q p).a 0 e) in
-        absurd (true≢false (sym t ∙ and_false (n == 4) (not (a == b)) (ap not (eq-eqb a b same))))
+        absurd (true≢false (sym t ∙ and_right (n == 4) (not (a == b)) (ap not (eq-eqb a b same))))
     go false e = e
 
 -- the bytes of a number that begins with a pixel's first three
@@ -83,7 +70,7 @@ module _ (q p : RgbaPixel) (iq : IsPixel q) (ip : IsPixel p) where
   pub spells_rgba : (n : ℕ) → ((steps q p).a == 0) ≡ false → n ≡ word p % 16777216 * 256 + 255 → (c : Chunk) × SpellsOut q p n 5 c
   spells_rgba n k e = spells n 5 (
       ap (λ bytes. bytes ++ p.a ∷ []) (after_pixel n 255 p ip (omega arith) e)
-      ∙ sym (bytes_by false false false (and_false (fits_in_diff (as_diff lane)) (same_alpha lane) k) (and_false (fits_in_luma (as_luma lane)) (same_alpha lane) k) k)
+      ∙ sym (bytes_by false false false (and_right (fits_in_diff (as_diff lane)) (same_alpha lane) k) (and_right (fits_in_luma (as_luma lane)) (same_alpha lane) k) k)
       )
 
   -- the steps fit a Diff
@@ -94,12 +81,12 @@ module _ (q p : RgbaPixel) (iq : IsPixel q) (ip : IsPixel p) where
       let small : fits_in_diff (as_diff lane) ≡ true =
       ap fits_in_diff (sym is) ∙ sym (and_assoc (nat_lt s.r 4) (nat_lt s.g 4) (nat_lt s.b 4)) ∙ t in
       let first : n % 256 ≡ diff_of (as_diff lane) = ap (λ z. z % 256) e ∙ omega arith ∙ ap diff_of is in
-      spells n 1 ((λ i. first i ∷ []) ∙ sym (bytes_by true (fits_luma lane) true (both (fits_in_diff (as_diff lane)) (same_alpha lane) small k) refl k))
+      spells n 1 ((λ i. first i ∷ []) ∙ sym (bytes_by true (fits_luma lane) true (and_from (fits_in_diff (as_diff lane)) (same_alpha lane) small k) refl k))
 
   -- they don't, so it isn't one
   not_diff : (s : RgbaPixel) → s ≡ diff_steps (steps q p) → ((nat_lt s.r 4 && nat_lt s.g 4) && nat_lt s.b 4) ≡ false → fits_diff lane ≡ false
   not_diff s is t =
-      false_and (fits_in_diff (as_diff lane)) (same_alpha lane) (ap fits_in_diff (sym is) ∙ sym (and_assoc (nat_lt s.r 4) (nat_lt s.g 4) (nat_lt s.b 4)) ∙ t)
+      and_left (fits_in_diff (as_diff lane)) (same_alpha lane) (ap fits_in_diff (sym is) ∙ sym (and_assoc (nat_lt s.r 4) (nat_lt s.g 4) (nat_lt s.b 4)) ∙ t)
 
   -- they fit a Luma
   pub spells_luma : (s u : RgbaPixel) (n : ℕ) → s ≡ diff_steps (steps q p) → u ≡ luma_steps (steps q p) → (steps q p).a ≡ 0
@@ -109,12 +96,12 @@ module _ (q p : RgbaPixel) (iq : IsPixel q) (ip : IsPixel p) where
       let k : same_alpha lane ≡ true = eq-eqb (steps q p).a 0 alpha in
       let wide_u : fits_in_luma u ≡ true = sym (and_assoc (nat_lt u.r 16) (nat_lt u.g 64) (nat_lt u.b 16)) ∙ t in
       let wide : fits_in_luma (as_luma lane) ≡ true = ap fits_in_luma (sym u_is) ∙ wide_u in
-      let fit = three_small u.r u.g u.b 16 64 16 0 (both (fits_in_luma u) (0 == 0) wide_u refl) in
+      let fit = three_small u.r u.g u.b 16 64 16 0 (and_from (fits_in_luma u) (0 == 0) wide_u refl) in
       let green = fit.1 in
       let first : n % 256 ≡ (128 + (as_luma lane).g) % 256 = ap (λ z. z % 256) e ∙ omega arith ∙ ap (λ (x : RgbaPixel). (128 + x.g) % 256) u_is in
       let second : n / 256 % 256 ≡ ((as_luma lane).r * 16 + (as_luma lane).b) % 256 =
       ap (λ z. z / 256 % 256) e ∙ omega arith ∙ ap (λ (x : RgbaPixel). (x.r * 16 + x.b) % 256) u_is in
-      spells n 2 ((λ i. first i ∷ second i ∷ []) ∙ sym (bytes_by false true true (not_diff s s_is st) (both (fits_in_luma (as_luma lane)) (same_alpha lane) wide k) k))
+      spells n 2 ((λ i. first i ∷ second i ∷ []) ∙ sym (bytes_by false true true (not_diff s s_is st) (and_from (fits_in_luma (as_luma lane)) (same_alpha lane) wide k) k))
 
   -- they fit neither, and alpha stays
   pub spells_rgb : (s u : RgbaPixel) (n : ℕ) → s ≡ diff_steps (steps q p) → u ≡ luma_steps (steps q p) → (steps q p).a ≡ 0
@@ -126,5 +113,5 @@ module _ (q p : RgbaPixel) (iq : IsPixel q) (ip : IsPixel p) where
       ap fits_in_luma (sym u_is) ∙ sym (and_assoc (nat_lt u.r 16) (nat_lt u.g 64) (nat_lt u.b 16)) ∙ ut in
       spells n 4 (
       ap (λ bytes. take 4 (bytes ++ p.a ∷ [])) (after_pixel n 254 p ip (omega arith) e)
-      ∙ sym (bytes_by false false true (not_diff s s_is st) (false_and (fits_in_luma (as_luma lane)) (same_alpha lane) wide) k)
+      ∙ sym (bytes_by false false true (not_diff s s_is st) (and_left (fits_in_luma (as_luma lane)) (same_alpha lane) wide) k)
       )

@@ -2,11 +2,11 @@
 use Rattle.std.proofs.Common.{◌≡◌, ℕ, ◌+◌, ◌-◌, ◌%◌, ◌<◌, Bool, true, false, not, ◌||◌, ◌&&◌, ◌==◌, List, [], ◌∷◌, map, bit_or, if◌then◌else◌, refl, sym, ap, ap₂, ◌∙◌, arith}
 use Rattle.std.proofs.lemmas.Bool.{and_parts, true≢false}
 use Rattle.qoi.specs.Qoi.{RgbaPixel, pixel_eq, blank, seen, hash}
-use Rattle.qoi.specs.inner.block.Lanes.{Lane, IsLane, mask, step_of}
-use Rattle.qoi.specs.inner.block.State.{State, lanes_of, is_rep, next_state, more_of, NoneBlank}
-use Rattle.qoi.specs.inner.block.Counting.{all_true}
+use Rattle.qoi.specs.inner.block.Lanes.{Lane, IsLane, mask, step_of, State, lanes_of, is_rep, next_state, more_of, NoneBlank}
+use Rattle.qoi.specs.inner.block.Vectors.{all_true}
 use Rattle.qoi.proofs.format.SamePixels.{pixel_eq-true, pixel_eq-from, pixel_eq-ne}
 use Rattle.qoi.proofs.encoding.lanes.LaneBits.{or_below, one_zero}
+use Rattle.qoi.proofs.encoding.lists.NotedPixels.{hash_blank}
 
 -- a pixel is transparent black
 abbrev pub is_blank : RgbaPixel → Bool
@@ -53,17 +53,12 @@ plain_lanes s (p ∷ ps) all =
 abbrev pub is_elsewhere : RgbaPixel → Bool
 is_elsewhere p = is_blank p || not (hash p == 0)
 
--- transparent black has index position 0
-blank_place : hash blank ≡ 0
-unfolding hash blank
-blank_place = refl
-
 -- if each is, transparent black stays at its index position
 pub blank_stays : (s : State) (ps : List RgbaPixel) → seen s.held 0 ≡ blank → all_true (map is_elsewhere ps) ≡ true → NoneBlank s ps
 blank_stays s [] there all = tt
 blank_stays s (p ∷ ps) there all =
     let a = and_parts (is_elsewhere p) (all_true (map is_elsewhere ps)) all in (
-      λ fresh away same. away (ap (seen s.held) (ap hash same ∙ blank_place) ∙ there ∙ sym same),
+      λ fresh away same. away (ap (seen s.held) (ap hash same ∙ hash_blank) ∙ there ∙ sym same),
       blank_stays (next_state s p (more_of p ps)) ps (put (is_blank p) (hash p == 0) refl refl a.0) a.1,
     )
   where

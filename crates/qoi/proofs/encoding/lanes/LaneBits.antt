@@ -1,5 +1,6 @@
 -- One lane of the tests, of the first byte, the second one and the size.
 use Rattle.std.proofs.Common.{◌≡◌, ℕ, ◌+◌, ◌-◌, ◌*◌, ◌/◌, ◌%◌, ◌^◌, ◌<◌, ◌≤◌, Bool, true, false, IsTrue, nat_lt, ◌&&◌, ◌||◌, ◌==◌, bit_and, bit_or, sym, ap, ap₂, ◌∙◌, arith}
+use Rattle.std.proofs.Math.Bool.{and_assoc}
 use Rattle.std.specs.Prelude.{min, if◌then◌else◌}
 use Rattle.std.proofs.lemmas.Nat.{and_mask, and_comm, and_le_l, or_comm, or_lt, le_or_l, le_or_r, or_shifted}
 use Rattle.std.proofs.lemmas.Nat.Bits.{and_high_mask}
@@ -7,10 +8,6 @@ use Rattle.qoi.specs.Qoi.{hash}
 use Rattle.qoi.proofs.format.SamePixels.{hash_below}
 use Rattle.qoi.specs.inner.block.Lanes.{Lane, IsLane, mask, step_of, as_diff, as_luma, same_alpha, fits_diff, fits_luma, diff_of, first_of, second_of, size_of, size_by}
 use Rattle.qoi.proofs.encoding.lanes.LaneChunk.{three_small}
-
--- what is at least a number is not below it
-pub not_lt : (a b : ℕ) → b ≤ a → nat_lt a b ≡ false
-not_lt a b l = grind arith
 
 -- both of two masks
 and_masks : (a b : Bool) → bit_and (mask a) (mask b) ≡ mask (a && b)
@@ -35,10 +32,6 @@ high_zero_6 x lt = let high : bit_and x 192 ≡ x / 64 * 64 = and_high_mask 8 6 
 -- 0 is what is below 1
 pub one_zero : (x : ℕ) → (x == 0) ≡ nat_lt x 1
 one_zero x = grind arith
-
--- three tests in a row
-pub and_assoc : (a b c : Bool) → ((a && b) && c) ≡ (a && (b && c))
-and_assoc a b c = grind arith
 
 -- three tests in another order
 turned : (a b c : Bool) → ((a && c) && b) ≡ (a && (b && c))

@@ -3,8 +3,7 @@ use Rattle.std.proofs.Common.{◌≡◌, ◌↔◌, ℕ, ◌+◌, ◌*◌, ◌%�
 use Rattle.qoi.specs.declared.chunk.Chunk.{Chunk}
 use Rattle.qoi.specs.Qoi.{RgbaPixel, IsPixel, Past, previous, IsChunk, bytes_of}
 use Rattle.qoi.specs.Written.{IsFirst}
-use Rattle.qoi.specs.WrittenList.{diff_bits, luma_bits, spelled}
-use Rattle.qoi.specs.Steps.{steps, diff_steps, luma_steps}
+use Rattle.qoi.specs.WrittenList.{steps, diff_steps, luma_steps, diff_bits, luma_bits, spelled}
 use Rattle.qoi.proofs.format.SamePixels.{same_pixel}
 use Rattle.qoi.proofs.encoding.coder.Spelled.{FitsDiff, FitsLuma, spelled_chunk, spelled_first}
 use Rattle.qoi.specs.inner.block.Lanes.{Lane, IsLane, step_of, as_diff, as_luma, same_alpha, fits_diff, fits_luma, first_by, second_by, size_by, lane_bytes}

@@ -5,8 +5,7 @@ use Rattle.std.proofs.lemmas.Nat.{and_mask}
 use Rattle.std.proofs.lemmas.Simd.{pick_l-range_with_len}
 use Rattle.std.proofs.Math.Seq.{take-append-add}
 use Rattle.qoi.specs.Qoi.{RgbaPixel, Past, hash}
-use Rattle.qoi.specs.inner.block.Lanes.{Lane, IsLane}
-use Rattle.qoi.specs.inner.block.State.{lanes_of}
+use Rattle.qoi.specs.inner.block.Lanes.{Lane, IsLane, lanes_of}
 use Rattle.std.specs.List.{range_with_len}
 use lib.Lanes.{pick_l}
 

@@ -3,7 +3,7 @@ use Rattle.std.proofs.Common.{◌≡◌, ℕ, ◌+◌, ◌-◌, ◌%◌, ◌^◌
 use Rattle.std.proofs.lemmas.Simd.{zip2_of_maps, splat_is_map, map-map}
 use lib.Lanes.{zip2}
 use Rattle.qoi.specs.inner.block.Lanes.{Lane, IsLane, AreLanes}
-use Rattle.qoi.specs.inner.block.LaneVectors.{AreBy}
+use Rattle.qoi.specs.inner.block.Vectors.{AreBy}
 
 -- an operator on two
 pub two : {ls : List Lane} {xs ys : List ℕ} {f g : Lane → ℕ} (h : ℕ → ℕ → ℕ) → AreBy ls f xs → AreBy ls g ys → AreBy ls (λ l. h (f l) (g l)) (zip2 h xs ys)

@@ -3,12 +3,9 @@ use Rattle.std.proofs.Common.{◌≡◌, ℕ, zero, suc, ◌+◌, ◌%◌, Bool,
 use Rattle.std.specs.Prelude.{max, min}
 use lib.Lanes.{zip2}
 use Rattle.std.proofs.lemmas.Nat.{and_comm, and_mask}
-use Rattle.qoi.specs.inner.block.Lanes.{Lane, AreLanes, mask, same_alpha, fits_diff, fits_luma, first_of, size_of}
-use Rattle.qoi.specs.inner.block.LaneVectors.{AreBy}
-use Rattle.qoi.specs.inner.block.State.{is_rep, goes_on}
-use Rattle.qoi.specs.inner.block.Counting.{counts}
+use Rattle.qoi.specs.inner.block.Lanes.{Lane, AreLanes, mask, same_alpha, fits_diff, fits_luma, first_of, size_of, is_rep, goes_on}
+use Rattle.qoi.specs.inner.block.Vectors.{AreBy, counts, firsts_in, sizes}
 use Rattle.qoi.specs.declared.types.Style.TheVariants.{Reference}
-use Rattle.qoi.specs.inner.block.Bytes.{firsts_in, sizes}
 use Rattle.qoi.proofs.encoding.blocks.LaneBytes.{repeat_size, size_small}
 use Rattle.qoi.proofs.encoding.lanes.Lanewise.{sum_8, not_8}
 

@@ -5,7 +5,7 @@ use Rattle.std.proofs.lemmas.Bool.{cases_lt}
 use Rattle.std.proofs.lemmas.List.{get_or-take, get_or-append_right, length-append, length-take-le}
 use Rattle.std.proofs.lemmas.Simd.{get_or-zip2, length-replicate, length-zip2}
 use lib.Lanes.{zip2}
-use Rattle.qoi.specs.inner.block.Counting.{IsMost, AreMost, counts}
+use Rattle.qoi.specs.inner.block.Vectors.{IsMost, AreMost, counts}
 use Rattle.qoi.proofs.encoding.lanes.OverlaidRuns.{one_count}
 
 -- 0 at a repeat, else 64 and the index

@@ -1,7 +1,7 @@
 -- Repeats that come while some are carried: the full runs of all are written, and those that are left
 -- are carried.
 use Rattle.std.proofs.Common.{◌≡◌, ℕ, zero, suc, Some, ◌+◌, ◌*◌, ◌<◌, ◌≤◌, ◌&&◌, nat_eq, nat_lt, List, ◌++◌, replicate, refl, sym, ap, ◌∙◌, arith, append_assoc}
-use Rattle.std.proofs.lemmas.Bool.{lt-ltb, ne_eqb}
+use Rattle.std.proofs.lemmas.Bool.{le-ltb, lt-ltb, ne_eqb}
 use Rattle.std.specs.List.{slice_get}
 use Rattle.qoi.specs.declared.chunk.Chunk.TheVariants.{Run}
 use Rattle.qoi.specs.declared.encode.carry.Carry.{Carry}
@@ -14,13 +14,12 @@ use Rattle.qoi.proofs.format.ChunkSteps.{previous_repeats}
 use Rattle.qoi.proofs.encoding.blocks.BlockWritten.{still_begun, repeats_held}
 use Rattle.qoi.proofs.encoding.coder.CoderLink.{begun_by_repeat, goes_on}
 use Rattle.qoi.proofs.encoding.coder.CoderSteps.{fulls_written}
-use Rattle.qoi.proofs.encoding.lanes.LaneBits.{not_lt}
 use Rattle.qoi.proofs.encoding.styles.StyledGroup.{placed_repeats}
 
 -- whether there are no full runs
 no_full : (k r : ℕ) → r < 62 → nat_eq (62 * k) 0 ≡ nat_lt (62 * k + r) 62
 no_full zero r few = sym (lt-ltb (62 * 0 + r) 62 (omega (arith, few)))
-no_full (suc k) r few = ne_eqb (62 * suc k) 0 (λ e. omega arith) ∙ sym (not_lt (62 * suc k + r) 62 (omega arith))
+no_full (suc k) r few = ne_eqb (62 * suc k) 0 (λ e. omega arith) ∙ sym (le-ltb (62 * suc k + r) 62 (omega arith))
 
 -- n repeats more come, which make k full runs with those that are carried
 pub blocks_on : {N : ℕ} {style : Style} {ahead : List ℕ} {size : ℕ} {rest more table : List RgbaPixel} {kept : List ℕ} (carry after : Carry N) (n k : ℕ)

@@ -1,5 +1,5 @@
 -- The pixels that repeat at the front of bytes, and the runs of a group.
-use Rattle.std.proofs.Common.{◌≡◌, ◌≢◌, inl, inr, ℕ, zero, suc, ◌+◌, ◌*◌, ◌<◌, ◌≤◌, List, [], ◌∷◌, ◌++◌, length, take, drop, replicate, false, ◌==◌, Some, refl, sym, ap, ◌∙◌, arith, take-append-drop}
+use Rattle.std.proofs.Common.{◌≡◌, ◌≢◌, inl, inr, ℕ, suc, ◌+◌, ◌*◌, ◌<◌, ◌≤◌, List, [], ◌∷◌, ◌++◌, length, take, drop, replicate, false, ◌==◌, Some, refl, sym, ap, ◌∙◌, arith, take-append-drop}
 use Rattle.std.proofs.Math.Seq.{drop-append_seam}
 use Rattle.std.proofs.lemmas.List.{length-replicate, length-take-le}
 use Rattle.std.proofs.lemmas.Bool.{ne_eqb}
@@ -9,6 +9,7 @@ use Rattle.qoi.specs.Raw.{IsChannels, pixels_of}
 use Rattle.qoi.specs.Runs.{IsCount}
 use Rattle.qoi.proofs.format.ChunkSteps.{repeats_after}
 use Rattle.qoi.proofs.format.RawPixels.{length-pixels_of, pixels_of-append}
+use Rattle.qoi.proofs.encoding.coder.MarkedPixels.{get_drop}
 
 -- two and more aren't one
 pub not_one : (n : ℕ) → (suc (suc n) == 1) ≡ false
@@ -21,17 +22,11 @@ none_of_few n (a ∷ b ∷ c ∷ d ∷ rest) (inr e) h = absurd (omega arith)
 none_of_few n _ (inl e) h = rw e refl
 none_of_few n _ (inr e) h = rw e refl
 
--- the member at index k is the first after k members
-pub nth_first : (k : ℕ) (xs : List RgbaPixel) → slice_get xs k ≡ slice_get (drop k xs) 0
-nth_first zero xs = refl
-nth_first (suc k) [] = refl
-nth_first (suc k) (x ∷ xs) = nth_first k xs
-
 -- n pixels that are p, and then others
 pub count_of : (p : RgbaPixel) (pixels rest : List RgbaPixel) (n : ℕ) → pixels ≡ replicate n p ++ rest → slice_get rest 0 ≢ Some p → IsCount p pixels n
 count_of p pixels rest n e other = record {
   same = e ∙ ap (λ x. replicate n p ++ x) (sym later);
-  other = λ same. other (ap (λ x. slice_get x 0) (sym later) ∙ sym (nth_first n pixels) ∙ same);
+  other = λ same. other (ap (λ x. slice_get x 0) (sym later) ∙ get_drop n pixels ∙ same);
 }
   where
     later : drop n pixels ≡ rest
@@ -54,7 +49,7 @@ repeats_on most n pixels rest after p count w size more = record {
 pub counted_on : (p : RgbaPixel) (pixels rest : List RgbaPixel) (n more : ℕ) → pixels ≡ replicate n p ++ rest → IsCount p rest more
     → IsCount p pixels (n + more)
 counted_on p pixels rest n more e w = count_of p pixels (drop more rest) (n + more)
-    (e ∙ ap (λ x. replicate n p ++ x) w.same ∙ repeats_after n more p (drop more rest)) (λ same. w.other (nth_first more rest ∙ same))
+    (e ∙ ap (λ x. replicate n p ++ x) w.same ∙ repeats_after n more p (drop more rest)) (λ same. w.other (sym (get_drop more rest) ∙ same))
 
 -- dropping k pixels drops their bytes
 pub pixels_drop : (n k : ℕ) (bytes : List ℕ) → IsChannels n → n * k ≤ length bytes → drop k (pixels_of n bytes) ≡ pixels_of n (drop (n * k) bytes)

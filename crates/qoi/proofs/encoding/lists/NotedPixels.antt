@@ -35,7 +35,7 @@ unfolding hash start
 hash_start = refl
 
 -- the position of transparent black
-hash_blank : hash blank ≡ 0
+pub hash_blank : hash blank ≡ 0
 unfolding hash blank
 hash_blank = refl
 

@@ -14,7 +14,7 @@ use Rattle.qoi.specs.Runs.{last_by, runs_by}
 use Rattle.qoi.proofs.encoding.lists.GroupRuns.{not_one}
 
 -- a group of fewer than 62 repeats has no full run
-few_by : (c : Chunk) (n : ℕ) → n < 62 → runs_by c n ≡ last_by c n
+pub few_by : (c : Chunk) (n : ℕ) → n < 62 → runs_by c n ≡ last_by c n
 unfolding runs_by
 few_by c n few =
     let none : n / 62 ≡ 0 = omega arith in

@@ -5,8 +5,8 @@ use Rattle.std.proofs.lemmas.List.{reverse-append}
 use Rattle.std.proofs.lemmas.Bool.{cond-true, cond-false}
 use Rattle.std.specs.List.{AllByRecursion}
 use Rattle.qoi.specs.declared.chunk.Chunk.{Chunk}
-use Rattle.qoi.specs.declared.chunk.Chunk.TheVariants.{Place, Run, Rgba}
-use Rattle.qoi.specs.Qoi.{RgbaPixel, IsPixel, Past, pixel_eq, previous, start, hash, IsChunk, pixel_after}
+use Rattle.qoi.specs.declared.chunk.Chunk.TheVariants.{Place, Run}
+use Rattle.qoi.specs.Qoi.{RgbaPixel, IsPixel, Past, pixel_eq, previous, start, seen, hash, IsChunk, pixel_after}
 use Rattle.qoi.specs.Runs.{runs_by}
 use Rattle.qoi.specs.Written.{noted, rank, IsFirst, IsChoice, WrittenBy}
 use Rattle.qoi.proofs.format.SamePixels.{cases_pixel, hash_below, pixel_eq-from, pixel_eq-ne}
@@ -18,17 +18,32 @@ use Rattle.qoi.specs.Styles.{is_run, names}
 use Rattle.qoi.proofs.format.ChunkSteps.{previous_repeats}
 use Rattle.qoi.proofs.encoding.lists.WrittenGrows.{RunMayFollow, chunks_split, written_none, written_runs, written_fresh}
 use Rattle.qoi.proofs.encoding.lists.WrittenOnce.{choice_unique}
-use Rattle.qoi.proofs.encoding.lists.WrittenShape.{choice_rgba}
 
--- What a choice has to offer: for each fresh pixel there is one chunk, which `choose` gives, it is no
--- run and gives the pixel, and an Rgba stands only if no shorter chunk spells the pixel out.
+-- the chunk is an index position where the pixel is seen, or the first chunk that spells it out
+abbrev pub SeenOrFirst : Past → RgbaPixel → Chunk → Type 0
+SeenOrFirst past p (Place i) = seen past i ≡ p
+SeenOrFirst past p c = IsFirst past p c
+
+-- the first chunk is
+pub by_first : (past : Past) (p : RgbaPixel) (c : Chunk) → IsFirst past p c → SeenOrFirst past p c
+by_first past p (Place i) f = f.gives
+by_first past p c f = f
+
+-- such a chunk gives the pixel
+pub gives_pixel : (past : Past) (p : RgbaPixel) (c : Chunk) → SeenOrFirst past p c → pixel_after past c ≡ p
+gives_pixel past p (Place i) is = is
+gives_pixel past p c is = is.gives
+
+-- and is no run
+pub no_run : (past : Past) (p : RgbaPixel) (c : Chunk) → SeenOrFirst past p c → is_run c ≡ false
+no_run past p (Run n) is = let spells = is.spells in absurd (omega arith)
+no_run past p c is = refl
+
+-- What a choice has to offer: for each fresh pixel there is one chunk, which `choose` gives.
 pub record Chooses (Choice : Past → RgbaPixel → Chunk → Type 0) (choose : Past → RgbaPixel → Chunk) : Type 0 where
   pub some : (past : Past) (p : RgbaPixel) → IsPixel (previous past) → IsPixel p → IsChunk (choose past p) × Choice past p (choose past p)
   pub only : (past : Past) (p : RgbaPixel) (c d : Chunk) → IsChunk c → IsChunk d → Choice past p c → Choice past p d → c ≡ d
-  pub no_run : (past : Past) (p : RgbaPixel) (c : Chunk) → Choice past p c → is_run c ≡ false
-  pub gives : (past : Past) (p : RgbaPixel) (c : Chunk) → Choice past p c → pixel_after past c ≡ p
-  pub rgba_first : (past : Past) (r g b a : ℕ) → Choice past (pixel_after past (Rgba r g b a)) (Rgba r g b a)
-      → IsFirst past (pixel_after past (Rgba r g b a)) (Rgba r g b a)
+  pub is : (past : Past) (p : RgbaPixel) (c : Chunk) → Choice past p c → SeenOrFirst past p c
 
 -- the pixel before the first one is a pixel
 pub is_pixel_start : IsPixel start
@@ -49,35 +64,21 @@ choice_some past p iq ip =
           subst P (sym (cond-false (pixel_eq held p) (Place (hash p)) first (pixel_eq-ne held p n))) (f.0, record { place = λ is. absurd (n is); spelled = λ _. f.1 })
     ]
 
--- a chunk that spells a pixel out is no run
-pub spells_other : (c : Chunk) → 0 < rank c → is_run c ≡ false
-spells_other (Run n) h = absurd (omega arith)
-spells_other (Place i) h = absurd (omega arith)
-spells_other c h = refl
-
--- nor an index position
+-- a chunk that spells a pixel out is no index position
 pub spells_no_place : (c : Chunk) (i : ℕ) → 0 < rank c → names (Some c) i ≡ false
 spells_no_place (Place j) i h = absurd (omega arith)
 spells_no_place c i h = refl
 
--- what holds of the index position where the pixel is noted, and of the first chunk, holds of the
--- choice
-by_choice : (P : Chunk → Type 0) (past : Past) (p : RgbaPixel) (c : Chunk) → IsChoice past p c → (noted past (hash p) ≡ p → P (Place (hash p)))
-    → (IsFirst past p c → P c) → P c
-by_choice P past p c w f g = elim (cases_pixel (noted past (hash p)) p) as (λ _. P c) [
-  | inl is ↦ subst P (sym (w.place is)) (f is)
-  | inr other ↦ g (w.spelled other)
+-- the chunk is such a one
+pub choice_is : (past : Past) (p : RgbaPixel) (c : Chunk) → IsChoice past p c → SeenOrFirst past p c
+choice_is past p c w = elim (cases_pixel (noted past (hash p)) p) as (λ _. SeenOrFirst past p c) [
+  | inl is ↦ subst (SeenOrFirst past p) (sym (w.place is)) (noted_seen past p is)
+  | inr other ↦ by_first past p c (w.spelled other)
 ]
 
 -- `IsChoice` has what a choice has to offer
 pub chooses : Chooses IsChoice (chosen Reference)
-chooses = record {
-  some = choice_some;
-  only = choice_unique;
-  no_run = λ past p c w. by_choice (λ c. is_run c ≡ false) past p c w (λ _. refl) (λ f. spells_other c f.spells);
-  gives = λ past p c w. by_choice (λ c. pixel_after past c ≡ p) past p c w (noted_seen past p) (λ f. f.gives);
-  rgba_first = choice_rgba;
-}
+chooses = record { some = choice_some; only = choice_unique; is = choice_is }
 
 module _ (Choice : Past → RgbaPixel → Chunk → Type 0) (choose : Past → RgbaPixel → Chunk) (choices : Chooses Choice choose) where
   -- a repeat joins its group
@@ -114,8 +115,9 @@ module _ (Choice : Past → RgbaPixel → Chunk → Type 0) (choose : Past → R
             let differs : p ≢ previous group = λ e. fresh (e ∙ same) in
             let c = choose group p in
             let is = choices.some group p (subst IsPixel (sym same) before) are.0 in
-            let next = written_fresh Choice group (cs ++ runs_by (Run 1) n) p c (written_runs Choice past n cs w may) differs is.0 (choices.no_run group p c is.1)
-            (choices.gives group p c is.1) is.1 in
+            let given = choices.is group p c is.1 in
+            let next = written_fresh Choice group (cs ++ runs_by (Run 1) n) p c (written_runs Choice past n cs w may) differs is.0 (no_run group p c given)
+            (gives_pixel group p c given) is.1 in
             let all = written_after rest (p ∷ group) 0 ((cs ++ runs_by (Run 1) n) ++ c ∷ []) next.0 next.1 are.0 are.1 in
             subst P (sym (cond-false (pixel_eq p (previous past)) joins follows (pixel_eq-ne p (previous past) fresh)))
             (fresh_joined p group rest cs (runs_by (Run 1) n) (list_after choose (p ∷ group) 0 rest) c all)

@@ -1,34 +1,19 @@
 -- How a written list grows at its end: by the runs of a group of repeats, and by a fresh pixel's
 -- chunk.
 use Rattle.std.proofs.Common.{◌≡◌, ◌≢◌, ℕ, zero, suc, ◌+◌, ◌*◌, ◌/◌, ◌%◌, ◌<◌, false, List, [], ◌∷◌, ◌++◌, reverse, replicate, refl, sym, ap, ◌∙◌, subst, subst₂, arith, append_assoc, append-nil}
-use Rattle.std.proofs.lemmas.List.{reverse-append, reverse-reverse}
-use Rattle.std.specs.List.{AllByRecursion}
+use Rattle.std.proofs.lemmas.List.{reverse-reverse}
 use Rattle.qoi.specs.declared.chunk.Chunk.{Chunk}
 use Rattle.qoi.specs.declared.chunk.Chunk.TheVariants.{Run}
 use Rattle.qoi.specs.Qoi.{RgbaPixel, Past, previous, IsChunk, AreChunks, pixel_after, then_chunks, Each}
 use Rattle.qoi.specs.Runs.{last_by, runs_by}
 use Rattle.qoi.specs.Written.{IsAllowedAfter, IsFullBefore, RunsFollowFull, WrittenBy}
 use Rattle.qoi.specs.Styles.{is_run}
+use Rattle.qoi.proofs.format.Appended.{all_append}
 use Rattle.qoi.proofs.format.ChunkSteps.{previous_repeats, repeats_after, right_from, full_other, full_before, then_other, then_chunks-append, each_append}
 
 -- a run of any length may follow the list
 abbrev pub RunMayFollow : List Chunk → Type 0
 RunMayFollow cs = (n : ℕ) → RunsFollowFull (cs ++ Run n ∷ [])
-
--- what holds throughout two lists holds throughout both joined
-pub all_append : {A : Type 0} (P : A → Type 0) (xs ys : List A) → AllByRecursion P xs → AllByRecursion P ys → AllByRecursion P (xs ++ ys)
-all_append P [] ys h k = k
-all_append P (x ∷ xs) ys h k = (h.0, all_append P xs ys h.1 k)
-
--- what holds throughout both joined holds throughout the second
-pub all_back : {A : Type 0} (P : A → Type 0) (xs ys : List A) → AllByRecursion P (xs ++ ys) → AllByRecursion P ys
-all_back P [] ys h = h
-all_back P (x ∷ xs) ys h = all_back P xs ys h.1
-
--- in reverse too
-pub all_reverse : {A : Type 0} (P : A → Type 0) (xs : List A) → AllByRecursion P xs → AllByRecursion P (reverse xs)
-all_reverse P [] h = tt
-all_reverse P (x ∷ xs) h = rw (reverse-append (x ∷ []) xs) (all_append P (reverse xs) (x ∷ []) (all_reverse P xs h.1) (h.0, tt))
 
 -- what may follow a chunk depends on the next one alone
 same_next : (c d : Chunk) (cs ds : List Chunk) → IsFullBefore c (d ∷ cs) → IsFullBefore c (d ∷ ds)

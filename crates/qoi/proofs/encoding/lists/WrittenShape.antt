@@ -5,12 +5,13 @@ use Rattle.std.proofs.lemmas.List.{reverse-reverse, length-append, length-replic
 use Rattle.std.proofs.lemmas.Bool.{cond_both}
 use Rattle.qoi.specs.declared.chunk.Chunk.{Chunk}
 use Rattle.qoi.specs.declared.chunk.Chunk.TheVariants.{Place, Diff, Luma, Run, Rgb, Rgba}
-use Rattle.qoi.specs.Qoi.{RgbaPixel, Past, previous, start, seen, hash, IsChunk, AreChunks, bytes_of, chunk_bytes, pixel_after, times, then_chunk, then_chunks, meaning, Each}
+use Rattle.qoi.specs.Qoi.{RgbaPixel, Past, previous, start, seen, hash, IsChunk, AreChunks, bytes_of, chunk_bytes, times, then_chunk, then_chunks, meaning, Each}
 use Rattle.qoi.specs.Raw.{AreOpaque, HasChannels}
-use Rattle.qoi.specs.Written.{noted, IsFirst, IsChoice, IsAllowedAfter, WrittenBy}
-use Rattle.qoi.proofs.format.SamePixels.{cases_pixel, same_pixel}
+use Rattle.qoi.specs.Written.{IsAllowedAfter, WrittenBy}
+use Rattle.qoi.proofs.format.SamePixels.{same_pixel}
 use Rattle.qoi.proofs.format.ChunkSteps.{times_some, then_chunks_given, length-then_chunks, given, meaning_given, each_back}
-use Rattle.qoi.proofs.encoding.lists.WrittenGrows.{all_back, all_reverse}
+use Rattle.qoi.proofs.format.Appended.{all_back, all_reverse}
+use Rattle.qoi.proofs.encoding.lists.WrittenExists.{SeenOrFirst}
 
 -- an index position holds the same after being named
 pub seen_again : (past : Past) (i : ℕ) → seen (seen past i ∷ past) i ≡ seen past i
@@ -53,8 +54,7 @@ channels_before channels past cs (inl e) = inl e
 channels_before channels past cs (inr (e, h)) =
     inr (e, all_back (λ p. p.a ≡ 255) (reverse (given past cs)) past (rw (then_chunks_given past cs) at h))
 
-module _ (Choice : Past → RgbaPixel → Chunk → Type 0) (rgba_first : (past : Past) (r g b a : ℕ) → Choice past (pixel_after past (Rgba r g b a)) (Rgba r g b a)
-    → IsFirst past (pixel_after past (Rgba r g b a)) (Rgba r g b a)) where
+module _ (Choice : Past → RgbaPixel → Chunk → Type 0) (choice_is : (past : Past) (p : RgbaPixel) (c : Chunk) → Choice past p c → SeenOrFirst past p c) where
   -- a chunk has at most a byte a pixel more than its pixels' raw bytes
   pub chunk_fits : (channels : ℕ) (past : Past) (c : Chunk) → IsChunk c → HasChannels (then_chunk past c) channels → IsAllowedAfter Choice past c
       → length (bytes_of c) ≤ times c * channels + times c
@@ -67,7 +67,7 @@ module _ (Choice : Past → RgbaPixel → Chunk → Type 0) (rgba_first : (past 
   chunk_fits channels past (Rgb x y z) k (inr s) r = let t = s.0 in omega arith
   chunk_fits channels past (Rgba x y z w) k (inl s) r = omega arith
   chunk_fits channels past (Rgba x y z w) k (inr s) r =
-      let shorter = (rgba_first past x y z w r.is_chosen).first (Rgb x y z) (k.0, k.1, k.2) (omega arith)
+      let shorter = (choice_is past _ (Rgba x y z w) r.is_chosen).first (Rgb x y z) (k.0, k.1, k.2) (omega arith)
       (same_pixel _ _ refl refl refl (opaque_previous past s.1.1 ∙ sym s.1.0)) in
       absurd (omega arith)
 
@@ -90,12 +90,3 @@ module _ (Choice : Past → RgbaPixel → Chunk → Type 0) (rgba_first : (past 
       let g : length (given [] cs) ≡ n = ap length (sym (meaning_given cs) ∙ w.means) ∙ e in
       let k = chunks_fit channels [] cs w.chunks (channels_all channels image cs w.means h) w.allowed in
       rw g at k
-
--- an Rgba that is chosen is the first that spells its pixel out
-pub choice_rgba : (past : Past) (r g b a : ℕ) → IsChoice past (pixel_after past (Rgba r g b a)) (Rgba r g b a)
-    → IsFirst past (pixel_after past (Rgba r g b a)) (Rgba r g b a)
-choice_rgba past r g b a w = elim (cases_pixel (noted past (hash (pixel_after past (Rgba r g b a)))) (pixel_after past (Rgba r g b a))) as
-    (λ _. IsFirst past (pixel_after past (Rgba r g b a)) (Rgba r g b a)) [
-      | inl is ↦ absurd (let e = w.place is in cc)
-      | inr n ↦ w.spelled n
-    ]

@@ -1,21 +1,13 @@
 -- The bytes ahead of a coder, as they go through a piece to a writer.
 use Rattle.std.proofs.Common.{◌≡◌, inl, inr, ℕ, ◌+◌, ◌%◌, ◌<◌, ◌≤◌, List, [], ◌++◌, length, refl, sym, ap, ◌∙◌, subst, arith, length-append, append_assoc, append-nil}
 use Rattle.qoi.specs.declared.encode.pending.Pending.{Pending}
-use Rattle.qoi.specs.declared.encode.last_pixel.LastPixel.{LastPixel}
-use Rattle.qoi.specs.declared.types.Style.{Style}
-use Rattle.qoi.specs.Qoi.{RgbaPixel, channels_number, marker_size, end_marker}
+use Rattle.qoi.specs.Qoi.{channels_number, marker_size, end_marker}
 use Rattle.qoi.specs.writers.Writes.{WroteBut, WroteBeginning}
-use Rattle.qoi.specs.inner.CoderLoop.{CoderBetween}
 use Rattle.qoi.specs.inner.Sending.{pixel_size, EndsOpaque, Between, GoesOn, BreaksOff, Ends, IsReady}
 use Rattle.qoi.proofs.format.WholePixels.{by_channels}
 use Rattle.qoi.proofs.decoding.ImageSize.{channels_are}
 use Rattle.qoi.proofs.encoding.coder.CoderLink.{coder_sent}
 use Rattle.qoi.proofs.encoding.piece.WriterProgress.{Follows, none_but, but_on, but_all, but_more, begins}
-
--- a coder with this style and last pixel stands ahead of these
-pub of_coder : {ahead kept : List ℕ} {rest table : List RgbaPixel} {s t : Style} {q l : LastPixel} → t ≡ s → l ≡ q
-    → CoderBetween s ahead rest table q kept → CoderBetween t ahead rest table l kept
-of_coder {ahead} {kept} {rest} {table} {t = t} {q = q} style last b = subst (λ l. CoderBetween t ahead rest table l kept) (sym last) (subst (λ s. CoderBetween s ahead rest table q kept) (sym style) b)
 
 -- the coder went on
 pub record CoderGoes (p : Pending) (kept raw : List ℕ) (p' : Pending) (kept' raw' : List ℕ) : Type 0 where

@@ -1,5 +1,5 @@
 -- The file of an image, from one state to the next, and whole pixels of raw bytes.
-use Rattle.std.proofs.Common.{◌≡◌, inl, ℕ, ◌*◌, ◌/◌, ◌%◌, ◌<◌, ◌≤◌, List, [], ◌∷◌, ◌++◌, length, length-append, arith, Option, refl, sym, ap, ◌∙◌, append_assoc, subst, None}
+use Rattle.std.proofs.Common.{◌≡◌, inl, ℕ, ◌*◌, ◌/◌, ◌%◌, ◌<◌, ◌≤◌, List, [], ◌++◌, length, length-append, arith, Option, refl, sym, ap, ◌∙◌, append_assoc, subst, None}
 use Rattle.std.proofs.Math.Nat.{mul-mod_left}
 use Rattle.qoi.specs.declared.header.Header.{Header}
 use Rattle.qoi.specs.declared.types.Channels.{Channels}
@@ -9,13 +9,12 @@ use Rattle.qoi.specs.declared.encode.pixels.Pixels.{Pixels}
 use Rattle.qoi.specs.declared.encode.piece.TheConstants.{SPARE}
 use Rattle.qoi.specs.Qoi.{AreBytes, start, channels_number, pixel_count, header_bytes, chunk_bytes, end_marker}
 use Rattle.qoi.specs.Raw.{IsChannels, pixels_of, image_byte_count}
-use Rattle.qoi.specs.inner.CoderLoop.{CoderAfter}
+use Rattle.qoi.specs.inner.Coder.{pixels_in, CoderAfter}
 use Rattle.qoi.specs.WrittenList.{written_list}
 use Rattle.qoi.specs.Encoded.{image_file}
 use Rattle.qoi.specs.EncoderState.{EncoderState}
 use Rattle.qoi.specs.writers.Writes.{WroteBeginning, AppendsBeginning}
 use Rattle.qoi.specs.inner.Sending.{appended, pixel_size, EndsOpaque, IsNew, IsReady, ImageBetween, GoesOn, BreaksOff, Ends}
-use Rattle.qoi.specs.inner.Pixels.{pixels_in}
 use Rattle.qoi.proofs.format.RawPixels.{pixels_of-append, pixels_of_are}
 use Rattle.qoi.proofs.format.WholePixels.{by_channels, whole_pixels}
 use Rattle.qoi.proofs.decoding.ImageSize.{channels_are}
@@ -110,8 +109,3 @@ fewer_bytes {n} xs ys =
 -- whole pixels in front of other raw bytes
 pub whole_ahead : (n : ℕ) (xs ys : List ℕ) → IsChannels n → length xs % n ≡ 0 → pixels_of n (xs ++ ys) ≡ pixels_of n xs ++ pixels_of n ys
 whole_ahead n xs ys is whole = pixels_of-append n (length xs / n) xs ys is (whole_pixels n (length xs) is whole)
-
--- no bytes
-pub none_held : (h : List ℕ) → length h ≡ 0 → h ≡ []
-none_held [] none = refl
-none_held (x ∷ h) none = absurd (omega (arith, none))

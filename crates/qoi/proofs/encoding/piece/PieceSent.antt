@@ -4,7 +4,7 @@ use Rattle.std.specs.List.{copy_within}
 use Rattle.std.proofs.lemmas.List.{drop-take, length-drop, length-take-le, take-append-le, take-take}
 use Rattle.std.proofs.lemmas.List.Edits.{paste_all}
 use Rattle.qoi.specs.declared.encode.piece.Piece.{Piece}
-use Rattle.qoi.specs.inner.Piece.{kept_bytes}
+use Rattle.qoi.specs.inner.Coder.{kept_bytes}
 use Rattle.qoi.specs.writers.Writes.{WroteBut, WroteBeginning}
 use Rattle.qoi.proofs.encoding.piece.WriterProgress.{begins}
 

@@ -7,8 +7,7 @@ use Rattle.qoi.specs.declared.encode.block.planes.Words.{Words}
 use Rattle.qoi.specs.Qoi.{RgbaPixel, IsPixel, pixel}
 use Rattle.qoi.specs.inner.Packed.{word}
 use Rattle.qoi.specs.inner.block.Planes.{AreSixteen, ArePlanes, AreBlockWords}
-use Rattle.qoi.specs.inner.block.Each.{HoldChunks, four_parts, eight_parts}
-use Rattle.qoi.specs.inner.block.Storing.{chunk_of, four_chunks, sixteen_chunks}
+use Rattle.qoi.specs.inner.block.Storing.{HoldChunks, four_parts, eight_parts, chunk_of, four_chunks, sixteen_chunks}
 use Rattle.qoi.proofs.encoding.stores.Shuffles.{number_bytes, four_bytes}
 
 -- a byte as the red of a pixel that is 0 otherwise

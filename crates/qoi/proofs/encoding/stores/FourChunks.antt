@@ -4,9 +4,8 @@ use Rattle.std.specs.Prelude.{min}
 use Rattle.std.proofs.lemmas.List.{take-append-le}
 use lib.Lanes.{digits_l, zip2}
 use Rattle.qoi.specs.declared.encode.block.planes.Words.{Words}
-use Rattle.qoi.specs.inner.block.Shuffled.{HaveCodes, AreCodes, joined, size_of_code, size_at, total, lowest, close_bytes}
-use Rattle.qoi.specs.inner.block.Storing.{chunk_of, sixteen_chunks}
-use Rattle.qoi.proofs.encoding.stores.PrefixSums.{reduced}
+use Rattle.qoi.specs.inner.block.Storing.{HaveCodes, AreCodes, joined, size_of_code, size_at, total, lowest, close_bytes, chunk_of, sixteen_chunks}
+use Rattle.qoi.proofs.encoding.stores.PrefixSums.{packed, reduced}
 
 -- a size is at most 4
 code_few : (c : ℕ) → c < 4 → size_of_code c ≤ 4
@@ -19,10 +18,6 @@ size_few i power = code_few (i / power % 4) (omega arith)
 -- all four are at most 16
 pub total_few : (i : ℕ) → total i ≤ 16
 total_few i = omega (arith, size_few i 1, size_few i 4, size_few i 16, size_few i 64)
-
--- eight bytes as the digits of a number
-abbrev packed : ℕ → ℕ → ℕ → ℕ → ℕ → ℕ → ℕ → ℕ → ℕ
-packed a b c d e f g h = a + 256 * (b + 256 * (c + 256 * (d + 256 * (e + 256 * (f + 256 * (g + 256 * h))))))
 
 module _ (a b c d e f g h : ℕ) (la : a < 4) (lb : b < 4) (lc : c < 4) (ld : d < 4) (le : e < 4) (lf : f < 4) (lg : g < 4) (lh : h < 4) where
   -- the low 64 bits of the product that joins codes

@@ -7,7 +7,7 @@ use Rattle.std.proofs.lemmas.List.{take-map}
 use Rattle.std.proofs.lemmas.Simd.{swz_l}
 use lib.Lanes.{all_below, digits_l, number_l, Each1}
 use Rattle.qoi.specs.declared.encode.block.storing.shuffled.TheConstants.{ORDERS, TOTALS}
-use Rattle.qoi.specs.inner.block.Shuffled.{total, order_of, size_at, close_bytes}
+use Rattle.qoi.specs.inner.block.Storing.{total, order_of, size_at, close_bytes}
 use Rattle.qoi.proofs.format.Entries.{entry}
 use Rattle.qoi.proofs.encoding.stores.Shuffles.{are_positions, at, shuffled, four_bytes, part_of}
 

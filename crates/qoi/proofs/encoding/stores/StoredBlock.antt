@@ -2,18 +2,21 @@
 use Rattle.std.proofs.Common.{◌≡◌, ℕ, zero, suc, ◌+◌, ◌*◌, ◌%◌, ◌<◌, ◌≤◌, ◌||◌, if◌then◌else◌, Bool, true, false, List, [], ◌∷◌, ◌++◌, length, map, take, drop, replicate, slice_index, append_assoc, append-nil, bit_and, refl, sym, ap, ◌∙◌, arith}
 use Rattle.std.specs.Prelude.{min, max}
 use Rattle.std.specs.List.{AllByRecursion}
+use Rattle.std.proofs.lemmas.Nat.{and_le_r}
 use lib.Lanes.{sum_l, zip2}
 use Rattle.qoi.specs.declared.encode.block.planes.Words.{Words}
 use Rattle.qoi.specs.Qoi.{RgbaPixel, IsPixel, pixel}
-use Rattle.qoi.specs.inner.block.Bytes.{sizes}
-use Rattle.qoi.specs.inner.block.Lanes.{Lane, mask, fits_luma, fits_diff, same_alpha, second_of, second_by, first_by, size_by}
-use Rattle.qoi.specs.inner.block.State.{is_rep, goes_on}
+use Rattle.qoi.specs.inner.block.Vectors.{sizes}
+use Rattle.qoi.specs.inner.block.Lanes.{Lane, mask, fits_luma, fits_diff, same_alpha, second_of, second_by, first_by, size_by, is_rep, goes_on}
 use Rattle.qoi.specs.inner.Packed.{word}
 use Rattle.qoi.specs.inner.block.Planes.{AreBlockWords, ArePlanes}
-use Rattle.qoi.specs.inner.block.Storing.{four_chunks, sixteen_chunks}
-use Rattle.std.proofs.lemmas.Nat.{and_le_r}
+use Rattle.qoi.specs.inner.block.Storing.{four_chunks, sixteen_chunks, chunk_of}
 use Rattle.qoi.proofs.encoding.blocks.LaneBytes.{chunk_of as lane_chunk, chunks_of}
-use Rattle.qoi.proofs.encoding.stores.SizeHalves.{chunk_is}
+use Rattle.qoi.proofs.encoding.lanes.WordPlanes.{word_bytes}
+
+-- a chunk whose first four bytes are those of a word
+chunk_is : (p : RgbaPixel) (a size : ℕ) → IsPixel p → chunk_of size (word p) a ≡ take size (p.r ∷ p.g ∷ p.b ∷ p.a ∷ a ∷ [])
+chunk_is p a size i = ap (λ ds. take size (ds ++ a ∷ [])) (word_bytes p i)
 
 -- each lane's chunk as a pixel: first and second byte, green and blue
 abbrev pub chunk_pixels : List Lane → List ℕ → List RgbaPixel

@@ -1,6 +1,5 @@
 -- Parts that are stored one after the other.
-use Rattle.qoi.specs.inner.block.Each.{AreStarts}
-use Rattle.qoi.specs.inner.block.Storing.{first_sum}
+use Rattle.qoi.specs.inner.block.Storing.{AreStarts, first_sum}
 use Rattle.std.proofs.Common.{◌≡◌, ℕ, zero, suc, ◌+◌, List, [], ◌∷◌, ◌++◌, take, slice_index, append_assoc, ap, ◌∙◌, arith}
 
 -- four parts

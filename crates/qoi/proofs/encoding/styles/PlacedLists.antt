@@ -29,7 +29,7 @@ parts past before n cs e =
     record { single = eqb-true n 1 z.0; next = z.1; some = y.1; other = x.1 }
 
 -- if some pixel is fresh, the last one is seen at its index position
-seen_last : (past : Past) → some_fresh past ≡ true → seen past (hash (previous past)) ≡ previous past
+pub seen_last : (past : Past) → some_fresh past ≡ true → seen past (hash (previous past)) ≡ previous past
 seen_last [] e = absurd (true≢false (sym e))
 seen_last (p ∷ past) e = seen_same past p (hash p) refl
 

@@ -82,7 +82,7 @@ style_regular Tight image cs other w = absurd (other refl)
 pub style_fits : (style : Style) (image : List RgbaPixel) (channels n : ℕ) (cs : List Chunk) → HasChannels image channels → length image ≡ n
     → WrittenIn style image cs → length (chunk_bytes cs) ≤ n * channels + n
 style_fits style image channels n cs has e w = subst (λ k. k ≤ n * channels + n) (sym (style_length style image cs w))
-    (fits_by (choice_in style) (chooses_in style).rgba_first image channels n w.list has e w.written)
+    (fits_by (choice_in style) (chooses_in style).is image channels n w.list has e w.written)
 
 -- and at most the bytes of the floor and the slack
 pub style_upper : (style : Style) (image : List RgbaPixel) (channels : ℕ) (cs : List Chunk) → HasChannels image channels → WrittenIn style image cs

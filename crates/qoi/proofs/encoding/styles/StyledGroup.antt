@@ -9,7 +9,7 @@ use Rattle.qoi.specs.declared.types.Style.TheVariants.{Reference, Places, Tight}
 use Rattle.qoi.specs.Qoi.{RgbaPixel, Past, previous, hash, pixel_after, then_chunk}
 use Rattle.qoi.specs.Runs.{last_by, runs_by}
 use Rattle.qoi.specs.Styles.{is_run, fresh_next, has_pixel, some_fresh, names, place_for, placed_after, styled}
-use Rattle.qoi.specs.inner.CoderState.{single_chunk, last_chunk}
+use Rattle.qoi.specs.inner.Coder.{single_chunk, last_chunk}
 use Rattle.qoi.proofs.format.ChunkSteps.{previous_repeats, repeats_after, then_other}
 use Rattle.qoi.proofs.encoding.coder.CoderTable.{fresh_repeats}
 use Rattle.qoi.proofs.encoding.lists.GroupRuns.{not_one}

@@ -4,17 +4,17 @@ use Rattle.std.specs.List.{find, range_with_len}
 use Rattle.std.proofs.lemmas.Option.{same_Some}
 use Rattle.std.proofs.lemmas.Bool.{cases_eq, cond-true, cond-false, ne_eqb, true≢false}
 use Rattle.qoi.specs.declared.chunk.Chunk.{Chunk}
-use Rattle.qoi.specs.declared.chunk.Chunk.TheVariants.{Place, Rgba}
-use Rattle.qoi.specs.Qoi.{RgbaPixel, IsPixel, Past, pixel_eq, blank, positions, previous, seen, hash, IsChunk, pixel_after}
+use Rattle.qoi.specs.declared.chunk.Chunk.TheVariants.{Place}
+use Rattle.qoi.specs.Qoi.{RgbaPixel, IsPixel, Past, pixel_eq, blank, positions, previous, seen, hash, IsChunk}
 use Rattle.qoi.specs.Written.{IsFirst}
-use Rattle.qoi.specs.Styles.{is_run, names}
+use Rattle.qoi.specs.Styles.{names}
 use Rattle.qoi.specs.Tight.{first_and_fresh, is_unseen, least_unseen, IsTightChoice}
 use Rattle.qoi.specs.inner.Table.{first_blank}
 use Rattle.qoi.proofs.format.SamePixels.{cases_pixel, hash_below, pixel_eq-from, pixel_eq-true, pixel_eq-ne}
 use Rattle.qoi.proofs.encoding.coder.Spelled.{first_is}
 use Rattle.qoi.specs.WrittenList.{first_chunk, place_or, chosen}
 use Rattle.qoi.specs.declared.types.Style.TheVariants.{Tight}
-use Rattle.qoi.proofs.encoding.lists.WrittenExists.{Chooses, spells_other, spells_no_place}
+use Rattle.qoi.proofs.encoding.lists.WrittenExists.{SeenOrFirst, by_first, Chooses}
 use Rattle.qoi.proofs.encoding.lists.WrittenOnce.{first_unique}
 
 -- a repeat changes no index position, if the pixels before it change none by theirs
@@ -146,13 +146,15 @@ by_tight P past p c w f g h =
         let is : c ≡ Place i = subst (λ o. MatchOption o (IsFirst past p c) (λ i. c ≡ Place i)) e m in
         subst (P past p) (sym is) (g i n b e)
 
+-- the pixel is seen at an index position, or the chunk is the first
+tight_is : (past : Past) (p : RgbaPixel) (c : Chunk) → IsTightChoice past p c → SeenOrFirst past p c
+tight_is past p c w = by_tight SeenOrFirst past p c w (λ e. e) (λ i n b e. unseen_blank past i (unseen_found past i e).0 ∙ sym b)
+    (λ n o f. by_first past p c f)
+
 -- a pixel that isn't seen at its index position isn't given by it
 pub tight_no_place : (past : Past) (p : RgbaPixel) (c : Chunk) → seen past (hash p) ≢ p → IsTightChoice past p c → names (Some c) (hash p) ≡ false
-tight_no_place past p c differs w =
-    by_tight (λ past p c. names (Some c) (hash p) ≡ false) past p c w
-    (λ e. absurd (differs e))
-    (λ i n b e. ne_eqb i (hash p) (λ at. n (ap (seen past) (sym at) ∙ unseen_blank past i (unseen_found past i e).0 ∙ sym b)))
-    (λ n o f. spells_no_place c (hash p) f.spells)
+tight_no_place past p (Place i) differs w = ne_eqb i (hash p) (λ at. differs (ap (seen past) (sym at) ∙ tight_is past p (Place i) w))
+tight_no_place past p c differs w = refl
 
 -- if transparent black isn't seen at its own index position, it is seen just where no pixel was put
 blank_unseen : (past : Past) (i : ℕ) → seen past (hash blank) ≢ blank → pixel_eq (seen past i) blank ≡ is_unseen past i
@@ -193,26 +195,6 @@ tight_unique past p c d ic id w v =
     go None f g = first_unique past p c d ic id f g
     go (Some i) f g = f ∙ sym g
 
--- it gives the pixel
-tight_gives : (past : Past) (p : RgbaPixel) (c : Chunk) → IsTightChoice past p c → pixel_after past c ≡ p
-tight_gives past p c w = by_tight (λ past p c. pixel_after past c ≡ p) past p c w (λ e. e) (λ i n b e. unseen_blank past i (unseen_found past i e).0 ∙ sym b)
-    (λ n o f. f.gives)
-
 -- the tight choice has what a choice has to offer
 pub tight_chooses : Chooses IsTightChoice (chosen Tight)
-tight_chooses = record {
-  some = tight_some;
-  only = tight_unique;
-  no_run = λ past p c w. by_tight (λ past p c. is_run c ≡ false) past p c w (λ _. refl) (λ i n b e. refl) (λ n o f. spells_other c f.spells);
-  gives = tight_gives;
-  rgba_first = λ past r g b a w. rgba past r g b a w;
-}
-  where
-    is_rgba : Chunk → Bool
-    is_rgba (Rgba r g b a) = true
-    is_rgba _ = false
-
-    rgba : (past : Past) (r g b a : ℕ) → IsTightChoice past (pixel_after past (Rgba r g b a)) (Rgba r g b a)
-        → IsFirst past (pixel_after past (Rgba r g b a)) (Rgba r g b a)
-    rgba past r g b a w = by_tight (λ past p c. is_rgba c ≡ true → IsFirst past p c) past _ _ w (λ _ x. absurd (true≢false (sym x)))
-        (λ i n b e x. absurd (true≢false (sym x))) (λ n o f _. f) refl
+tight_chooses = record { some = tight_some; only = tight_unique; is = tight_is }

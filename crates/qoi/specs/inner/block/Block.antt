@@ -6,8 +6,8 @@ use Rattle.qoi.specs.declared.types.Style.{Style}
 use Rattle.qoi.specs.declared.types.Style.TheVariants.{Tight}
 use Rattle.qoi.specs.Qoi.{RgbaPixel, pixel}
 use Rattle.qoi.specs.inner.block.Marks.{fresh_marks}
-use Rattle.qoi.specs.inner.block.State.{State, NoneBlank, lanes_of}
-use Rattle.qoi.specs.inner.block.LaneVectors.{AreChanges}
+use Rattle.qoi.specs.inner.block.Lanes.{State, NoneBlank, lanes_of}
+use Rattle.qoi.specs.inner.block.Vectors.{AreChanges}
 use Rattle.qoi.specs.inner.Table.{Holds}
 
 -- the last of sixteen pixels

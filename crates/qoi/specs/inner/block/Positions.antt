@@ -1,6 +1,7 @@
 -- Pixels that are put at their index positions, one after the other, and which of them stood there.
 use Rattle.std.specs.Prelude.{◌≡◌, ℕ, Bool, List, [], ◌∷◌, map}
-use Rattle.qoi.specs.Qoi.{RgbaPixel, Past, seen, hash, pixel_eq}
+use Rattle.qoi.specs.Qoi.{RgbaPixel, IsPixel, Past, seen, hash, pixel_eq}
+use Rattle.qoi.specs.inner.Packed.{word}
 use Rattle.qoi.specs.inner.block.Lanes.{mask}
 use Rattle.qoi.specs.inner.block.Planes.{AreFourWords}
 use Rattle.qoi.specs.inner.Table.{Holds}
@@ -29,6 +30,12 @@ stand_tests held ps = all_same (seen_before held ps) ps
 abbrev pub four_times : List Bool → List ℕ
 four_times [] = []
 four_times (b ∷ bs) = mask b ∷ mask b ∷ mask b ∷ mask b ∷ four_times bs
+
+-- one pixel was put: what was found, and what the table holds then
+pub record HasPutOne (held : Past) (p : RgbaPixel) (found : ℕ) (table : List RgbaPixel) : Type 0 where
+  pub found_is : found ≡ word (seen held (hash p))
+  pub is : IsPixel (seen held (hash p))
+  pub holds : Holds table (p ∷ held)
 
 -- four pixels were put: what was found, and what the table holds then
 pub record HasPut (held : Past) (ps : List RgbaPixel) (found : List ℕ) (table : List RgbaPixel) : Type 0 where

@@ -1,9 +1,12 @@
 //! Places in images, from which decoding goes on.
+#![tactic(auto, unfolding(crate::specs::pieces::Mark::marked_left, crate::specs::pieces::PixelReader::pixels_left))]
+
 ghost use Rattle.std.specs.Prelude.{◌≡◌, ℕ, ◌-◌, ◌<◌, ◌≤◌, List, ◌++◌, length, drop, Some, Ok, Err, IsOk, IfOk};
 ghost use Rattle.qoi.specs.DecoderState.{DecoderState};
 ghost use Rattle.qoi.specs.Decoded.{HasHeader};
 ghost use Rattle.qoi.specs.declared.error.Error.{Error};
-ghost use Rattle.qoi.specs.pieces.Mark.{mark_of, reader_at, marked_left, MarksGiven, MarksRows};
+ghost use Rattle.qoi.specs.pieces.Mark.{MarkState, mark_of, reader_at, marked_left, MarksGiven, MarksRows};
+ghost use Rattle.qoi.specs.pieces.Unread.{IsRestOf};
 ghost use Rattle.qoi.specs.pieces.PixelReader.{pixels_left, HasGiven, HasRows};
 
 use crate::decode::Decoder;
@@ -36,12 +39,6 @@ pub struct Mark {
 }
 
 impl Model for Mark {
-    ghost use Rattle.std.specs.Prelude.{◌≡◌, ◌≤◌, None, false};
-    ghost use Rattle.qoi.specs.Qoi.{channels_number, IsValid};
-    ghost use Rattle.qoi.specs.Raw.{byte_count};
-    ghost use Rattle.qoi.specs.pieces.Unread.{bytes_left, KeepsWithin, AreWhole};
-    ghost use Rattle.qoi.specs.pieces.Mark.{MarkState};
-
     ghost Value = { MarkState };
 
     ghost view = { λ m. record {
@@ -52,10 +49,7 @@ impl Model for Mark {
       refused = m.refused;
     } };
 
-    ghost invariant = { λ m. IsValid m.header × KeepsWithin m.unread
-        × (bytes_left m.unread ≤ byte_count m.header (channels_number m.channels))
-        × (m.refused ≡ false → AreWhole (channels_number m.channels) m.unread)
-        × (m.unread.fault ≡ None) };
+    ghost invariant = { λ m. IsRestOf m.header m.channels m.refused m.unread };
 }
 
 impl<'a> PixelReader<Bytes<'a>> {
@@ -98,7 +92,6 @@ impl<'a> PixelReader<Bytes<'a>> {
 
 impl Mark {
     /// How many raw bytes of the image are unread behind the mark.
-    #[tactic(auto, unfolding(crate::specs::pieces::Mark::marked_left))]
     pub fn left(&self) -> usize
         ensures { result ≡ marked_left self.now }
     {
@@ -109,7 +102,6 @@ impl Mark {
     /// it. In another slice it reads what the bytes there decode to, if it isn't refused.
     ///
     /// `UnexpectedBufferEnd` if the slice ends before the mark.
-    #[tactic(auto, unfolding(crate::specs::pieces::Mark::marked_left, crate::specs::pieces::PixelReader::pixels_left))]
     pub fn resume<'a>(&self, file: &'a [u8]) -> Result<PixelReader<Bytes<'a>>>
         // The reader that was marked, with the bytes of the slice behind the mark ahead.
         ensures same { self.now.at ≤ length file.entry.now

@@ -1,13 +1,10 @@
 //! How many bytes of an image are decoded at once, and the calls that do it.
-ghost use Rattle.std.specs.Io.KnownBytes.{Consumes};
-ghost use Rattle.std.specs.Prelude.{true, ◌≡◌, ℕ, ◌+◌, ◌-◌, ◌%◌, ◌<◌, ◌≤◌, ◌++◌, length, take, reverse, Option, List, IfOk, IfErr, OnOk};
-ghost use Rattle.qoi.specs.Decoding.{ReadsImage};
-ghost use Rattle.qoi.specs.Qoi.{Past};
-ghost use Rattle.qoi.specs.Raw.{IsChannels, output};
+ghost use Rattle.std.specs.Prelude.{true, ◌≡◌, ◌+◌, ◌-◌, ◌%◌, ◌<◌, ◌≤◌, length, take, IfOk, IfErr, OnOk};
+ghost use Rattle.qoi.specs.Raw.{IsChannels};
 ghost use Rattle.qoi.specs.declared.decode.output.TheConstants.{RUN_ROOM};
 ghost use Rattle.qoi.specs.declared.decode.pixel_reader.room.TheConstants.{DECODED_AHEAD, IN_PLACE};
-ghost use Rattle.qoi.specs.inner.Chunks.{RefusesChunks, TakesChunks, RefusesFilling};
-ghost use Rattle.qoi.specs.inner.Filling.{reached, filling, DecoderBetween};
+ghost use Rattle.qoi.specs.inner.Chunks.{TakesChunks, RefusesFilling, ReadsRest, RefusesRest};
+ghost use Rattle.qoi.specs.inner.Filling.{reached, filling};
 
 use crate::decode::chunks::Chunks;
 use crate::decode::hashed::Hashed;
@@ -76,15 +73,11 @@ pub(super) fn rest_of_image<R: Chunks<N, F>, const N: usize, const F: usize>(
     requires channels { IsChannels N }
     requires within { size ≤ length out.old }
     requires whole { size % N ≡ 0 }
-    ensures read { (gone : Past) (n : ℕ) (start : Option (List ℕ))
-        → DecoderBetween F N gone n (Consumes start (R.ahead reader.old))
-        (filling table.old (reached last 0) (take size out.old))
-        → OnOk result (ReadsImage F N (length gone + n) start (R.ahead reader.new)
-        (output F N (reverse gone) ++ take size out.new)) }
-    ensures refused { (gone : Past) (n : ℕ) (start : Option (List ℕ))
-        → DecoderBetween F N gone n (Consumes start (R.ahead reader.old))
-        (filling table.old (reached last 0) (take size out.old))
-        → IfErr result (RefusesChunks R.in_memory (length gone + n) start (R.ahead reader.new)) }
+    ensures read { OnOk result (ReadsRest F N (R.ahead reader.old) (R.ahead reader.new)
+        (filling table.old (reached last 0) (take size out.old)) (take size out.new)) }
+    ensures refused { IfErr result (RefusesRest F N R.in_memory
+        (R.ahead reader.old) (R.ahead reader.new)
+        (filling table.old (reached last 0) (take size out.old))) }
 {
     reader.rest_of_image(table, Reached { last, at: 0 }, &mut out[..size])
 }

@@ -72,13 +72,8 @@ impl Unread {
     {
         Unread {
             table: self.table.copied(),
-            last: self.last,
-            bytes: self.bytes,
-            from: self.from,
-            to: self.to,
-            run: self.run,
-            undecoded: self.undecoded,
             fault: None,
+            ..*self
         }
     }
 
@@ -140,37 +135,6 @@ impl Unread {
         size
     }
 
-    // Gives the rest of a run and decodes chunks that stand in memory into a piece, and returns how
-    // many bytes. A run may go on past its end.
-    #[inline(always)]
-    fn piece_in_place<R: Chunks<N, F>, const N: usize, const F: usize>(
-        &mut self,
-        reader: &mut R,
-        out: &mut [u8],
-    ) -> PieceResult<usize>
-        requires channels { IsChannels N }
-        requires asks { Asks N self.old (length out.old) }
-        requires room { IN_PLACE ≤ length out.old }
-        requires fits { length out.old + RUN_ROOM ≤ self.old.undecoded }
-        ensures step { Steps F N R.in_memory (R.ahead reader.old) (R.ahead reader.new)
-            self.old self.new out.new result }
-        ensures none { OnOk result (KeepsNone self.new) }
-    {
-        let size = out.len() / N * N;
-        store_run::<N, F>(out, 0, self.last, self.run / N);
-        let (last, at) = (self.last, self.run);
-        let from = Reached { last, at };
-        let placed = match reader.chunks_in_place(&mut self.table, from, &mut out[..size]) {
-            Ok(placed) => placed,
-            Err(e) => return Err(self.fail(e)),
-        };
-        let now = placed.reached;
-        self.last = now.last;
-        self.run = placed.run;
-        self.undecoded -= now.at;
-        Ok(now.at)
-    }
-
     // Stores the rest of a run in what is kept, while nothing else is.
     #[cold]
     #[inline(never)]
@@ -209,9 +173,9 @@ impl Unread {
         self.give(out)
     }
 
-    // Gives the rest of a run and, if `out` isn't short and 256 bytes of the image follow it, what comes
-    // behind the run (`piece_in_place`; else `long_piece` may). Returns how many bytes, and keeps what
-    // has no room of a run.
+    // Gives the rest of a run and, if `out` isn't short and 256 bytes of the image follow it, the chunks
+    // behind the run that stand in memory (else `long_piece` may). Returns how many bytes, and keeps
+    // what has no room of a run; one may go on past the piece.
     #[inline(always)]
     fn piece_front<R: Chunks<N, F>, const N: usize, const F: usize>(
         &mut self,
@@ -227,12 +191,23 @@ impl Unread {
         if out.len() < IN_PLACE || self.undecoded - out.len() < RUN_ROOM {
             return Ok(self.give_run::<N, F>(out));
         }
-        let placed = self.piece_in_place::<R, N, F>(reader, out)?;
-        if placed == out.len() {
-            return Ok(placed);
+        let size = out.len() / N * N;
+        store_run::<N, F>(out, 0, self.last, self.run / N);
+        let (last, at) = (self.last, self.run);
+        let from = Reached { last, at };
+        let placed = match reader.chunks_in_place(&mut self.table, from, &mut out[..size]) {
+            Ok(placed) => placed,
+            Err(e) => return Err(self.fail(e)),
+        };
+        let now = placed.reached;
+        self.last = now.last;
+        self.run = placed.run;
+        self.undecoded -= now.at;
+        if now.at == out.len() {
+            return Ok(now.at);
         }
         // A run is left here only if `out` ends within a pixel.
-        Ok(placed + self.give_run::<N, F>(&mut out[placed..]))
+        Ok(now.at + self.give_run::<N, F>(&mut out[now.at..]))
     }
 
     // Decodes chunks into the front of `out` as long as any run has room, and returns how many

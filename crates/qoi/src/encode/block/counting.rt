@@ -1,7 +1,7 @@
 //! Repeats of sixteen pixels, counted lane by lane.
 ghost use Rattle.std.specs.Prelude.{◌≡◌, ◌<◌, Bool, List, length, map};
 ghost use Rattle.qoi.specs.Qoi.{run_max};
-ghost use Rattle.qoi.specs.inner.block.Counting.{counts, AreMost};
+ghost use Rattle.qoi.specs.inner.block.Vectors.{counts, AreMost};
 ghost use Rattle.qoi.specs.inner.block.Lanes.{mask};
 
 use crate::encode::block::lanes::{greater, later};

@@ -1,7 +1,7 @@
 //! Vectors of sixteen bytes: a lane for each of sixteen pixels.
 ghost use lib.Lanes.{number_l, mask_l, zip2};
 ghost use Rattle.std.specs.Prelude.{◌≡◌, Bool, List, length, map, slice_index, ◌-◌, ◌==◌, [], ◌∷◌, min, max, take, drop, not};
-ghost use Rattle.qoi.specs.inner.block.Counting.{all_true};
+ghost use Rattle.qoi.specs.inner.block.Vectors.{all_true};
 ghost use Rattle.qoi.specs.inner.block.Lanes.{mask};
 
 use std::simd::prelude::*;

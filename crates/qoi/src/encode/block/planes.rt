@@ -4,7 +4,7 @@ ghost use Rattle.std.specs.Prelude.{◌≡◌, ◌^◌, List, ◌++◌, take, dr
 ghost use Rattle.qoi.specs.Qoi.{RgbaPixel, pixel_eq, blank};
 ghost use Rattle.qoi.specs.Raw.{AreOpaque};
 ghost use Rattle.qoi.specs.inner.block.Block.{last_pixel};
-ghost use Rattle.qoi.specs.inner.block.LaneVectors.{AreMasks, ArePlanesBy};
+ghost use Rattle.qoi.specs.inner.block.Vectors.{AreMasks, ArePlanesBy};
 ghost use Rattle.qoi.specs.inner.block.Lanes.{Lane};
 ghost use Rattle.qoi.specs.inner.block.Planes.{AreFour, ArePacked, AreSixteen, AreFourWords, AreBlockWords, channel_words, ArePlanes};
 

@@ -2,11 +2,10 @@
 ghost use Rattle.std.specs.Prelude.{◌≡◌, List, ◌∷◌, take, map};
 ghost use Rattle.qoi.specs.Qoi.{RgbaPixel, hash};
 ghost use Rattle.qoi.specs.declared.types.Style.TheVariants.{Reference, Places};
-ghost use Rattle.qoi.specs.inner.block.Lanes.{mask};
+ghost use Rattle.qoi.specs.inner.block.Lanes.{mask, State};
 ghost use Rattle.qoi.specs.inner.block.Planes.{AreSixteen};
 ghost use Rattle.qoi.specs.inner.block.Positions.{stand_tests};
-ghost use Rattle.qoi.specs.inner.block.Spelling.{HasSpelled};
-ghost use Rattle.qoi.specs.inner.block.State.{State};
+ghost use Rattle.qoi.specs.inner.block.Vectors.{HasSpelled};
 
 use crate::encode::block::lanes::{later, lesser, where_is};
 use crate::encode::block::spelling::Spelled;

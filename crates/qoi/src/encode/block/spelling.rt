@@ -4,14 +4,9 @@ ghost use Rattle.std.specs.Prelude.{◌≡◌, ◌<◌, ℕ, Bool, List, map, Is
 ghost use Rattle.qoi.specs.Qoi.{RgbaPixel, IsPixel, run_max, hash};
 ghost use Rattle.qoi.specs.declared.types.Style.{Style};
 ghost use Rattle.qoi.specs.declared.types.Style.TheVariants.{Reference};
-ghost use Rattle.qoi.specs.inner.block.Bytes.{firsts_in, sizes};
-ghost use Rattle.qoi.specs.inner.block.Counting.{counts};
-ghost use Rattle.qoi.specs.inner.block.Full.{AreFull};
-ghost use Rattle.qoi.specs.inner.block.LaneVectors.{AreBy, AreMasks, ArePlanesBy, AreFits, AreChanges};
-ghost use Rattle.qoi.specs.inner.block.Lanes.{Lane, mask, step_of, diff_of, as_diff, as_luma, same_alpha, fits_luma, first_of, second_of, size_of};
+ghost use Rattle.qoi.specs.inner.block.Vectors.{firsts_in, sizes, counts, AreFull, AreBy, AreMasks, ArePlanesBy, AreFits, AreChanges, IsBlock, HasSpelled};
+ghost use Rattle.qoi.specs.inner.block.Lanes.{Lane, mask, step_of, diff_of, as_diff, as_luma, same_alpha, fits_luma, first_of, second_of, size_of, State, lanes_of, is_rep};
 ghost use Rattle.qoi.specs.inner.block.Planes.{AreSixteen, reds};
-ghost use Rattle.qoi.specs.inner.block.Spelling.{IsBlock, HasSpelled};
-ghost use Rattle.qoi.specs.inner.block.State.{State, lanes_of, is_rep};
 
 use crate::encode::block::counting::count_repeats;
 use crate::encode::block::lanes::{all_set, greater, lesser, where_is};

@@ -2,7 +2,7 @@
 ghost use Rattle.std.specs.Prelude.{◌≡◌, ◌<◌, ◌+◌, ◌-◌, ◌%◌, ℕ, List, ◌∷◌, take, slice_index};
 ghost use Rattle.qoi.specs.Qoi.{RgbaPixel};
 ghost use Rattle.qoi.specs.inner.block.Block.{ChangesFrom};
-ghost use Rattle.qoi.specs.inner.block.LaneVectors.{AreBy};
+ghost use Rattle.qoi.specs.inner.block.Vectors.{AreBy};
 ghost use Rattle.qoi.specs.inner.block.Lanes.{Lane};
 ghost use Rattle.qoi.specs.inner.block.Planes.{AreSixteen, ArePlanes};
 

@@ -4,8 +4,8 @@ ghost use Rattle.qoi.specs.Qoi.{IsPixel, run_max};
 ghost use Rattle.qoi.specs.Raw.{IsChannels};
 ghost use Rattle.qoi.specs.declared.types.Style.{Style};
 ghost use Rattle.qoi.specs.inner.block.Planes.{block_pixels};
-ghost use Rattle.qoi.specs.inner.block.Spelling.{HasSpelled};
-ghost use Rattle.qoi.specs.inner.block.State.{State, block_bytes};
+ghost use Rattle.qoi.specs.inner.block.Vectors.{HasSpelled};
+ghost use Rattle.qoi.specs.inner.block.Lanes.{State, block_bytes};
 
 mod each;
 mod full;

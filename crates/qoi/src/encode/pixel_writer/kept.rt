@@ -86,15 +86,6 @@ impl Held {
         count <= HELD_MOST / 2 && count <= HELD_MOST - self.len
     }
 
-    /// How many there are.
-    #[inline(always)]
-    pub(super) fn len(&self) -> usize
-        ensures count { result ≡ length self.now }
-        ensures most { length self.now ≤ HELD_MOST }
-    {
-        self.len
-    }
-
     /// Holds these, too.
     #[inline(always)]
     pub(super) fn push(&mut self, raw: &[u8])

@@ -6,9 +6,9 @@ ghost use Rattle.qoi.specs.Errors.{IsIoError};
 ghost use Rattle.qoi.specs.Qoi.{pixels_max};
 ghost use Rattle.qoi.specs.declared.encode.piece.TheConstants.{FULL_ROOM};
 ghost use Rattle.qoi.specs.declared.encode.pixel_writer.kept.TheConstants.{HELD_MOST};
-ghost use Rattle.qoi.specs.writers.Writes.{AppendsBeginning, WroteBeginning};
-ghost use Rattle.qoi.specs.inner.Piece.{kept_bytes};
-ghost use Rattle.qoi.specs.inner.Sending.{appended, pixel_size, EndsOpaque, StaysIn, IsReady, WroteWhole, GoesOn, BreaksOff, Ends};
+ghost use Rattle.qoi.specs.writers.Writes.{AppendsBeginning};
+ghost use Rattle.qoi.specs.inner.Sending.{appended, pixel_size, EndsOpaque, StaysIn, IsReady, WritesWhole, GoesOnOrBreaks, EndsWith};
+ghost use Rattle.qoi.specs.inner.Coder.{kept_bytes};
 
 use crate::encode::chunks::{write_end, write_whole};
 use crate::encode::pending::Pending;
@@ -43,11 +43,8 @@ fn send_whole<'a, 'p, W: Writer>(
     requires { IsReady (W.room writer.old) FULL_ROOM pending.old (kept_bytes piece.piece)
         «data».now }
     ensures stays { StaysIn pending.old pending.new }
-    ensures written { IfOk result (λ r. WroteWhole W.wrote W.room FULL_ROOM
-        writer.old pending.old (kept_bytes piece.entry.piece) «data».entry.now
-        writer.new pending.new (kept_bytes r.1.piece) r.0.now) }
-    ensures refused { IfErr result (λ e. W.IsFault e × BreaksOff W.wrote writer.old pending.old
-        (kept_bytes piece.entry.piece) «data».entry.now writer.new) }
+    ensures written { WritesWhole W.wrote W.room W.IsFault writer.old pending.old piece.entry
+        «data».entry.now writer.new pending.new result }
 {
     write_whole(writer, pending, piece, data)
 }
@@ -69,21 +66,20 @@ fn write_more<'a, 'p, W: Writer>(
     ensures stays { StaysIn came.old.pending came.new.pending }
     ensures less { IfOk result (λ r. length came.new.held + length r.0.now
         < length came.old.held + length raw.entry.now) }
-    ensures written { IfOk result (λ r. GoesOn W.wrote
+    ensures written { GoesOnOrBreaks W.wrote W.IsFault
         writer.old came.old.pending (kept_bytes piece.entry.piece) (came.old.held ++ raw.entry.now)
-        writer.new came.new.pending (kept_bytes r.1.piece) (came.new.held ++ r.0.now)) }
-    ensures refused { IfErr result (λ e. W.IsFault e × BreaksOff W.wrote writer.old
-        came.old.pending (kept_bytes piece.entry.piece) (came.old.held ++ raw.entry.now)
-        writer.new) }
+        writer.new came.new.pending (λ r. kept_bytes r.1.piece) (λ r. came.new.held ++ r.0.now)
+        result }
 {
     let n = usize::from(came.pending.channels.as_u8());
-    if came.held.len() == 0 {
+    let held = came.held.bytes().len();
+    if held == 0 {
         let (pixels, part) = raw.split_at(raw.len() - raw.len() % n);
         let (left, piece) = send_whole(writer, &mut came.pending, piece, pixels)?;
         came.held.push(left);
         return Ok((part, piece));
     }
-    let (front, rest) = raw.split_at((16 * n - came.held.len() % (16 * n)) % (16 * n));
+    let (front, rest) = raw.split_at((16 * n - held % (16 * n)) % (16 * n));
     came.held.push(front);
     let (left, piece) = send_whole(writer, &mut came.pending, piece, came.held.bytes())?;
     let mut few = [0; 64];
@@ -98,11 +94,9 @@ fn take_raw<W: Write>(writer: &mut W, kept: &mut Kept, raw: &[u8]) -> Result<()>
     requires opaque { EndsOpaque kept.old.came.pending }
     requires most { length kept.old.came.held + length raw.now ≤ 5 * pixels_max }
     ensures stays { StaysIn kept.old.came.pending kept.new.came.pending }
-    ensures written { OnOk result (GoesOn appended
+    ensures written { GoesOnOrBreaks appended IsIoError
         (W.contents writer.old) kept.old.came.pending [] (kept.old.came.held ++ raw.now)
-        (W.contents writer.new) kept.new.came.pending [] kept.new.came.held) }
-    ensures refused { IfErr result (λ e. IsIoError e × BreaksOff appended (W.contents writer.old)
-        kept.old.came.pending [] (kept.old.came.held ++ raw.now) (W.contents writer.new)) }
+        (W.contents writer.new) kept.new.came.pending (λ _. []) (λ _. kept.new.came.held) result }
 {
     let came = &mut kept.came;
     let mut piece = Piece::<FULL_ROOM>::new(&mut kept.piece_bytes).open();
@@ -122,11 +116,9 @@ pub(super) fn take_any<W: Write>(writer: &mut W, kept: &mut Kept, raw: &[u8]) ->
     requires opaque { EndsOpaque kept.old.came.pending }
     requires most { length raw.now ≤ 4 * pixels_max }
     ensures stays { StaysIn kept.old.came.pending kept.new.came.pending }
-    ensures written { OnOk result (GoesOn appended
+    ensures written { GoesOnOrBreaks appended IsIoError
         (W.contents writer.old) kept.old.came.pending [] (kept.old.came.held ++ raw.now)
-        (W.contents writer.new) kept.new.came.pending [] kept.new.came.held) }
-    ensures refused { IfErr result (λ e. IsIoError e × BreaksOff appended (W.contents writer.old)
-        kept.old.came.pending [] (kept.old.came.held ++ raw.now) (W.contents writer.new)) }
+        (W.contents writer.new) kept.new.came.pending (λ _. []) (λ _. kept.new.came.held) result }
 {
     if kept.came.held.takes(raw.len()) {
         kept.came.held.push(raw);
@@ -139,11 +131,8 @@ pub(super) fn take_any<W: Write>(writer: &mut W, kept: &mut Kept, raw: &[u8]) ->
 pub(super) fn write_held<W: Write>(writer: &mut W, kept: &mut Kept) -> Result<()>
     requires opaque { EndsOpaque kept.old.came.pending }
     requires whole { length kept.old.came.held % pixel_size kept.old.came.pending ≡ 0 }
-    ensures written { OnOk result (Ends appended (W.contents writer.old)
-        kept.old.came.pending [] kept.old.came.held (W.contents writer.new)) }
-    ensures refused { IfErr result (λ e. IsIoError e × Ends (WroteBeginning appended)
-        (W.contents writer.old) kept.old.came.pending [] kept.old.came.held
-        (W.contents writer.new)) }
+    ensures { EndsWith appended IsIoError (W.contents writer.old) kept.old.came.pending []
+        kept.old.came.held (W.contents writer.new) result }
 {
     let pending = &mut kept.came.pending;
     let piece = Piece::<FULL_ROOM>::new(&mut kept.piece_bytes).open();

@@ -4,8 +4,8 @@ use Rattle.std.specs.Io.KnownBytes.{Consumes}
 use Rattle.std.proofs.KnownBytes.{Consumes-nil}
 use Rattle.std.proofs.lemmas.Result.{IfErr-weaker, err_from_is_err_and, on_ok_weaker}
 use Rattle.qoi.specs.inner.Filling.{filling, DecoderBetween}
-use Rattle.qoi.proofs.decoding.Grown.{grown, growing_start, growing_on, lent_back, some_channels, between_fillable, whole_step, fewer_pixels, none_whole, at_most, written_most}
-use Rattle.qoi.proofs.decoding.Progress.{none_more, reads_first}
+use Rattle.qoi.proofs.decoding.Grown.{grown, grows, growing_start, lent_back, between_fillable, whole_step, fewer_pixels, at_most, written_most}
+use Rattle.qoi.proofs.decoding.Progress.{none_more, none_written, reads_first}
 use Rattle.qoi.proofs.decode.chunks.image_to_vec.Given.{Over}
 use Rattle.qoi.proofs.decode.chunks.image_to_vec.Goals.{After-deref_mut, After-deref_mut-2}
 use Rattle.qoi.proofs.decode.chunks.image_to_vec.Goals as goal
@@ -38,7 +38,7 @@ grow-requires-2-clause-step g c = omega (arith, c.loop-out-test.false, c.len.ens
 
 pub loop-out-init : goal.loop-out-init
 loop-out-init g c = record {
-  whole = none_whole g.row.N c.args.out.now.len c.requires.channels c.requires.empty;
+  whole = rw c.requires.empty (none_written g.row.N c.requires.channels);
   fits = omega (arith, c.requires.empty);
   room = c.requires.room;
   within = omega arith;
@@ -61,11 +61,10 @@ returns-in_err-now-clause-refused g c =
 pub loop-out-preserved : goal.loop-out-preserved
 loop-out-preserved g c =
     let i = c.loop-out.invariant in
-    let some = some_channels g.row.N c.requires.channels in
     let at = (goal.at.loop-out-preserved g c).After-deref_mut in
     let inside : c.loop-out.now.at < length c.deref_mut.result.now =
-    omega (arith, some, i.within, c.deref_mut.ensures.len, c.grow.ensures.len, c.len-in-loop-out.ensures) in
-    let left = c.in_ok-now.ensures.read.below refl inside in
+    omega (arith, c.requires.channels, i.within, c.deref_mut.ensures.len, c.grow.ensures.len, c.len-in-loop-out.ensures) in
+    let left = c.in_ok-now.ensures.read.goes_on.below refl inside in
     let size : c.grow.new.out.len ≡ length c.some_chunks.new.out = omega (arith, c.some_chunks.auto.out, c.deref_mut.ensures.len) in
     record {
       whole = whole g at;
@@ -73,7 +72,7 @@ loop-out-preserved g c =
       room = omega (arith, i.room, c.grow.ensures.capacity);
       within = omega (arith, left, size);
       filled = omega (arith, c.in_ok-now.ensures.read.filled refl, size);
-      growing = growing_on c.some_chunks.new.out _ c.requires.channels (c.in_ok-now.ensures.read.goes_on.between [] _ _ (before g at)) left (lent_back _ _ _ size);
+      growing = rw (lent_back c.grow.new.out.len c.some_chunks.new.out c.grow.new.out.items size) (grows c.requires.channels (c.in_ok-now.ensures.read.goes_on.between [] _ _ (before g at)) left);
     }
 
 pub rest_of_image-requires : goal.rest_of_image-requires

@@ -2,7 +2,8 @@
 use Rattle.std.proofs.Common.{◌-◌, ◌++◌, length, slice_index, arith, refl, ap, ◌∙◌}
 use Rattle.qoi.specs.declared.chunk.Chunk.TheVariants.{Run}
 use Rattle.qoi.specs.Qoi.{bytes_of}
-use Rattle.qoi.proofs.decoding.InPlace.{piece_stops, piece_ends, next_taken, times_rest}
+use Rattle.qoi.proofs.decoding.InPlace.{piece_ends, next_taken, times_rest}
+use Rattle.qoi.proofs.decoding.PieceSteps.{piece_stops}
 use Rattle.qoi.proofs.decode.in_place.last_run.Goals as goal
 
 pub returns-then-not-is_run_to_end-clause-takes : goal.returns-then-not-is_run_to_end-clause-takes

@@ -6,4 +6,4 @@ use Rattle.qoi.proofs.decode.output.store_eight_vectors.Goals as goal
 pub returns : goal.returns
 returns g c count le =
     let k = 4 * (16 / g.row.N) in
-    two_written _ c.args.at k count c.requires.channels (omega (arith, c.requires.room)) (omega (arith, le)) (c.store_four_vectors.ensures k (omega arith)) (c.store_four_vectors-2.ensures k (omega arith))
+    two_written _ c.args.at k count c.requires.three_or_four (omega (arith, c.requires.room)) (omega (arith, le)) (c.store_four_vectors.ensures k (omega arith)) (c.store_four_vectors-2.ensures k (omega arith))

@@ -11,12 +11,12 @@ loop-done-preserved-then-out-next-ge-VECTOR g c =
     let done = c.loop-done.done in
     let more = c.min-done.result in (
       omega (arith, c.loop-done-test.true, c.min-done.ensures),
-      written_copies _ c.args.at done more (done + more) c.requires.channels (omega arith) c.loop-done.invariant.1 (c.store_vector.ensures more (omega (arith, c.min-done.ensures))),
+      written_copies _ c.args.at done more (done + more) c.requires.three_or_four (omega arith) c.loop-done.invariant.1 (c.store_vector.ensures more (omega (arith, c.min-done.ensures))),
     )
 
 pub loop-done-preserved : goal.loop-done-preserved
 loop-done-preserved g c =
     let done = c.loop-done.done in (
       omega (arith, c.loop-done-test.true),
-      written_copies _ c.args.at done 1 (done + 1) c.requires.channels (omega arith) c.loop-done.invariant.1 (written_one _ (c.args.at + g.row.N * done) c.store_pixel.ensures),
+      written_copies _ c.args.at done 1 (done + 1) c.requires.three_or_four (omega arith) c.loop-done.invariant.1 (written_one _ (c.args.at + g.row.N * done) c.store_pixel.ensures),
     )

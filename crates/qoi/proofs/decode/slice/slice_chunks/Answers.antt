@@ -1,5 +1,5 @@
 -- The fast loop's chunks are taken, and then others.
-use Rattle.std.proofs.Common.{Some}
+use Rattle.std.proofs.Common.{Some, true}
 use Rattle.qoi.proofs.Results.{if_some_of, if_none_of}
 use Rattle.qoi.specs.inner.Filling.{filling}
 use Rattle.qoi.specs.inner.Chunks.{TakesMore}
@@ -9,15 +9,15 @@ use Rattle.qoi.proofs.decode.slice.slice_chunks.Goals.{After-split_at}
 use Rattle.qoi.proofs.decode.slice.slice_chunks.Goals as goal
 
 -- after the fast loop
-after : (g : Over) (c : After-split_at g) → TakesMore g.row.F g.row.N (Some c.args.data.now) (Some c.split_at.result.1.now)
+after : (g : Over) (c : After-split_at g) → TakesMore g.row.F g.row.N true (Some c.args.data.now) (Some c.split_at.result.1.now)
     (filling c.args.table.now c.args.from c.args.out.now) (filling c.fast_chunks-now.new.table c.fast_chunks-now.result.reached c.fast_chunks-now.new.out)
 after g c =
     let fast = c.fast_chunks-now in
-    front_taken c.args.data.now fast.result.taken fast.ensures.between (split_taken fast.result.taken c.split_at.ensures.back)
+    front_taken c.args.data.now fast.result.taken fast.ensures.takes (split_taken fast.result.taken c.split_at.ensures.back)
 
 pub returns-clause-read : goal.returns-clause-read
 returns-clause-read g c =
-    if_some_of c.careful_chunks.result (λ left r. chunks_after (after g (goal.at.returns-clause-read g c).After-split_at) c.fast_chunks-now.ensures.on.below r) c.careful_chunks.ensures.read
+    if_some_of c.careful_chunks.result (λ left r. chunks_after (after g (goal.at.returns-clause-read g c).After-split_at) r) c.careful_chunks.ensures.read
 
 pub returns-clause-refused : goal.returns-clause-refused
 returns-clause-refused g c =

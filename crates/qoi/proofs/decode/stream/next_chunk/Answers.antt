@@ -5,9 +5,8 @@ use Rattle.std.proofs.lemmas.Bool.{cases_lt}
 use Rattle.std.proofs.lemmas.Bool.Decides.{nat_tests}
 use Rattle.qoi.specs.declared.chunk.Chunk.TheVariants.{Luma}
 use Rattle.qoi.specs.Verdicts.{IsPartOfChunk}
-use Rattle.std.proofs.KnownBytes.{Consumes-trans}
+use Rattle.std.proofs.KnownBytes.{Consumes-nil, Consumes-trans}
 use Rattle.qoi.proofs.format.PartOfChunk.{part_empty}
-use Rattle.qoi.specs.inner.Filling.{filling}
 use Rattle.qoi.proofs.Results.{on_err}
 use Rattle.qoi.proofs.decoding.StreamReads.{part_read_luma, part_read_rgb, part_read_rgba, decodes_taken, alone_ahead, rgb_ahead, rgba_ahead}
 use Rattle.qoi.proofs.decode.stream.next_chunk.Goals as goal
@@ -46,13 +45,9 @@ pub returns-then-is_luma-clause-read : goal.returns-then-is_luma-clause-read
 returns-then-is_luma-clause-read g c =
     let b1 = c.in_ok-b1.b1 in
     let b2 = c.in_ok-b2.b2 in
-    let luma = c.is_luma.ensures in (
-      b1 ∷ b2 ∷ [],
-      Consumes-trans _ _ _ (b1 ∷ []) (b2 ∷ []) c.in_ok-b1.ensures.read c.in_ok-b2.ensures.read,
-      decodes_taken {old = filling c.args.table.now c.args.from c.args.out.now} {new =
-          filling c.decode_chunk.new.table c.decode_chunk.result.reached c.decode_chunk.new.out} _ _ _
-          (Luma b1 b2, 0 ∷ 0 ∷ 0 ∷ 0 ∷ 0 ∷ 0 ∷ [], (grind (arith, nat_tests), grind (arith, nat_tests), omega arith), refl, refl) c.decode_chunk.ensures.decodes,
-    )
+    let luma = c.is_luma.ensures in
+    decodes_taken _ _ _ _ _ b1 (b2 ∷ []) c.in_ok-b1.ensures.read c.in_ok-b2.ensures.read
+    (Luma b1 b2, 0 ∷ 0 ∷ 0 ∷ 0 ∷ 0 ∷ 0 ∷ [], (grind (arith, nat_tests), grind (arith, nat_tests), omega arith), refl, refl) c.decode_chunk.ensures.decodes
 
 pub returns-then-b1-lt-QOI_OP_RGB-clause-read : goal.returns-then-b1-lt-QOI_OP_RGB-clause-read
 returns-then-b1-lt-QOI_OP_RGB-clause-read g c =
@@ -61,31 +56,17 @@ returns-then-b1-lt-QOI_OP_RGB-clause-read g c =
     let alone : (b1 < 128) ⊎ ((192 ≤ b1) × (b1 < 254)) = elim (cases_lt b1 128) [
       | inl low ↦ inl low
       | inr high ↦ inr (grind (arith, nat_tests), omega arith)
-    ] in (
-      b1 ∷ [],
-      c.in_ok-b1.ensures.read,
-      decodes_taken {old = filling c.args.table.now c.args.from c.args.out.now} {new =
-          filling c.decode_chunk-then-b1-lt-QOI_OP_RGB.new.table c.decode_chunk-then-b1-lt-QOI_OP_RGB.result.reached c.decode_chunk-then-b1-lt-QOI_OP_RGB.new.out} _ _ _
-          (alone_ahead b1 (0 ∷ 0 ∷ 0 ∷ 0 ∷ 0 ∷ 0 ∷ 0 ∷ []) alone) c.decode_chunk-then-b1-lt-QOI_OP_RGB.ensures.decodes,
-    )
+    ] in
+    decodes_taken _ _ _ _ _ b1 [] c.in_ok-b1.ensures.read (Consumes-nil _) (alone_ahead b1 (0 ∷ 0 ∷ 0 ∷ 0 ∷ 0 ∷ 0 ∷ 0 ∷ []) alone) c.decode_chunk-then-b1-lt-QOI_OP_RGB.ensures.decodes
 
 pub returns-then-b1-clause-read : goal.returns-then-b1-clause-read
 returns-then-b1-clause-read g c =
-    let more = c.read_exact.new.buf in (
-      c.in_ok-b1.b1 ∷ more,
-      Consumes-trans _ _ _ (c.in_ok-b1.b1 ∷ []) more c.in_ok-b1.ensures.read c.in_ok-read_exact.ensures.read,
-      decodes_taken {old = filling c.args.table.now c.args.from c.args.out.now} {new =
-          filling c.decode_chunk-then-b1.new.table c.decode_chunk-then-b1.result.reached c.decode_chunk-then-b1.new.out} _ _ _
-          (rgb_ahead c.in_ok-b1.b1 more (0 ∷ 0 ∷ 0 ∷ 0 ∷ []) c.if-b1.true c.read_exact.auto.buf c.read_exact.ensures.bytes) c.decode_chunk-then-b1.ensures.decodes,
-    )
+    let more = c.read_exact.new.buf in
+    decodes_taken _ _ _ _ _ _ more c.in_ok-b1.ensures.read c.in_ok-read_exact.ensures.read
+    (rgb_ahead c.in_ok-b1.b1 more (0 ∷ 0 ∷ 0 ∷ 0 ∷ []) c.if-b1.true c.read_exact.auto.buf c.read_exact.ensures.bytes) c.decode_chunk-then-b1.ensures.decodes
 
 pub returns-clause-read : goal.returns-clause-read
 returns-clause-read g c =
     let more = c.read_exact-2.new.buf in
-    let is : c.in_ok-b1.b1 ≡ 255 = omega arith in (
-      c.in_ok-b1.b1 ∷ more,
-      Consumes-trans _ _ _ (c.in_ok-b1.b1 ∷ []) more c.in_ok-b1.ensures.read c.in_ok-read_exact-2.ensures.read,
-      decodes_taken {old = filling c.args.table.now c.args.from c.args.out.now} {new =
-          filling c.decode_chunk-2.new.table c.decode_chunk-2.result.reached c.decode_chunk-2.new.out} _ _ _
-          (rgba_ahead c.in_ok-b1.b1 more (0 ∷ 0 ∷ 0 ∷ []) is c.read_exact-2.auto.buf c.read_exact-2.ensures.bytes) c.decode_chunk-2.ensures.decodes,
-    )
+    decodes_taken _ _ _ _ _ _ more c.in_ok-b1.ensures.read c.in_ok-read_exact-2.ensures.read
+    (rgba_ahead c.in_ok-b1.b1 more (0 ∷ 0 ∷ 0 ∷ []) (omega arith) c.read_exact-2.auto.buf c.read_exact-2.ensures.bytes) c.decode_chunk-2.ensures.decodes

@@ -20,14 +20,14 @@ file g c =
 pub write_many-requires : goal.write_many-requires
 write_many-requires g c = omega (arith, (file g (goal.at.write_many-requires g c).After-front).is_file.fits, c.requires.room)
 
-pub returns-in_err-write_many-clause-refused : goal.returns-in_err-write_many-clause-refused
-returns-in_err-write_many-clause-refused g c =
+pub returns-in_err-write_many : goal.returns-in_err-write_many
+returns-in_err-write_many g c =
     let r = c.in_err-write_many.ensures.refused in
-    handed_on _ _ _ c.from_residual.ensures.1 (r.0, (_, file g (goal.at.returns-in_err-write_many-clause-refused g c).After-front, r.1))
+    handed_on _ _ _ c.from_residual.ensures.1 (r.0, _, file g (goal.at.returns-in_err-write_many g c).After-front, r.1)
 
-pub returns-clause-written : goal.returns-clause-written
-returns-clause-written g c =
+pub returns : goal.returns
+returns g c =
     let n = c.fill_few-n.result in
     let bytes = c.fill_few-n.new.piece.bytes.now in
     let count = sym (length-take-le n bytes (omega (arith, c.fill_few-n.ensures.within, c.fill_few-n.new.piece.room))) ∙ ap length (sym c.front.ensures) in
-    (_, file g (goal.at.returns-clause-written g c).After-front, count, c.in_ok-write_many.ensures.written)
+    (_, file g (goal.at.returns g c).After-front, count, c.in_ok-write_many.ensures.written)

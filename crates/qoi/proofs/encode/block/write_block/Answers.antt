@@ -1,29 +1,53 @@
 -- The repeats before the block, if a fresh pixel follows them, and the block's chunks.
-use Rattle.std.proofs.Common.{◌≡◌, ◌≢◌, [], inl, inr, Some, ℕ, ◌+◌, ◌-◌, ◌≤◌, List, ◌++◌, map, ◌<◌, length, take, slice_index, arith, refl, sym, ap, ◌∙◌, subst, append_assoc, length-append}
-use Rattle.std.proofs.lemmas.List.{take-take}
+use Rattle.std.proofs.Common.{◌≡◌, ◌≢◌, [], inl, inr, Some, ℕ, ◌+◌, ◌-◌, ◌≤◌, List, ◌++◌, map, ◌<◌, length, take, slice_index, arith, refl, sym, ap, ◌∙◌, subst, append_assoc, length-append, drop, zero, suc, ◌%◌, ◌||◌, Bool, true, ◌∷◌, bit_and}
+use Rattle.std.proofs.lemmas.List.{take-take, drop-drop}
 use Rattle.std.specs.List.{slice_get}
+use Rattle.std.proofs.lemmas.Bool.{eq-eqb}
 use Rattle.qoi.specs.declared.types.Style.TheVariants.{Places}
-use Rattle.qoi.specs.Qoi.{RgbaPixel, IsPixel, hash}
+use Rattle.qoi.specs.Qoi.{RgbaPixel, IsPixel, hash, Past}
 use Rattle.qoi.specs.Raw.{IsChannels, AreOpaque}
-use Rattle.qoi.specs.Styles.{names}
-use Rattle.qoi.specs.inner.block.State.{State, group_bytes, lanes_of}
-use Rattle.qoi.specs.inner.CoderLoop.{Ahead}
-use Rattle.qoi.specs.inner.CoderState.{held_in, style_of}
-use Rattle.qoi.specs.inner.Piece.{kept_bytes}
-use Rattle.qoi.specs.inner.block.Bytes.{sizes}
+use Rattle.qoi.specs.Styles.{names, style_of}
+use Rattle.qoi.specs.inner.block.Lanes.{State, group_bytes, lanes_of, mask, step_of, fits_diff, fits_luma, same_alpha, size_by, lane_of, is_rep, goes_on}
+use Rattle.qoi.specs.inner.block.Vectors.{sizes}
+use Rattle.qoi.specs.inner.Coder.{held_in, kept_bytes, Ahead}
 use Rattle.qoi.specs.inner.block.Block.{last_pixel}
 use Rattle.qoi.specs.inner.block.Planes.{block_pixels}
 use Rattle.qoi.specs.inner.block.Positions.{stand_tests}
 use Rattle.qoi.specs.inner.Table.{Holds}
-use Rattle.qoi.proofs.encoding.blocks.BlockPuts.{hashes_below}
 use Rattle.qoi.proofs.encoding.blocks.BlockStep.{ready, block_step}
 use Rattle.qoi.proofs.encoding.blocks.BlockWritten.{Carrying}
 use Rattle.qoi.proofs.encoding.coder.CoderLink.{first_more}
 use Rattle.qoi.proofs.encoding.blocks.PackedBlock.{block_sixteen, block_words}
-use Rattle.qoi.proofs.encoding.lanes.RereadLanes.{end_stays}
 use Rattle.qoi.proofs.encoding.stores.StoredBlock.{sizes_few}
-use Rattle.qoi.proofs.encoding.blocks.OpaqueBlock.{sizes_opaque}
+use Rattle.qoi.proofs.format.SamePixels.{hash_below}
 use Rattle.qoi.proofs.encode.block.write_block.Goals as goal
+
+-- index positions are below 64
+hashes_below : (ps : List RgbaPixel) (k : ℕ) → slice_index (map hash ps) k < 64
+hashes_below [] k = omega arith
+hashes_below (p ∷ ps) zero = hash_below p
+hashes_below (p ∷ ps) (suc k) = hashes_below ps k
+
+-- a chunk that keeps alpha has at most four bytes
+keep_size : (st l k : Bool) → k ≡ true → (r g : Bool) → (size_by st l k + bit_and (mask r) (mask g)) % 256 ≤ 4
+keep_size st l k e r g = grind arith
+
+-- each of them
+sizes_opaque : (held : Past) (q : RgbaPixel) (ps : List RgbaPixel) → q.a ≡ 255 → AreOpaque ps → (k : ℕ) → slice_index (sizes (lanes_of held q ps)) k ≤ 4
+sizes_opaque held q [] e opaque k = omega arith
+sizes_opaque held q (p ∷ ps) e opaque zero =
+    let l = lane_of held q p in
+    let same : same_alpha l ≡ true = eq-eqb (step_of l).a 0 (let a = opaque.0 in omega arith) in
+    keep_size (l.stands || fits_diff l) (fits_luma l) (same_alpha l) same (is_rep l) (goes_on (lanes_of (p ∷ held) p ps))
+sizes_opaque held q (p ∷ ps) e opaque (suc k) = sizes_opaque (p ∷ held) p ps opaque.0 opaque.1 k
+
+-- they stay when a byte before them is stored
+end_stays : (room at : ℕ) (out new v : List ℕ) → at + 16 < room → drop (at + 1) new ≡ drop (at + 1) out
+    → drop (room - 16) out ≡ v → drop (room - 16) new ≡ v
+end_stays room at out new v few later is =
+    let more = (room - 16) - (at + 1) in
+    let sum : room - 16 ≡ (at + 1) + more = omega arith in
+    ap (λ n. drop n new) sum ∙ sym (drop-drop more (at + 1) new) ∙ ap (drop more) later ∙ drop-drop more (at + 1) out ∙ ap (λ n. drop n out) (sym sum) ∙ is
 
 -- a chunk has at most as many bytes as a pixel has channels, and one more
 sizes_in : (n : ℕ) (s : State) (q : RgbaPixel) (ps : List RgbaPixel) (xs : List ℕ) → IsChannels n → (n ≡ 3 → AreOpaque ps) → (n ≡ 3 → q.a ≡ 255)

@@ -1,9 +1,8 @@
 -- A step further.
 use Rattle.std.proofs.Common.{inl, inr, ◌≤◌, length, sym, ap, arith, subst}
 use Rattle.qoi.specs.inner.BlockLoop.{InBlocks}
-use Rattle.qoi.specs.inner.CoderState.{style_of}
-use Rattle.qoi.specs.inner.Piece.{kept_bytes}
-use Rattle.qoi.specs.inner.Pixels.{pixels_in}
+use Rattle.qoi.specs.Styles.{style_of}
+use Rattle.qoi.specs.inner.Coder.{pixels_in, kept_bytes}
 use Rattle.qoi.proofs.encode.blocks.fill.Goals as goal
 
 pub loop-rest-preserved : goal.loop-rest-preserved

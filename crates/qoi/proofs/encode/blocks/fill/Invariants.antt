@@ -3,9 +3,8 @@ use Rattle.std.proofs.Common.{◌≡◌, ◌⊎◌, ℕ, List, ◌-◌, ◌<◌,
 use Rattle.qoi.specs.declared.encode.piece.TheConstants.{SPARE}
 use Rattle.qoi.specs.Qoi.{RgbaPixel}
 use Rattle.qoi.specs.inner.BlockLoop.{InBlocks}
-use Rattle.qoi.specs.inner.CoderState.{style_of}
-use Rattle.qoi.specs.inner.Piece.{kept_bytes}
-use Rattle.qoi.specs.inner.Pixels.{pixels_in}
+use Rattle.qoi.specs.Styles.{style_of}
+use Rattle.qoi.specs.inner.Coder.{pixels_in, kept_bytes}
 use Rattle.qoi.proofs.encode.blocks.fill.Given as goal
 
 abbrev pub invariant-loop-rest : goal.invariant-loop-rest

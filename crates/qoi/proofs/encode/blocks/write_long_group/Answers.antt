@@ -6,8 +6,7 @@ use Rattle.qoi.specs.declared.encode.piece.TheConstants.{REPEATS_AT_ONCE}
 use Rattle.qoi.specs.Runs.{IsCount}
 use Rattle.qoi.specs.inner.block.Block.{last_pixel}
 use Rattle.qoi.specs.inner.BlockLoop.{InBlocks}
-use Rattle.qoi.specs.inner.Piece.{kept_bytes}
-use Rattle.qoi.specs.inner.Pixels.{pixels_in}
+use Rattle.qoi.specs.inner.Coder.{pixels_in, kept_bytes}
 use Rattle.qoi.proofs.encoding.lists.CarriedRuns.{blocks_on}
 use Rattle.qoi.proofs.encoding.coder.PixelsIn.{NearGroup, near_group, near_some}
 use Rattle.qoi.proofs.encode.blocks.write_long_group.Given.{Over}

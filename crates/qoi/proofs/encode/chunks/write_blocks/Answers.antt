@@ -6,10 +6,8 @@ use Rattle.qoi.specs.declared.types.Style.{Style}
 use Rattle.qoi.specs.Qoi.{channels_number}
 use Rattle.qoi.specs.Raw.{pixels_of}
 use Rattle.qoi.specs.writers.Writes.{WroteBut}
-use Rattle.qoi.specs.inner.CoderLoop.{CoderBetween}
-use Rattle.qoi.specs.inner.CoderState.{style_of}
-use Rattle.qoi.specs.inner.Piece.{kept_bytes}
-use Rattle.qoi.specs.inner.Pixels.{pixels_in}
+use Rattle.qoi.specs.Styles.{style_of}
+use Rattle.qoi.specs.inner.Coder.{pixels_in, kept_bytes, CoderBetween}
 use Rattle.qoi.proofs.encoding.piece.BytesAhead.{CoderGoes, then_on, then_breaks, sent_on, sent_part, room_kept, still_ready}
 use Rattle.qoi.proofs.encoding.piece.ImagePieces.{bytes_in, few_bytes, fewer_bytes, whole_ahead}
 use Rattle.qoi.proofs.encoding.piece.PieceSent.{kept_length, sent_but}
@@ -68,11 +66,11 @@ loop-table-preserved g c =
       written = then_on laws.both c.loop-table.invariant.written (sent_on step opaque (whole ∙ sym c.loop-table.invariant.ready.whole) now);
     }
 
-pub returns-in_err-send-clause-refused : goal.returns-in_err-send-clause-refused
-returns-in_err-send-clause-refused g c =
+pub returns-in_err-send-clause-written : goal.returns-in_err-send-clause-written
+returns-in_err-send-clause-written g c =
     let e = err_from_is_err_and c.from_residual.result c.from_residual.ensures.1 in
     let r = c.in_err-send.ensures.refused in
-    let step = goes g (goal.at.returns-in_err-send-clause-refused g c).After-write_some-filled in
+    let step = goes g (goal.at.returns-in_err-send-clause-written g c).After-write_some-filled in
     rw (e.1, e.2) (r.0, then_breaks g.met.W.Writer.laws.both c.loop-table.invariant.written (sent_part step r.1))
 
 pub returns-clause-written : goal.returns-clause-written

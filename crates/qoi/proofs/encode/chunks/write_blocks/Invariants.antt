@@ -1,8 +1,7 @@
 -- The chunks of the pixels up to here are in the piece, or sent.
 use Rattle.std.proofs.Common.{◌≤◌, length}
 use Rattle.qoi.specs.declared.encode.pending.Pending.{Pending}
-use Rattle.qoi.specs.inner.Piece.{kept_bytes}
-use Rattle.qoi.specs.inner.Pixels.{pixels_in}
+use Rattle.qoi.specs.inner.Coder.{pixels_in, kept_bytes}
 use Rattle.qoi.specs.inner.Sending.{GoesOn, IsReady}
 use Rattle.qoi.proofs.encode.chunks.write_blocks.Given as goal
 

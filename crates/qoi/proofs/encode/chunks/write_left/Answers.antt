@@ -2,9 +2,8 @@
 use Rattle.std.proofs.Common.{subst}
 use Rattle.qoi.specs.Qoi.{channels_number}
 use Rattle.qoi.specs.Raw.{pixels_of}
-use Rattle.qoi.specs.inner.CoderLoop.{CoderBetween}
-use Rattle.qoi.specs.inner.Piece.{kept_bytes}
-use Rattle.qoi.proofs.encoding.piece.BytesAhead.{of_coder}
+use Rattle.qoi.specs.inner.Coder.{kept_bytes, CoderBetween}
+use Rattle.qoi.proofs.encoding.coder.CoderLink.{of_coder}
 use Rattle.qoi.proofs.encode.chunks.write_left.Goals as goal
 
 pub returns-in-Rgb : goal.returns-in-Rgb

@@ -1,6 +1,6 @@
 -- After the last pixels all that is ahead is in the piece.
 use Rattle.std.proofs.Common.{◌<◌, length, ap, arith}
-use Rattle.qoi.specs.inner.Pixels.{pixels_in}
+use Rattle.qoi.specs.inner.Coder.{pixels_in}
 use Rattle.qoi.proofs.encoding.piece.ImagePieces.{few_pixels}
 use Rattle.qoi.proofs.encode.chunks.write_rest.Given.{Over}
 use Rattle.qoi.proofs.encode.chunks.write_rest.Goals.{After-new-rest}

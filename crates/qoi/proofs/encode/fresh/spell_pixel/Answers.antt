@@ -1,6 +1,6 @@
 -- Each number has the bytes of the pixel's chunk.
 use Rattle.std.proofs.Common.{◌≡◌, ◌+◌, ◌*◌, ◌%◌, true, false, ap, ◌∙◌, arith}
-use Rattle.qoi.specs.Steps.{steps, diff_steps, luma_steps}
+use Rattle.qoi.specs.WrittenList.{steps, diff_steps, luma_steps}
 use Rattle.qoi.proofs.encoding.coder.SpelledPixel.{alpha_kept, alpha_changes, three_tests, spells_rgba, spells_diff, spells_luma, spells_rgb}
 use Rattle.qoi.proofs.encode.fresh.spell_pixel.Goals as goal
 

@@ -2,9 +2,8 @@
 -- bits. Once a fresh pixel is written, no repeats are carried.
 use Rattle.std.proofs.Common.{◌≡◌, ◌⊎◌, ◌+◌, ◌-◌, ◌*◌, ◌<◌, ◌≤◌, true, Some, length, take, drop, slice_get}
 use Rattle.qoi.specs.declared.encode.carry.TheConstants.{FRONT_CARRIED}
-use Rattle.qoi.specs.inner.CoderSteps.{CoderPasses}
+use Rattle.qoi.specs.inner.Coder.{pixels_in, CoderPasses}
 use Rattle.qoi.specs.inner.block.Marks.{fresh_marks}
-use Rattle.qoi.specs.inner.Pixels.{pixels_in}
 use Rattle.qoi.proofs.encode.marked.write_marked.Given as goal
 
 abbrev pub invariant-loop-left : goal.invariant-loop-left

@@ -1,6 +1,6 @@
 -- Two pairs after the others, each of two pixels.
 use Rattle.std.proofs.Common.{length, length-drop, subst, sym, ap, ◌∙◌, arith}
-use Rattle.qoi.specs.inner.Pixels.{pixels_in}
+use Rattle.qoi.specs.inner.Coder.{pixels_in}
 use Rattle.qoi.proofs.encoding.coder.MarkedPixels.{IsPair, two_pairs}
 use Rattle.qoi.proofs.encode.pairs.write_pairs.Goals as goal
 

@@ -1,7 +1,6 @@
 -- The pixels up to here are written, and no repeats are carried if any are left.
 use Rattle.std.proofs.Common.{◌≡◌, ◌≢◌, ◌≤◌, [], length}
-use Rattle.qoi.specs.inner.CoderSteps.{CoderPasses}
-use Rattle.qoi.specs.inner.Pixels.{pixels_in}
+use Rattle.qoi.specs.inner.Coder.{pixels_in, CoderPasses}
 use Rattle.qoi.proofs.encode.pairs.write_pairs.Given as goal
 
 abbrev pub invariant-loop-piece : goal.invariant-loop-piece

@@ -1,21 +1,16 @@
 -- The loop ends at another pixel, or if none is left.
-use Rattle.std.proofs.Common.{◌≡◌, List, [], ◌∷◌, Some, drop, false, true, refl, sym, ap, ◌∙◌, arith}
+use Rattle.std.proofs.Common.{◌≡◌, List, [], ◌∷◌, Some, drop, false, true, refl, sym, ap, ◌∙◌}
 use Rattle.std.proofs.lemmas.Option.{same_Some}
 use Rattle.std.specs.List.{slice_get}
 use Rattle.qoi.specs.Qoi.{RgbaPixel}
-use Rattle.qoi.specs.inner.Pixels.{pixels_in}
+use Rattle.qoi.specs.inner.Coder.{pixels_in}
 use Rattle.qoi.proofs.encoding.lists.GroupRuns.{count_of, repeats_on}
-use Rattle.qoi.proofs.encoding.coder.PixelsIn.{pixels_few}
 use Rattle.qoi.proofs.encode.runs.count_pixels.Goals as goal
 
 -- the first of them
 first_is : (p : RgbaPixel) (ps : List RgbaPixel) → slice_get ps 0 ≡ Some p → ps ≡ p ∷ drop 1 ps
 first_is p [] e = absurd (let no = e in cc)
 first_is p (q ∷ ps) e = ap (λ z. z ∷ ps) (same_Some _ _ e)
-
-pub overflow_add-count : goal.overflow_add-count
-overflow_add-count g c =
-    omega (arith, c.skip-rest.ensures.size, c.loop-rest.invariant.within, pixels_few g.row.N c.args.raw.bytes.now c.args.raw.channels c.args.raw.whole)
 
 pub loop-rest-preserved : goal.loop-rest-preserved
 loop-rest-preserved g c =

@@ -3,7 +3,7 @@ use Rattle.std.proofs.Common.{ap, ◌∙◌, subst}
 use Rattle.qoi.specs.Qoi.{rgba}
 use Rattle.qoi.specs.Raw.{pixels_of}
 use Rattle.qoi.specs.Runs.{IsCount}
-use Rattle.qoi.specs.inner.Pixels.{pixels_in}
+use Rattle.qoi.specs.inner.Coder.{pixels_in}
 use Rattle.qoi.proofs.encoding.coder.PixelsIn.{whole_part}
 use Rattle.qoi.proofs.encode.runs.repeats.Goals as goal
 

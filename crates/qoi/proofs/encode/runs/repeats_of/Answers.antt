@@ -2,7 +2,7 @@
 use Rattle.std.proofs.Common.{◌≡◌, ◌+◌, ◌++◌, List, length, drop, replicate, refl, sym, ap, ◌∙◌, subst, arith}
 use Rattle.qoi.specs.Qoi.{RgbaPixel}
 use Rattle.qoi.specs.Runs.{IsCount}
-use Rattle.qoi.specs.inner.Pixels.{pixels_in}
+use Rattle.qoi.specs.inner.Coder.{pixels_in}
 use Rattle.qoi.proofs.encoding.lists.GroupRuns.{RepeatsSoFar, repeats_on, counted_on}
 use Rattle.qoi.proofs.encoding.coder.PixelsIn.{pixels_few}
 use Rattle.qoi.proofs.encode.runs.repeats_of.Goals as goal

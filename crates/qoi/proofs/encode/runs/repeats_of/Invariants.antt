@@ -1,6 +1,6 @@
 -- The pixels so far repeat.
 use Rattle.std.proofs.Common.{length}
-use Rattle.qoi.specs.inner.Pixels.{pixels_in}
+use Rattle.qoi.specs.inner.Coder.{pixels_in}
 use Rattle.qoi.proofs.encoding.lists.GroupRuns.{RepeatsSoFar}
 use Rattle.qoi.proofs.encode.runs.repeats_of.Given as goal
 

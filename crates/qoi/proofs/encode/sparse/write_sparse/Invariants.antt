@@ -1,8 +1,7 @@
 -- The pixels up to here are written; few repeats are carried.
 use Rattle.std.proofs.Common.{◌≢◌, ◌≤◌, [], length}
 use Rattle.qoi.specs.declared.encode.carry.TheConstants.{FRONT_CARRIED}
-use Rattle.qoi.specs.inner.CoderSteps.{CoderPasses}
-use Rattle.qoi.specs.inner.Pixels.{pixels_in}
+use Rattle.qoi.specs.inner.Coder.{pixels_in, CoderPasses}
 use Rattle.qoi.proofs.encode.sparse.write_sparse.Given as goal
 
 abbrev pub invariant-loop-rest : goal.invariant-loop-rest

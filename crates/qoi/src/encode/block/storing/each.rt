@@ -1,8 +1,7 @@
 //! Chunks of at most five bytes, each stored on its own: where the sizes of those before it say.
 ghost use lib.Lanes.{digits_l};
 ghost use Rattle.std.specs.Prelude.{◌≡◌, ◌+◌, ◌*◌, ◌/◌, ◌%◌, ◌^◌, ◌≤◌, ◌<◌, ℕ, List, ◌++◌, length, take, slice_index};
-ghost use Rattle.qoi.specs.inner.block.Each.{AreStarts, HoldChunks, four_parts, eight_parts};
-ghost use Rattle.qoi.specs.inner.block.Storing.{AreSizes, first_sum, sixteen_chunks};
+ghost use Rattle.qoi.specs.inner.block.Storing.{AreStarts, HoldChunks, four_parts, eight_parts, AreSizes, first_sum, sixteen_chunks};
 
 use crate::encode::block::lanes::{halves, lesser};
 use crate::encode::block::planes::{Planes, Words, make_words};

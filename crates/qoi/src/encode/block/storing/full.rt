@@ -1,6 +1,6 @@
 //! Sixteen RGBA chunks, stored one after the other (QOI specification 1.0, "Chunks").
 ghost use Rattle.std.specs.Prelude.{◌≡◌, ◌+◌, ◌≤◌, ◌++◌, length, take};
-ghost use Rattle.qoi.specs.inner.block.Full.{full_bytes};
+ghost use Rattle.qoi.specs.inner.block.Storing.{full_bytes};
 ghost use Rattle.qoi.specs.inner.block.Planes.{AreFour, ArePacked, pixels_of_words, block_pixels};
 
 use crate::encode::block::planes::Words;

@@ -1,8 +1,7 @@
 //! Chunks of at most four bytes, stored four at a time: one shuffle moves their bytes together.
 ghost use lib.Lanes.{all_below, digits_l};
 ghost use Rattle.std.specs.Prelude.{◌≡◌, ◌+◌, ◌≤◌, ◌<◌, ℕ, List, [], ◌∷◌, ◌++◌, length, take, IsTrue};
-ghost use Rattle.qoi.specs.inner.block.Shuffled.{HaveCodes, AreCodes, joined, total, order_of, close_bytes};
-ghost use Rattle.qoi.specs.inner.block.Storing.{sixteen_chunks};
+ghost use Rattle.qoi.specs.inner.block.Storing.{HaveCodes, AreCodes, joined, total, order_of, close_bytes, sixteen_chunks};
 
 use crate::encode::block::lanes::{halves, lesser};
 use crate::encode::block::planes::Words;

@@ -4,6 +4,7 @@ use Rattle.std.specs.Io.BufRead.{FillKeeps}
 use Rattle.std.proofs.BufReadLemmas.{Consumes_shown}
 use Rattle.std.proofs.KnownBytes.{Consumes-nil, Consumes-kept}
 use Rattle.qoi.proofs.format.PartOfChunk.{part_empty}
+use Rattle.qoi.proofs.decoding.Progress.{none_taken}
 use Rattle.qoi.proofs.decoding.Grown.{stream_refused}
 use Rattle.qoi.proofs.decoding.InPlace.{piece_taken}
 use Rattle.qoi.proofs.decoding.Refusals.{handed_on}
@@ -14,7 +15,7 @@ returns-in_err-bytes-clause-refused g c =
     let rested = c.fill_buf.follows.lender-at-none in
     let kept = subst (FillKeeps _ (g.R.Read.remaining rested) (g.R.BufRead.consumable_len rested)) c.in_err-bytes.was c.fill_buf.follows.holds-at-none in
     rw (sym c.self.view_is) (handed_on _ _ _ c.from_residual.ensures.1
-    (stream_refused _ [] c.requires.fillable.three_or_four (record { between = λ gone n start h. h }) c.requires.inside (Consumes-kept _ _ _ [] (Consumes-nil _) kept.0) (part_empty [] (omega arith)) c.in_err-bytes.field-0.0))
+    (stream_refused _ [] (none_taken c.requires.fillable) c.requires.inside (Consumes-kept _ _ _ [] (Consumes-nil _) kept.0) (part_empty [] (omega arith)) c.in_err-bytes.field-0.0))
 
 pub returns-clause-takes : goal.returns-clause-takes
 returns-clause-takes g c =

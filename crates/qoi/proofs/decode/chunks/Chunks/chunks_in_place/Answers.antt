@@ -1,5 +1,5 @@
 -- No chunk is decoded.
-use Rattle.qoi.proofs.decoding.InPlace.{piece_stops}
+use Rattle.qoi.proofs.decoding.PieceSteps.{piece_stops}
 use Rattle.qoi.proofs.decode.chunks.Chunks.chunks_in_place.Goals as goal
 
 pub returns-clause-takes : goal.returns-clause-takes

@@ -11,8 +11,8 @@ row : (g : Over) (c : After-short_row-now g) → FastChunks c.args.bytes.now c.a
     c.short_row-now.result c.short_row-now.new.table c.short_row-now.new.out
 row g c =
     let short = c.short_row-now.ensures.step in
-    step_more c.loop-now.invariant short (omega (arith, short.taken, c.loop-now-test.true, c.requires.input))
-    (omega (arith, short.written, c.loop-now-test.true, c.requires.room))
+    step_more c.loop-now.invariant short (omega (arith, short.taken, c.loop-now-test.true, c.requires.input_is))
+    (omega (arith, short.written, c.loop-now-test.true, c.requires.room_is))
 
 pub loop-now-preserved-then-is_short : goal.loop-now-preserved-then-is_short
 loop-now-preserved-then-is_short g c = row g (goal.at.loop-now-preserved-then-is_short g c).After-short_row-now
@@ -22,13 +22,13 @@ loop-now-preserved-then-now-ge-QOI_OP_RGB g c =
     let short = c.short_row-now.ensures.step in
     let full = c.full_chunk-now.ensures in
     step_more (row g (goal.at.loop-now-preserved-then-now-ge-QOI_OP_RGB g c).After-short_row-now) full
-    (omega (arith, full.taken, short.taken, c.loop-now-test.true, c.requires.input)) (omega (arith, short.written, full.written, c.loop-now-test.true, c.requires.room))
+    (omega (arith, full.taken, short.taken, c.loop-now-test.true, c.requires.input_is)) (omega (arith, short.written, full.written, c.loop-now-test.true, c.requires.room_is))
 
 pub loop-now-preserved : goal.loop-now-preserved
 loop-now-preserved g c =
     let short = c.short_row-now.ensures.step in
     let run = c.long_run-now.ensures in
-    step_more (row g (goal.at.loop-now-preserved g c).After-short_row-now) run.step (omega (arith, run.step.taken, short.taken, c.loop-now-test.true, c.requires.input))
+    step_more (row g (goal.at.loop-now-preserved g c).After-short_row-now) run.step (omega (arith, run.step.taken, short.taken, c.loop-now-test.true, c.requires.input_is))
     (omega (arith, run.below, c.long_run-now.auto.out, c.short_row-now.auto.out, c.loop-now.auto.out))
 
 pub returns-else-leaves_room : goal.returns-else-leaves_room

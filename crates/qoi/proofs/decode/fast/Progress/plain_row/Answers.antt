@@ -12,7 +12,7 @@ eight g c =
     let four = c.plain_chunks-now.ensures in
     let more : FastStep 1 40 128 c.args.bytes.now c.loop-now.now c.loop-now.table c.loop-now.out c.if-is_plain.now c.if-is_plain.table c.if-is_plain.out =
     elim c.if-is_plain.branch [
-      | then-is_plain w ↦ rw (w.now-is, w.table-is, w.out-is) (step_then four w.plain_chunks-now-then-is_plain.ensures (omega arith) (omega arith) (omega arith))
+      | then-is_plain w ↦ rw (w.now-is, w.table-is, w.out-is) (step_within (step_then four w.plain_chunks-now-then-is_plain.ensures) (omega arith) (omega arith) (omega arith))
       | else-is_plain w ↦ rw (w.now-is, w.table-is, w.out-is) (step_within four (omega arith) (omega arith) (omega arith))
     ] in
     step_more c.loop-now.invariant more (omega (arith, more.taken, c.loop-now-test.true, c.if-bytes-lt-ROW_ROOM.false))

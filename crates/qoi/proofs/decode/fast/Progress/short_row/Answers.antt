@@ -10,4 +10,4 @@ pub returns-then-not-is_short-clause-step : goal.returns-then-not-is_short-claus
 returns-then-not-is_short-clause-step g c = step_within c.short_chunks-four.ensures.step (omega arith) (omega arith) (omega arith)
 
 pub returns-clause-step : goal.returns-clause-step
-returns-clause-step g c = step_then c.short_chunks-four.ensures.step c.short_chunks-2.ensures.step (omega arith) (omega arith) (omega arith)
+returns-clause-step g c = step_within (step_then c.short_chunks-four.ensures.step c.short_chunks-2.ensures.step) (omega arith) (omega arith) (omega arith)

@@ -11,9 +11,8 @@ use Rattle.qoi.specs.Qoi.{IsValid, channels_number, pixel_count}
 use Rattle.qoi.specs.pieces.PixelReader.{PixelsState, HasGiven, HasRows}
 use Rattle.qoi.specs.pieces.Unread.{KeepsPixels, IsUnread}
 use Rattle.qoi.specs.inner.Chunks.{RefusesChunks, HasFault}
-use Rattle.qoi.proofs.decoding.Rows.{rows_more, rows_next}
 use Rattle.qoi.proofs.format.RectangleLaws.{picture_row}
-use Rattle.qoi.proofs.decoding.PixelPieces.{byte_bounds, has_given, unread_of, refuses_pixels}
+use Rattle.qoi.proofs.decoding.PixelPieces.{byte_bounds, has_given, unread_of, refuses_pixels, rows_more, rows_next}
 use Rattle.qoi.proofs.decode.pixel_reader.PixelReader.read.Goals as goal
 
 -- what holds of the error in its place, holds of the one that is returned

@@ -3,8 +3,7 @@ use Rattle.std.proofs.Common.{List, map, sym, ◌∙◌}
 use Rattle.std.proofs.lemmas.List.{length-map}
 use Rattle.std.proofs.lemmas.Simd.{map-map}
 use Rattle.qoi.specs.Qoi.{RgbaPixel}
-use Rattle.qoi.specs.inner.block.Lanes.{Lane, mask}
-use Rattle.qoi.specs.inner.block.State.{lanes_of, is_rep}
+use Rattle.qoi.specs.inner.block.Lanes.{Lane, mask, lanes_of, is_rep}
 use Rattle.qoi.specs.inner.block.Planes.{block_pixels}
 use Rattle.qoi.proofs.encoding.lanes.BlankLanes.{is_blank, or_not, is_plain, plain_lanes}
 use Rattle.qoi.proofs.encoding.lanes.Lanewise.{two, one, each, not_8}

@@ -3,9 +3,8 @@ use Rattle.std.proofs.Common.{List, [], map, false, refl, sym, ◌∙◌}
 use Rattle.std.proofs.lemmas.List.{length-map}
 use Rattle.std.proofs.lemmas.Simd.{map-map}
 use Rattle.qoi.specs.Qoi.{RgbaPixel}
-use Rattle.qoi.specs.inner.block.Lanes.{Lane, mask}
+use Rattle.qoi.specs.inner.block.Lanes.{Lane, mask, State, lanes_of, is_rep}
 use Rattle.qoi.specs.inner.block.Block.{last_pixel}
-use Rattle.qoi.specs.inner.block.State.{State, lanes_of, is_rep}
 use Rattle.qoi.specs.inner.block.Planes.{block_pixels}
 use Rattle.qoi.proofs.encoding.blocks.PackedBlock.{block_sixteen}
 use Rattle.qoi.proofs.encoding.blocks.SpelledBlock.{lanes_long}

@@ -1,8 +1,8 @@
 -- Where each pixel is known to have an RGBA chunk.
 use Rattle.std.proofs.Common.{List}
 use Rattle.qoi.specs.Qoi.{RgbaPixel}
-use Rattle.qoi.specs.inner.CoderState.{style_of}
-use Rattle.qoi.specs.inner.block.State.{lanes_of}
+use Rattle.qoi.specs.inner.block.Lanes.{lanes_of}
+use Rattle.qoi.specs.Styles.{style_of}
 use Rattle.qoi.specs.inner.block.Planes.{block_pixels}
 use Rattle.qoi.proofs.encoding.blocks.SpelledBlock.{stands_by}
 use Rattle.qoi.proofs.encode.block.Block.spell.Goals as goal

@@ -2,7 +2,7 @@
 use Rattle.std.proofs.Common.{take, drop, sym, subst}
 use Rattle.qoi.specs.inner.block.Planes.{ArePlanes}
 use Rattle.qoi.proofs.encoding.blocks.FourFours.{four_fours}
-use Rattle.qoi.proofs.encoding.lanes.PlaneWords.{all_words}
+use Rattle.qoi.proofs.encoding.lanes.WordPlanes.{all_words}
 use Rattle.qoi.proofs.encode.block.planes.make_words.Goals as goal
 
 pub returns : goal.returns

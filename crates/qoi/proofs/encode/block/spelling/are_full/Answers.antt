@@ -2,7 +2,7 @@
 use Rattle.std.proofs.Common.{◌==◌, map, bit_or, sym, ◌∙◌}
 use Rattle.std.proofs.lemmas.List.{length-map}
 use Rattle.std.proofs.lemmas.Simd.{map-map}
-use Rattle.qoi.specs.inner.block.Full.{is_full}
+use Rattle.qoi.specs.inner.block.Vectors.{is_full}
 use Rattle.qoi.specs.inner.block.Lanes.{Lane, mask, same_alpha}
 use Rattle.qoi.proofs.encoding.blocks.FullBlock.{neither}
 use Rattle.qoi.proofs.encoding.lanes.Lanewise.{two, one, each, again, not_8}

@@ -3,9 +3,8 @@ use Rattle.std.proofs.Common.{◌==◌, List, map, sym, ap, ◌∙◌}
 use Rattle.std.proofs.lemmas.List.{length-map}
 use Rattle.std.proofs.lemmas.Simd.{map-map}
 use Rattle.qoi.specs.Qoi.{RgbaPixel, hash}
-use Rattle.qoi.specs.inner.block.Lanes.{Lane, mask}
-use Rattle.qoi.specs.inner.block.State.{lanes_of, is_rep}
-use Rattle.qoi.specs.inner.block.Counting.{counts}
+use Rattle.qoi.specs.inner.block.Lanes.{Lane, mask, lanes_of, is_rep}
+use Rattle.qoi.specs.inner.block.Vectors.{counts}
 use Rattle.qoi.proofs.encoding.lanes.Lanewise.{one, again}
 use Rattle.qoi.proofs.encoding.blocks.SpelledBlock.{lanes_long, plane_by, stands_by}
 use Rattle.qoi.proofs.encode.block.spelling.spell_block.Goals as goal

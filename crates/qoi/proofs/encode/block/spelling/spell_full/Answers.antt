@@ -1,7 +1,6 @@
 -- The vectors are those of RGBA chunks.
 use Rattle.std.proofs.Common.{◌≡◌, List, replicate, length, sym, ap, ◌∙◌}
-use Rattle.qoi.specs.inner.block.Lanes.{Lane}
-use Rattle.qoi.specs.inner.block.State.{lanes_of}
+use Rattle.qoi.specs.inner.block.Lanes.{Lane, lanes_of}
 use Rattle.qoi.specs.Qoi.{RgbaPixel}
 use Rattle.qoi.proofs.encoding.blocks.FullBlock.{full_lanes, tags_in, sizes_full, none_counted, reds_full}
 use Rattle.qoi.proofs.encoding.blocks.SpelledBlock.{lanes_long, lanes_are}

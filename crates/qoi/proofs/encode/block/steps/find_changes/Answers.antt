@@ -1,9 +1,8 @@
 -- Channel by channel.
 use Rattle.std.proofs.Common.{◌<◌, List, ap, ◌∙◌, sym, subst}
 use Rattle.qoi.specs.Qoi.{RgbaPixel, IsPixel}
-use Rattle.qoi.specs.inner.block.LaneVectors.{ArePlanesBy}
-use Rattle.qoi.specs.inner.block.Lanes.{Lane, step_of}
-use Rattle.qoi.specs.inner.block.State.{lanes_of}
+use Rattle.qoi.specs.inner.block.Vectors.{ArePlanesBy}
+use Rattle.qoi.specs.inner.block.Lanes.{Lane, step_of, lanes_of}
 use Rattle.qoi.proofs.encoding.blocks.SpelledBlock.{own_planes, before_by}
 use Rattle.qoi.proofs.encoding.lanes.BlankLanes.{repeat_lane}
 use Rattle.qoi.proofs.encoding.lanes.Lanewise.{each}

@@ -4,7 +4,7 @@ use Rattle.std.specs.Prelude.{not}
 use Rattle.std.proofs.lemmas.Bool.{true≢false, and_parts}
 use Rattle.std.proofs.lemmas.List.{length-map}
 use Rattle.qoi.specs.inner.block.Lanes.{mask}
-use Rattle.qoi.specs.inner.block.Counting.{all_true}
+use Rattle.qoi.specs.inner.block.Vectors.{all_true}
 use Rattle.qoi.proofs.encoding.lanes.Lanewise.{not_8}
 use Rattle.qoi.proofs.encode.block.storing.are_short.Goals as goal
 

@@ -1,26 +1,50 @@
 -- Sixteen chunks, in either way.
-use Rattle.std.proofs.Common.{◌≡◌, ◌≢◌, ◌+◌, ◌<◌, ℕ, List, ◌++◌, length, map, slice_index, take, arith, sym, ap, ◌∙◌, subst}
+use Rattle.std.proofs.Common.{◌≡◌, ◌≢◌, ◌+◌, ◌<◌, ℕ, List, ◌++◌, length, map, slice_index, take, arith, sym, ap, ◌∙◌, subst, zero, suc, ◌%◌, ◌||◌, Bool, true, false, [], ◌∷◌, bit_and, refl}
 use Rattle.std.specs.List.{AllByRecursion}
 use Rattle.qoi.specs.declared.encode.block.planes.Planes.{Planes}
 use Rattle.qoi.specs.declared.encode.block.planes.Words.{Words}
 use Rattle.qoi.specs.declared.encode.block.spelling.Spelled.{Spelled}
 use Rattle.qoi.specs.declared.types.Style.{Style}
-use Rattle.qoi.specs.Qoi.{RgbaPixel, IsPixel, run_max}
-use Rattle.qoi.specs.inner.block.Lanes.{Lane}
-use Rattle.qoi.specs.inner.block.State.{State, lanes_of, block_bytes}
-use Rattle.qoi.specs.inner.block.Shuffled.{HaveCodes, HasCode}
+use Rattle.qoi.specs.Qoi.{RgbaPixel, IsPixel, run_max, Past, pixel_eq}
+use Rattle.qoi.specs.inner.block.Lanes.{Lane, State, lanes_of, block_bytes, mask, fits_diff, fits_luma, same_alpha, size_by, size_of, lane_of, goes_on}
+use Rattle.qoi.specs.inner.block.Storing.{HaveCodes, HasCode, sixteen_chunks}
 use Rattle.qoi.specs.inner.block.Planes.{AreSixteen, ArePlanes, AreBlockWords, block_pixels}
-use Rattle.qoi.specs.inner.block.Spelling.{HasSpelled}
-use Rattle.qoi.specs.inner.block.Storing.{sixteen_chunks}
+use Rattle.qoi.specs.inner.block.Vectors.{HasSpelled, sizes}
 use Rattle.qoi.proofs.encoding.blocks.FullBlock.{full_lanes, full_written}
 use Rattle.qoi.proofs.encoding.blocks.PackedBlock.{block_sixteen}
-use Rattle.qoi.proofs.encoding.blocks.LaneBytes.{chunks_of}
+use Rattle.qoi.proofs.encoding.blocks.LaneBytes.{chunks_of, repeat_size}
 use Rattle.qoi.proofs.encoding.lanes.LaneTests.{themselves}
-use Rattle.qoi.proofs.encoding.stores.SizeCodes.{sizes_coded}
 use Rattle.qoi.proofs.encoding.blocks.SpelledBlock.{lanes_long, lanes_are}
 use Rattle.qoi.proofs.encoding.stores.StoredBlock.{chunk_pixels, pixels_long, chunk_planes, sizes_long, sixteen_parts}
 use Rattle.qoi.proofs.encoding.blocks.StyledBytes.{firsts_long, pixels_in, out_in}
 use Rattle.qoi.proofs.encode.block.storing.store_sixteen.Goals as goal
+
+-- a size, with the one of a repeat that goes on taken away
+abbrev laid : ℕ → Bool → Bool → ℕ
+laid n r g = (n + bit_and (mask r) (mask g)) % 256
+
+-- that of a fresh lane, if it isn't 5
+fresh_coded : (st l k g : Bool) → laid (size_by st l k) false g ≢ 5 → HasCode (laid (size_by st l k) false g)
+fresh_coded st l k g n = grind arith
+
+-- that of a repeat
+repeat_coded : (g : Bool) → HasCode (laid 1 true g)
+repeat_coded g = grind arith
+
+-- of either
+one_coded : (held : Past) (q p : RgbaPixel) → IsPixel p → (r g : Bool) → pixel_eq p q ≡ r
+    → laid (size_of (lane_of held q p)) r g ≢ 5 → HasCode (laid (size_of (lane_of held q p)) r g)
+one_coded held q p i true g e n = subst (λ m. HasCode (laid m true g)) (sym (repeat_size (lane_of held q p) i e)) (repeat_coded g)
+one_coded held q p i false g e n =
+    let l = lane_of held q p in
+    fresh_coded (l.stands || fits_diff l) (fits_luma l) (same_alpha l) g n
+
+-- each size that isn't 5 has a code
+sizes_coded : (held : Past) (q : RgbaPixel) (ps : List RgbaPixel) → AllByRecursion IsPixel ps → (k : ℕ)
+    → slice_index (sizes (lanes_of held q ps)) k ≢ 5 → HasCode (slice_index (sizes (lanes_of held q ps)) k)
+sizes_coded held q [] are k n = refl
+sizes_coded held q (p ∷ ps) are zero n = one_coded held q p are.0 (pixel_eq p q) (goes_on (lanes_of (p ∷ held) p ps)) refl n
+sizes_coded held q (p ∷ ps) are (suc k) n = sizes_coded (p ∷ held) p ps are.1 k n
 
 -- sixteen chunks of what is spelled out are the block's
 block_is : (style : Style) (s : State) (ps : List RgbaPixel) (x : Spelled) (p : Planes) (words : Words) → AreSixteen ps → IsPixel s.last → ArePlanes ps p → HasSpelled style s ps x → s.carry + 16 < run_max

@@ -2,7 +2,7 @@
 use Rattle.std.proofs.Common.{IsTrue, nat_lt, ◌∷◌, ◌++◌, replicate, sym, ap, ◌∙◌, subst}
 use Rattle.qoi.specs.Qoi.{Past, previous}
 use Rattle.qoi.specs.Styles.{has_pixel}
-use Rattle.qoi.specs.inner.CoderState.{held_in}
+use Rattle.qoi.specs.inner.Coder.{held_in}
 use Rattle.qoi.specs.inner.Table.{Holds}
 use Rattle.qoi.proofs.format.ChunkSteps.{previous_repeats}
 use Rattle.qoi.proofs.encoding.coder.CoderTable.{fresh_repeats, repeats_unput, repeats_put}

@@ -4,9 +4,7 @@ use Rattle.std.proofs.lemmas.Bool.{true≢false, cases_lt}
 use Rattle.qoi.specs.declared.chunk.Chunk.TheVariants.{Run}
 use Rattle.qoi.specs.declared.encode.piece.TheConstants.{RUNS_AT_ONCE}
 use Rattle.qoi.specs.Qoi.{chunk_max}
-use Rattle.qoi.specs.inner.CoderLoop.{CoderBetween}
-use Rattle.qoi.specs.inner.Piece.{kept_bytes}
-use Rattle.qoi.specs.inner.Pixels.{pixels_in}
+use Rattle.qoi.specs.inner.Coder.{pixels_in, kept_bytes, CoderBetween}
 use Rattle.qoi.proofs.encoding.coder.CoderLink.{then_passes}
 use Rattle.qoi.proofs.encoding.coder.CoderSteps.{last_run}
 use Rattle.qoi.proofs.encode.coder.Coder.write_each.Goals as goal

@@ -3,8 +3,7 @@
 use Rattle.std.proofs.Common.{◌≢◌, [], ◌+◌, ◌*◌, ◌<◌, ◌≤◌, length}
 use Rattle.qoi.specs.declared.encode.piece.TheConstants.{RUNS_AT_ONCE}
 use Rattle.qoi.specs.Qoi.{chunk_max}
-use Rattle.qoi.specs.inner.CoderSteps.{CoderPasses}
-use Rattle.qoi.specs.inner.Pixels.{pixels_in}
+use Rattle.qoi.specs.inner.Coder.{pixels_in, CoderPasses}
 use Rattle.qoi.proofs.encode.coder.Coder.write_each.Given as goal
 
 abbrev pub invariant-loop-rest : goal.invariant-loop-rest

@@ -5,8 +5,7 @@ use Rattle.qoi.specs.declared.types.Style.TheVariants.{Reference, Places, Tight}
 use Rattle.qoi.specs.Qoi.{Past, IsPixel, hash, seen}
 use Rattle.qoi.specs.Runs.{runs_by}
 use Rattle.qoi.specs.Styles.{has_pixel}
-use Rattle.qoi.specs.inner.CoderState.{held_in}
-use Rattle.qoi.specs.inner.Piece.{kept_bytes}
+use Rattle.qoi.specs.inner.Coder.{held_in, kept_bytes}
 use Rattle.std.proofs.lemmas.Bool.{eq-eqb}
 use Rattle.qoi.specs.declared.chunk.Chunk.TheVariants.{Place}
 use Rattle.qoi.specs.inner.Table.{Holds}

@@ -5,10 +5,8 @@ use Rattle.std.specs.List.{slice_get}
 use Rattle.qoi.specs.declared.encode.piece.TheConstants.{REPEATS_AT_ONCE}
 use Rattle.qoi.specs.Qoi.{RgbaPixel}
 use Rattle.qoi.specs.Runs.{IsCount}
-use Rattle.qoi.specs.inner.CoderLoop.{CoderBetween, single}
-use Rattle.qoi.specs.inner.Piece.{kept_bytes}
-use Rattle.qoi.specs.inner.Pixels.{pixels_in}
-use Rattle.qoi.proofs.encoding.coder.CoderLink.{first_more, more_some}
+use Rattle.qoi.specs.inner.Coder.{pixels_in, kept_bytes, single}
+use Rattle.qoi.proofs.encoding.coder.CoderLink.{first_more, more_some, of_coder}
 use Rattle.qoi.proofs.encoding.coder.CoderSteps.{group_written, fulls_written}
 use Rattle.qoi.proofs.encoding.coder.PixelsIn.{NearGroup, near_group, near_some}
 use Rattle.qoi.proofs.encoding.lists.RunBytes.{runs_written}
@@ -51,8 +49,7 @@ returns-then-ends_after-clause-written g c = record {
   on = λ all more b.
       let n = c.repeats_of-ahead.result in
       let count = c.args.self.now.last.repeats + n in
-      subst (λ style. CoderBetween style all (drop n (pixels_in c.args.raw) ++ more) c.update_after_repeats.new.table c.update_after_repeats.new.self.last (kept_bytes c.append_full_runs.new.self))
-      (sym c.update_after_repeats.ensures.style) (fulls_written b n (count / 62) (drop n (pixels_in c.args.raw) ++ more) (ahead_is g (goal.at.returns-then-ends_after-clause-written g c).After-repeats_of-ahead more)
+      of_coder c.update_after_repeats.ensures.style refl (fulls_written b n (count / 62) (drop n (pixels_in c.args.raw) ++ more) (ahead_is g (goal.at.returns-then-ends_after-clause-written g c).After-repeats_of-ahead more)
       (omega (arith, c.update_after_repeats.ensures.left)) c.append_full_runs.ensures.kept c.update_after_repeats.ensures.state);
 }
 
@@ -73,7 +70,6 @@ returns-clause-written g c = record {
       let ends : (slice_get later 0 ≢ Some last.px) ⊎ (count % 62 ≡ 0) =
       elim group.ends as (λ _. (slice_get later 0 ≢ Some last.px) ⊎ (count % 62 ≡ 0)) [ inl other ↦ inl (λ e. other (sym first ∙ e)) | inr e ↦ inr (full e) ] in
       let one = single c.args.self.now.style last count in
-      subst (λ style. CoderBetween style all later c.update_after_repeats-2.new.table c.update_after_repeats-2.new.self.last (kept_bytes c.append_run.new.self))
-      (sym c.update_after_repeats-2.ensures.style) (group_written b n later one (ahead_is g here more) ends (λ _. inr (more_some rest more some, refl))
+      of_coder c.update_after_repeats-2.ensures.style refl (group_written b n later one (ahead_is g here more) ends (λ _. inr (more_some rest more some, refl))
       (runs_written one count (kept_bytes c.args.piece.now) _ _ c.append_full_runs.ensures.kept (c.append_run.ensures.kept one c.single_repeat_byte.ensures)) c.update_after_repeats-2.ensures.left c.update_after_repeats-2.ensures.state);
 }

@@ -3,9 +3,8 @@ use Rattle.std.proofs.Common.{◌≡◌, ◌≢◌, inl, inr, ◌+◌, [], ◌�
 use Rattle.std.proofs.lemmas.Option.{same_Some}
 use Rattle.std.specs.List.{slice_get}
 use Rattle.qoi.specs.Qoi.{RgbaPixel}
-use Rattle.qoi.specs.inner.CoderLoop.{CoderBetween, single}
-use Rattle.qoi.specs.inner.Piece.{kept_bytes}
-use Rattle.qoi.specs.inner.Pixels.{pixels_in}
+use Rattle.qoi.specs.inner.Coder.{pixels_in, kept_bytes, single, CoderBetween}
+use Rattle.qoi.proofs.encoding.coder.CoderLink.{of_coder}
 use Rattle.qoi.proofs.encoding.coder.CoderSteps.{group_written}
 use Rattle.qoi.proofs.encoding.coder.MarkedPixels.{get_drop}
 use Rattle.qoi.proofs.encode.coder.Coder.write_short_group.Goals as goal
@@ -41,6 +40,6 @@ returns-clause-written g c = record {
       (rw c.requires.count at (c.append_run.ensures.kept _ c.single_repeat_byte.ensures)) c.update_after_repeats.ensures.left (rw c.requires.count at c.update_after_repeats.ensures.state) in
       let same = c.update_after_repeats.ensures.same.0 in
       let stand = subst (λ ps. CoderBetween c.update_after_repeats.new.self.style all (ps ++ more) c.update_after_repeats.new.table c.update_after_repeats.new.self.last (kept_bytes c.append_run.new.self)) (sym c.skip-after.ensures.rest ∙ ahead)
-      (subst (λ style. CoderBetween style all later c.update_after_repeats.new.table c.update_after_repeats.new.self.last (kept_bytes c.append_run.new.self)) (sym c.update_after_repeats.ensures.style) group) in
+      (of_coder c.update_after_repeats.ensures.style refl group) in
       rw c.skip.ensures.rest (c.write_pixel.ensures.written all (drop 1 after ++ more) (λ e. differs (e ∙ same)) c.update_after_repeats.ensures.left stand);
 }

@@ -1,6 +1,6 @@
 -- All raw bytes came, and the rest of the file, or a beginning of it, is sent.
 use Rattle.std.proofs.Common.{◌≡◌, ◌++◌, [], refl, sym, ap, ◌∙◌, subst, arith, append-nil, inr, rules}
-use Rattle.std.proofs.lemmas.Result.{IfErr-weaker, on_ok_weaker}
+use Rattle.std.proofs.lemmas.Result.{MatchResult-weaker}
 use Rattle.std.proofs.KnownBytes.{Appends-trans}
 use Rattle.qoi.specs.EncoderState.{EncoderState}
 use Rattle.qoi.specs.Encoded.{IsFileOf, image_file}
@@ -36,21 +36,20 @@ pub returns-clause-sent : goal.returns-clause-sent
 returns-clause-sent g c = λ e before t.
     let none : c.self.inside.left ≡ 0 = omega (arith, c.if-self-gt0.false) in
     let here = starts g (goal.at.returns-clause-sent g c).After-write_held e before none t in
-    on_ok_weaker c.write_held.result
-    (λ ends. (_, sends_file e _ before (g.W.Write.contents c.write_held.new.writer) _ here.1 refl (image_ends Appends-trans here.0 ends)))
-    c.write_held.ensures.written
+    MatchResult-weaker c.write_held.result c.write_held.ensures
+    (λ _ ends. (_, sends_file e _ before (g.W.Write.contents c.write_held.new.writer) _ here.1 refl (image_ends Appends-trans here.0 ends)))
+    (λ _ _. tt)
 
 pub returns-clause-part : goal.returns-clause-part
 returns-clause-part g c = λ e before t.
     let none : c.self.inside.left ≡ 0 = omega (arith, c.if-self-gt0.false) in
     let left = ap (λ s. s.left) c.self.view_is in
     let here = starts g (goal.at.returns-clause-part g c).After-write_held e before none t in
-    IfErr-weaker c.write_held.result _ _
+    MatchResult-weaker c.write_held.result c.write_held.ensures (λ _ _. tt)
     (λ error r is. (
       sym left ∙ none,
       sends_part e _ before (g.W.Write.contents c.write_held.new.writer) here.1 (begins_appended (image_ends (begins_after Appends-trans) here.0 r.1)),
     ))
-    c.write_held.ensures.refused
 
 pub returns-then-self-gt0-clause-missing : goal.returns-then-self-gt0-clause-missing
 unfolding HasTaken

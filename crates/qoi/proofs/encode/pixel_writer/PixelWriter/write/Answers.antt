@@ -33,7 +33,7 @@ unfolding HasTaken
 returns-in_err-take_any-clause-refused g c = λ e before taken.
     let t = subst (HasTaken g.W.Write.contents e before) (sym c.self.view_is) taken in
     let raw = c.args.raw.now in
-    let r = c.in_err-take_any.ensures.refused in
+    let r = c.in_err-take_any.ensures.written in
     let raw_are : AreBytes raw = λ i. omega (arith, c.type_inv.raw i) in
     handed_on _ _ _ c.from_residual.ensures.1 (inl (
       r.0,

@@ -3,16 +3,16 @@ use Rattle.std.proofs.Common.{rules, ◌++◌, [], refl, sym, ◌∙◌, arith, 
 use Rattle.std.proofs.KnownBytes.{Appends-trans}
 use Rattle.std.specs.Io.KnownBytes.{Appends}
 use Rattle.qoi.specs.writers.Writes.{AppendsBeginning}
-use Rattle.qoi.specs.inner.Piece.{kept_bytes}
+use Rattle.qoi.specs.inner.Coder.{kept_bytes}
 use Rattle.qoi.specs.inner.Sending.{appended, GoesOn}
 use Rattle.qoi.proofs.encoding.piece.BytesAhead.{then_on, then_breaks, stands, sent_on, sent_part}
 use Rattle.qoi.proofs.encoding.piece.StreamSent.{but_sent}
 use Rattle.qoi.proofs.decoding.Refusals.{handed_on}
 use Rattle.qoi.proofs.encode.pixel_writer.pieces.take_raw.Goals as goal
 
-pub returns-in_err-rest-clause-refused : goal.returns-in_err-rest-clause-refused
-returns-in_err-rest-clause-refused g c =
-    let r = c.in_err-rest.ensures.refused in
+pub returns-in_err-rest-clause-written : goal.returns-in_err-rest-clause-written
+returns-in_err-rest-clause-written g c =
+    let r = c.in_err-rest.ensures.written in
     handed_on _ _ _ c.from_residual.ensures.1 (
       r.0,
       then_breaks Appends-trans c.loop-writer.invariant.written (record {
@@ -42,8 +42,8 @@ loop-writer-preserved g c =
       });
     }
 
-pub returns-in_err-send_bytes-clause-refused : goal.returns-in_err-send_bytes-clause-refused
-returns-in_err-send_bytes-clause-refused g c =
+pub returns-in_err-send_bytes-clause-written : goal.returns-in_err-send_bytes-clause-written
+returns-in_err-send_bytes-clause-written g c =
     let r = c.in_err-send_bytes.ensures.refused in
     let some = subst (AppendsBeginning (g.W.Write.contents c.loop-writer.writer) (g.W.Write.contents c.send_bytes.new.writer)) c.kept.ensures r.1 in
     handed_on _ _ _ c.from_residual-in_err-send_bytes.ensures.1 (

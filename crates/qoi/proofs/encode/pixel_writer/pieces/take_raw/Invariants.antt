@@ -1,6 +1,6 @@
 -- The raw bytes up to here came.
 use Rattle.std.proofs.Common.{◌+◌, ◌≤◌, [], ◌++◌, length}
-use Rattle.qoi.specs.inner.Piece.{kept_bytes}
+use Rattle.qoi.specs.inner.Coder.{kept_bytes}
 use Rattle.qoi.specs.inner.Sending.{appended, GoesOn, StaysIn}
 use Rattle.qoi.proofs.encode.pixel_writer.pieces.take_raw.Given as goal
 

@@ -1,8 +1,8 @@
 -- All that was ahead, and the end marker, was sent.
 use Rattle.std.proofs.Common.{rules, List, ℕ, ◌++◌, [], sym, ◌∙◌, subst}
-use Rattle.std.proofs.lemmas.Result.{IfErr-weaker, on_ok_weaker}
+use Rattle.std.proofs.lemmas.Result.{MatchResult-weaker}
 use Rattle.qoi.specs.Qoi.{end_marker}
-use Rattle.qoi.specs.inner.Piece.{kept_bytes}
+use Rattle.qoi.specs.inner.Coder.{kept_bytes}
 use Rattle.qoi.specs.inner.Sending.{Between}
 use Rattle.qoi.specs.writers.GenericWriter.{stream_writer, stream_laws}
 use Rattle.qoi.proofs.encoding.piece.BytesAhead.{then_ends, ends_early}
@@ -21,10 +21,10 @@ starts g c ahead s =
     subst (Between ahead p (kept_bytes c.open-piece.result.piece)) (sym c.bytes.ensures.are)
     (subst (λ kept. Between ahead p kept c.args.kept.now.came.held) (sym (c.open-piece.ensures ∙ c.new.ensures)) s)
 
-pub returns-in_err-left-clause-refused : goal.returns-in_err-left-clause-refused
-returns-in_err-left-clause-refused g c =
-    let r = c.in_err-left.ensures.refused in
-    let here = (goal.at.returns-in_err-left-clause-refused g c).After-bytes in
+pub returns-in_err-left : goal.returns-in_err-left
+returns-in_err-left g c =
+    let r = c.in_err-left.ensures.written in
+    let here = (goal.at.returns-in_err-left g c).After-bytes in
     handed_on _ _ _ c.from_residual.ensures.1 (
       r.0,
       record {
@@ -36,34 +36,26 @@ returns-in_err-left-clause-refused g c =
       },
     )
 
-pub returns-clause-written : goal.returns-clause-written
-returns-clause-written g c =
-    let here = (goal.at.returns-clause-written g c).After-bytes in
+pub returns : goal.returns
+returns g c =
+    let here = (goal.at.returns g c).After-bytes in
     let contents = g.W.Write.contents in
     let both = (stream_laws contents).both in
-    on_ok_weaker c.write_end.result
-    (λ ends. record {
+    MatchResult-weaker c.write_end.result c.write_end.ensures
+    (λ _ ends. record {
       all = λ ahead s.
           (let w = (then_ends both c.in_ok-left.ensures.written.written both ends).all ahead (starts g here ahead s) in
           let same = w.same_writer in
           let went = appends_as contents (contents (stream_writer c.write_end.new.writer)) (ahead ++ end_marker) c.new-stream.ensures.value w.appended in
           search rules);
     })
-    c.write_end.ensures.written
-
-pub returns-clause-refused : goal.returns-clause-refused
-returns-clause-refused g c =
-    let here = (goal.at.returns-clause-refused g c).After-bytes in
-    let both = (stream_laws g.W.Write.contents).both in
-    IfErr-weaker c.write_end.result _ _
     (λ e r. (
       r.0,
       record {
         all = λ ahead s.
             (let v = (then_ends both c.in_ok-left.ensures.written.written (begins_after both) r.1).all ahead (starts g here ahead s) in
             let same = v.1.went.same_writer in
-            let went = but_sent g.W.Write.contents c.new-stream.ensures.value v.1 in
+            let went = but_sent contents c.new-stream.ensures.value v.1 in
             (v.0, search rules));
       },
     ))
-    c.write_end.ensures.refused

@@ -1,7 +1,7 @@
 -- Whole pixels are written: of what is held, or of what came.
-use Rattle.std.proofs.Common.{◌≡◌, ◌++◌, sym, ap, ◌∙◌, arith, append_assoc, take-append-drop}
+use Rattle.std.proofs.Common.{◌≡◌, ◌++◌, length, sym, ap, ◌∙◌, arith, append_assoc, take-append-drop}
 use Rattle.qoi.proofs.encoding.piece.BytesAhead.{goes_within, breaks_within}
-use Rattle.qoi.proofs.encoding.piece.ImagePieces.{none_held}
+use Rattle.std.proofs.lemmas.List.{nil_from_length}
 use Rattle.qoi.proofs.decoding.Refusals.{handed_on}
 use Rattle.qoi.proofs.encode.pixel_writer.pieces.write_more.Given.{Over}
 use Rattle.qoi.proofs.encode.pixel_writer.pieces.write_more.Goals.{After-send_whole, After-send_whole-2}
@@ -11,7 +11,7 @@ use Rattle.qoi.proofs.encode.pixel_writer.pieces.write_more.Goals as goal
 came : (g : Over) (c : After-send_whole g) → c.args.came.now.held ++ c.args.raw.now ≡ c.split_at.result.0.now ++ c.split_at.result.1.now
 came g c =
     let split = c.split_at.ensures in
-    ap (λ z. z ++ c.args.raw.now) (none_held c.args.came.now.held (omega (arith, c.len.ensures.count, c.if-len-eq0.true)))
+    ap (λ z. z ++ c.args.raw.now) (nil_from_length c.args.came.now.held (omega (arith, ap length c.bytes-held.ensures.are, c.if-held-eq0.true)))
     ∙ sym (take-append-drop _ c.args.raw.now) ∙ (λ i. sym split.front i ++ sym split.back i)
 
 -- they are held
@@ -22,22 +22,22 @@ held g c =
     ∙ sym (append_assoc c.args.came.now.held c.split_at-2.result.0.now c.split_at-2.result.1.now)
     ∙ ap (λ z. z ++ c.split_at-2.result.1.now) (sym (c.bytes.ensures.are ∙ c.push-2.ensures))
 
-pub returns-in_err-left-clause-refused : goal.returns-in_err-left-clause-refused
-returns-in_err-left-clause-refused g c =
-    let r = c.in_err-left.ensures.refused in
-    handed_on _ _ _ c.from_residual.ensures.1 (r.0, breaks_within c.split_at.result.1.now r.1 (came g (goal.at.returns-in_err-left-clause-refused g c).After-send_whole))
+pub returns-in_err-left-clause-written : goal.returns-in_err-left-clause-written
+returns-in_err-left-clause-written g c =
+    let r = c.in_err-left.ensures.written in
+    handed_on _ _ _ c.from_residual.ensures.1 (r.0, breaks_within c.split_at.result.1.now r.1 (came g (goal.at.returns-in_err-left-clause-written g c).After-send_whole))
 
-pub returns-then-len-eq0-clause-written : goal.returns-then-len-eq0-clause-written
-returns-then-len-eq0-clause-written g c =
+pub returns-then-held-eq0-clause-written : goal.returns-then-held-eq0-clause-written
+returns-then-held-eq0-clause-written g c =
     let part = c.split_at.result.1.now in
     let left = c.in_ok-left.left.now in
-    goes_within part c.send_whole.ensures.stays.0 c.in_ok-left.ensures.written.written (came g (goal.at.returns-then-len-eq0-clause-written g c).After-send_whole)
-    (ap (λ z. z ++ part) (c.push.ensures ∙ ap (λ z. z ++ left) (none_held c.args.came.now.held (omega (arith, c.len.ensures.count, c.if-len-eq0.true)))))
+    goes_within part c.send_whole.ensures.stays.0 c.in_ok-left.ensures.written.written (came g (goal.at.returns-then-held-eq0-clause-written g c).After-send_whole)
+    (ap (λ z. z ++ part) (c.push.ensures ∙ ap (λ z. z ++ left) (nil_from_length c.args.came.now.held (omega (arith, ap length c.bytes-held.ensures.are, c.if-held-eq0.true)))))
 
-pub returns-in_err-left-2-clause-refused : goal.returns-in_err-left-2-clause-refused
-returns-in_err-left-2-clause-refused g c =
-    let r = c.in_err-left-2.ensures.refused in
-    handed_on _ _ _ c.from_residual-in_err-left-2.ensures.1 (r.0, breaks_within c.split_at-2.result.1.now r.1 (held g (goal.at.returns-in_err-left-2-clause-refused g c).After-send_whole-2))
+pub returns-in_err-left-2-clause-written : goal.returns-in_err-left-2-clause-written
+returns-in_err-left-2-clause-written g c =
+    let r = c.in_err-left-2.ensures.written in
+    handed_on _ _ _ c.from_residual-in_err-left-2.ensures.1 (r.0, breaks_within c.split_at-2.result.1.now r.1 (held g (goal.at.returns-in_err-left-2-clause-written g c).After-send_whole-2))
 
 pub returns-clause-written : goal.returns-clause-written
 returns-clause-written g c =

@@ -1,7 +1,7 @@
 -- Fewer bytes are fewer pixels.
 use Rattle.std.proofs.Common.{◌*◌, ◌<◌, ◌≡◌, length, arith}
 use Rattle.std.proofs.lemmas.Bool.{ltb-true}
-use Rattle.qoi.specs.inner.Pixels.{pixels_in}
+use Rattle.qoi.specs.inner.Coder.{pixels_in}
 use Rattle.qoi.proofs.encoding.coder.PixelsIn.{byte_count}
 use Rattle.qoi.proofs.format.WholePixels.{by_channels}
 use Rattle.qoi.proofs.encode.pixels.Pixels.are_fewer.Goals as goal

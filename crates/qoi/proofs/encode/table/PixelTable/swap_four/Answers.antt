@@ -1,7 +1,38 @@
 -- Four pixels, one after the other.
-use Rattle.std.proofs.Common.{◌≡◌, ◌+◌, ℕ, slice_index, [], ◌∷◌, rules, subst}
-use Rattle.qoi.proofs.encoding.blocks.SwappedPixels.{Swapped, four_swapped}
+use Rattle.std.proofs.Common.{◌≡◌, ◌+◌, ℕ, slice_index, [], ◌∷◌, rules, subst, List, map, refl, ap, arith}
+use Rattle.qoi.specs.Qoi.{RgbaPixel, IsPixel, Past, hash}
+use Rattle.qoi.specs.inner.Packed.{word}
+use Rattle.qoi.specs.inner.block.Planes.{AreFourWords}
+use Rattle.qoi.specs.inner.block.Positions.{HasPut, HasPutOne}
+use Rattle.qoi.specs.inner.Table.{Holds}
 use Rattle.qoi.proofs.encode.table.PixelTable.swap_four.Goals as goal
+
+-- what one call says
+abbrev Swapped : (old new : List RgbaPixel) (place px was : ℕ) → Type 0
+Swapped old new place px was = (past : Past) (p : RgbaPixel) → Holds old past → IsPixel p → px ≡ word p → place ≡ hash p → HasPutOne past p was new
+
+-- four pixels, one after the other
+four_swapped : (held : Past) (ps : List RgbaPixel) (w places : List ℕ) (t0 t1 t2 t3 t4 : List RgbaPixel) (a b c d : ℕ) → AreFourWords ps w → places ≡ map hash ps
+    → Holds t0 held → Swapped t0 t1 (slice_index places 0) (slice_index w 0) a → Swapped t1 t2 (slice_index places 1) (slice_index w 1) b
+    → Swapped t2 t3 (slice_index places 2) (slice_index w 2) c → Swapped t3 t4 (slice_index places 3) (slice_index w 3) d
+    → HasPut held ps (a ∷ b ∷ c ∷ d ∷ []) t4
+four_swapped held (p ∷ q ∷ r ∷ s ∷ []) w places t0 t1 t2 t3 t4 a b c d are e h0 sa sb sc sd =
+    let i = are.are in
+    let wk = λ (k : ℕ). ap (λ xs. slice_index xs k) are.words_are in
+    let ak = λ (k : ℕ). ap (λ xs. slice_index xs k) e in
+    let one = sa held p h0 i.0 (wk 0) (ak 0) in
+    let two = sb (p ∷ held) q one.holds i.1.0 (wk 1) (ak 1) in
+    let three = sc (q ∷ p ∷ held) r two.holds i.1.1.0 (wk 2) (ak 2) in
+    let four = sd (r ∷ q ∷ p ∷ held) s three.holds i.1.1.1.0 (wk 3) (ak 3) in
+    record {
+      found_are = record {
+        four = refl;
+        are = (one.is, (two.is, (three.is, (four.is, tt))));
+        words_are = λ j. one.found_is j ∷ two.found_is j ∷ three.found_is j ∷ four.found_is j ∷ [];
+      };
+      holds = four.holds;
+    }
+four_swapped held ps w places t0 t1 t2 t3 t4 a b c d are e h0 sa sb sc sd = absurd (let f = are.four in omega arith)
 
 pub returns : goal.returns
 returns c = λ held ps h are at.
@@ -13,7 +44,7 @@ returns c = λ held ps h are at.
     let e : c.from-4.result ≡ place 3 = search rules in
     four_swapped held ps c.args.pixels (slice_index c.args.places.now c.args.k ∷ place 1 ∷ place 2 ∷ place 3 ∷ []) c.args.self.now c.swap-a.new.self c.swap-b.new.self c.swap-c.new.self c.swap-d.new.self
     c.swap-a.result c.swap-b.result c.swap-c.result c.swap-d.result are at h
-    (subst (λ z. Swapped c.args.self.now c.swap-a.new.self z (px 0) c.swap-a.result) a (record { was_is = c.swap-a.ensures.was; put = c.swap-a.ensures.put }))
-    (subst (λ z. Swapped c.swap-a.new.self c.swap-b.new.self z (px 1) c.swap-b.result) b (record { was_is = c.swap-b.ensures.was; put = c.swap-b.ensures.put }))
-    (subst (λ z. Swapped c.swap-b.new.self c.swap-c.new.self z (px 2) c.swap-c.result) d (record { was_is = c.swap-c.ensures.was; put = c.swap-c.ensures.put }))
-    (subst (λ z. Swapped c.swap-c.new.self c.swap-d.new.self z (px 3) c.swap-d.result) e (record { was_is = c.swap-d.ensures.was; put = c.swap-d.ensures.put }))
+    (subst (λ z. Swapped c.args.self.now c.swap-a.new.self z (px 0) c.swap-a.result) a c.swap-a.ensures)
+    (subst (λ z. Swapped c.swap-a.new.self c.swap-b.new.self z (px 1) c.swap-b.result) b c.swap-b.ensures)
+    (subst (λ z. Swapped c.swap-b.new.self c.swap-c.new.self z (px 2) c.swap-c.result) d c.swap-c.ensures)
+    (subst (λ z. Swapped c.swap-c.new.self c.swap-d.new.self z (px 3) c.swap-d.result) e c.swap-d.ensures)

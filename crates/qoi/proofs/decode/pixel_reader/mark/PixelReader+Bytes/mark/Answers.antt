@@ -1,10 +1,10 @@
 -- What was read before the mark.
-use Rattle.std.proofs.Common.{rules, List, ℕ, ◌≡◌, false, ap, subst}
+use Rattle.std.proofs.Common.{rules, List, ℕ, ◌≡◌, false, subst}
 use Rattle.qoi.specs.Qoi.{channels_number, IsValid}
-use Rattle.qoi.specs.pieces.Mark.{marked_left}
-use Rattle.qoi.specs.pieces.PixelReader.{PixelsState, pixels_left}
-use Rattle.qoi.specs.pieces.Unread.{bytes_left, KeepsPixels}
-use Rattle.qoi.proofs.decoding.Marks.{marks_given, marks_rows, marks_then, marks_rows_then}
+use Rattle.qoi.specs.pieces.Mark.{MarksRows}
+use Rattle.qoi.specs.pieces.PixelReader.{PixelsState, HasRows}
+use Rattle.qoi.specs.pieces.Unread.{KeepsPixels}
+use Rattle.qoi.proofs.decoding.Marks.{marks_given, marks_then}
 use Rattle.qoi.proofs.decode.pixel_reader.mark.PixelReader+Bytes.mark.Goals.{After-copied}
 use Rattle.qoi.proofs.decode.pixel_reader.mark.PixelReader+Bytes.mark.Goals as goal
 
@@ -25,14 +25,12 @@ pub returns-clause-given : goal.returns-clause-given
 returns-clause-given c d e bytes given made h = marks_given d e _ bytes given _ _ (returns-clause-state c) made h
 
 pub returns-clause-rows : goal.returns-clause-rows
-returns-clause-rows c d e bytes stride k made h = marks_rows d e _ bytes stride k _ _ (returns-clause-state c) made h
+unfolding HasRows MarksRows
+returns-clause-rows c d e bytes stride k made (given, many, h) = (given, many, returns-clause-given c d e bytes given made h)
 
 pub returns-clause-given_then : goal.returns-clause-given_then
 returns-clause-given_then c d e bytes given more made h = marks_then d e _ bytes given more _ _ (returns-clause-state c) (valid c) (keeps c) made h
 
 pub returns-clause-rows_then : goal.returns-clause-rows_then
-returns-clause-rows_then c d e bytes more stride k made h = marks_rows_then d e _ bytes more stride k _ _ (returns-clause-state c) (valid c) (keeps c) made h
-
-pub returns-clause-left : goal.returns-clause-left
-unfolding marked_left pixels_left
-returns-clause-left c = ap (λ m. bytes_left m.unread) (returns-clause-state c)
+unfolding HasRows MarksRows
+returns-clause-rows_then c d e bytes more stride k made (given, many, h) = (given, many, returns-clause-given_then c d e bytes given more made h)

@@ -38,9 +38,9 @@ returns-then-self-gt-DECODED_AHEAD-clause-step g c =
     let now = c.in-Ok.now in
     let old : length c.args.self.now.bytes ≡ 3072 = omega arith in
     let within : c.args.room ≤ length c.args.self.now.bytes = omega (arith, old, c.requires.room.1) in
-    let whole = minus_whole g.row.N c.args.self.now.undecoded now.at c.requires.channels pixels.0 c.in-Ok.ensures.read.fillable.whole.1 in
+    let whole = minus_whole g.row.N c.args.self.now.undecoded now.at c.requires.channels pixels.0 c.in-Ok.ensures.read.goes_on.fillable.whole.1 in
     let size = length-take-le c.args.room out (omega (arith, within, c.front_of_image-front.auto.out)) in
-    let below = c.in-Ok.ensures.read.below refl (omega (arith, size, length-take-le c.args.room c.args.self.now.bytes within, c.requires.room.0)) in
+    let below = c.in-Ok.ensures.read.goes_on.below refl (omega (arith, size, length-take-le c.args.room c.args.self.now.bytes within, c.requires.room.0)) in
     gives_none (λ n start given h.
     let l = room_lent c.args.self.now c.args.room c.requires.channels h c.requires.none within c.requires.whole (omega (arith, c.if-self-gt-DECODED_AHEAD.true, c.requires.room.1)) in
     subst (λ z. IsUnread g.row.F g.row.N n start (g.R.Chunks.ahead c.front_of_image-front.new.reader) given

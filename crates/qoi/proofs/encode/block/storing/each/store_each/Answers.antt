@@ -3,8 +3,7 @@ use Rattle.std.proofs.Common.{◌≡◌, ◌≤◌, ℕ, List, [], ◌∷◌, �
 use Rattle.std.specs.Prelude.{min}
 use lib.Lanes.{number_l, zip2}
 use Rattle.std.proofs.lemmas.List.{length-take-le}
-use Rattle.qoi.specs.inner.block.Each.{HoldChunks, eight_parts}
-use Rattle.qoi.specs.inner.block.Storing.{AreSizes}
+use Rattle.qoi.specs.inner.block.Storing.{HoldChunks, eight_parts, AreSizes}
 use Rattle.qoi.proofs.encoding.stores.EachChunk.{widened_are, twice_eight}
 use Rattle.qoi.proofs.encoding.stores.StoredBlock.{take_few, drop_few, lesser_few, lesser_most}
 use Rattle.qoi.proofs.encode.block.storing.each.store_each.Goals as goal

@@ -1,7 +1,7 @@
 -- Four times four chunks.
 use Rattle.std.proofs.Common.{◌≡◌, ◌+◌, List, [], ◌∷◌, ◌++◌, take, refl, sym, ap, ◌∙◌, arith}
 use Rattle.qoi.specs.Qoi.{RgbaPixel}
-use Rattle.qoi.specs.inner.block.Full.{full_bytes}
+use Rattle.qoi.specs.inner.block.Storing.{full_bytes}
 use Rattle.qoi.specs.inner.block.Planes.{pixels_of_words}
 use Rattle.qoi.proofs.encoding.stores.StoredParts.{four_stored}
 use Rattle.qoi.proofs.encode.block.storing.full.store_full.Goals as goal

@@ -1,7 +1,7 @@
 -- An entry of the table.
 use Rattle.std.proofs.Common.{take, arith, ap, ◌∙◌}
 use lib.Lanes.{all_below}
-use Rattle.qoi.specs.inner.block.Shuffled.{total}
+use Rattle.qoi.specs.inner.block.Storing.{total}
 use Rattle.qoi.proofs.encoding.stores.FourOrders.{entry_order, entry_below}
 use Rattle.qoi.proofs.encode.block.storing.shuffled.order.Goals as goal
 

@@ -4,7 +4,7 @@ use Rattle.std.specs.Prelude.{min}
 use Rattle.std.proofs.lemmas.Simd.{length-zip2}
 use lib.Lanes.{number_l}
 use Rattle.std.proofs.lemmas.List.{length-take-le}
-use Rattle.qoi.specs.inner.block.Shuffled.{close_bytes}
+use Rattle.qoi.specs.inner.block.Storing.{close_bytes}
 use Rattle.qoi.proofs.encoding.stores.FourChunks.{codes_of, sixteen_close}
 use Rattle.qoi.proofs.encoding.stores.StoredParts.{four_stored}
 use Rattle.qoi.proofs.encoding.stores.StoredBlock.{take_few, drop_few, lesser_most}

@@ -1,0 +1,105 @@
+-- A coder between two steps: the pixels that it reads, the bytes that it keeps, its table and its
+-- last pixel, by what is still to be written of an image's list; what a step does to that; and the
+-- chunk of a fresh pixel as a number.
+use Rattle.std.specs.Prelude.{◌≡◌, ◌<◌, ℕ, Bool, not, ◌&&◌, ◌||◌, nat_lt, if◌then◌else◌, List, [], ◌∷◌, ◌++◌, length, take, Option, Some}
+use Rattle.std.specs.List.{AllByRecursion}
+use lib.Lanes.{digits_l}
+use Rattle.qoi.specs.declared.chunk.Chunk.{Chunk}
+use Rattle.qoi.specs.declared.chunk.Chunk.TheVariants.{Place, Run}
+use Rattle.qoi.specs.declared.encode.coder.Coder.{Coder}
+use Rattle.qoi.specs.declared.encode.last_pixel.LastPixel.{LastPixel}
+use Rattle.qoi.specs.declared.encode.piece.Piece.{Piece}
+use Rattle.qoi.specs.declared.encode.pixels.Pixels.{Pixels}
+use Rattle.qoi.specs.declared.types.Style.{Style}
+use Rattle.qoi.specs.declared.types.Style.TheVariants.{Reference, Places, Tight}
+use Rattle.qoi.specs.Qoi.{RgbaPixel, IsPixel, Past, previous, hash, IsChunk, bytes_of, chunk_bytes}
+use Rattle.qoi.specs.Raw.{pixels_of}
+use Rattle.qoi.specs.Written.{fresh, IsFirst}
+use Rattle.qoi.specs.Styles.{some_fresh, names, styled}
+use Rattle.qoi.specs.WrittenList.{chosen, list_after}
+use Rattle.qoi.specs.inner.Table.{Holds}
+
+-- the pixels of raw bytes
+abbrev pub pixels_in : {N : ℕ} → Pixels N → List RgbaPixel
+pixels_in {N} raw = pixels_of N raw.bytes.now
+
+-- the bytes of a file that are kept before they go to a writer
+abbrev pub kept_bytes : {size : ℕ} → Piece size → List ℕ
+kept_bytes s = take s.end s.bytes.now
+
+-- the pixels that a coder puts at their index positions: the fresh ones, and in style Tight all of
+-- them
+abbrev pub held_in : Style → Past → Past
+held_in Reference past = fresh past
+held_in Places past = fresh past
+held_in Tight past = past
+
+-- the chunk of the single repeat that is left of a group of n, after runs of 62 and before a fresh
+-- pixel: from the index position of the repeated pixel, whether a fresh pixel came, and whether the
+-- chunk before names the position
+abbrev pub single_chunk : Style → Bool → Bool → ℕ → ℕ → Chunk
+single_chunk Reference begun placed place n = Run 1
+single_chunk Tight begun placed place n = Run 1
+single_chunk Places begun placed place n = if begun && (nat_lt 1 n || not placed) then Place place else Run 1
+
+-- the last of the chunks, or the chunk before them if there is none
+abbrev pub last_chunk : Option Chunk → List Chunk → Option Chunk
+last_chunk before [] = before
+last_chunk before (c ∷ cs) = last_chunk (Some c) cs
+
+-- the chunk's bytes are the lowest ones of the number and, if there is a fifth, alpha
+abbrev pub HasBytes : ℕ → ℕ → ℕ → Chunk → Type 0
+HasBytes alpha number size c = take size (digits_l 256 4 number ++ alpha ∷ []) ≡ bytes_of c
+
+-- the chunk of this number and size is the first that spells out p after q
+pub record SpellsOut (q p : RgbaPixel) (number size : ℕ) (c : Chunk) : Type 0 where
+  pub chunk : IsChunk c
+  pub bytes : HasBytes p.a number size c
+  pub first : (past : Past) → previous past ≡ q → IsFirst past p c
+
+-- What hasn't gone to a writer yet, `ahead`, is the bytes that are kept, and those that are written
+-- in the style for n repeats of the last of the pixels `past`, and for the pixels `rest`. `before`
+-- is the chunk before those, if there is one.
+pub record Ahead (style : Style) (ahead : List ℕ) (past : Past) (before : Option Chunk) (n : ℕ) (rest : List RgbaPixel) (kept : List ℕ) : Type 0 where
+  pub are : AllByRecursion IsPixel rest
+  pub before_is : IsPixel (previous past)
+  pub ahead_is : ahead ≡ kept ++ chunk_bytes (styled style past before (list_after (chosen style) past n rest))
+
+-- What a table holds, and what is known of the last pixel, after these pixels and this chunk: the
+-- pixels that the style puts at their positions, that pixel, whether a fresh one came, and in style
+-- Places whether the chunk names the last pixel's position.
+pub record CoderAfter (style : Style) (past : Past) (before : Option Chunk) (table : List RgbaPixel) (last : LastPixel) : Type 0 where
+  pub table_is : Holds table (held_in style past)
+  pub last_is : last.px ≡ previous past
+  pub begun_is : last.begun ≡ some_fresh past
+  pub placed_is : style ≡ Places → last.placed ≡ names before (hash (previous past))
+
+-- `single_chunk` for a group of n repeats of the last pixel
+abbrev pub single : Style → LastPixel → ℕ → Chunk
+single style last n = single_chunk style last.begun last.placed (hash last.px) n
+
+-- Between two pixels: repeats of the last one are still to be written, and the pixels `rest`.
+pub record CoderBetween (style : Style) (ahead : List ℕ) (rest : List RgbaPixel) (table : List RgbaPixel) (last : LastPixel) (kept : List ℕ) : Type 0 where
+  pub past : Past
+  pub before : Option Chunk
+  pub to_write : Ahead style ahead past before last.repeats rest kept
+  pub state : CoderAfter style past before table last
+
+-- of these pixels the rest is left to write, in the same style, whatever others follow
+pub record CoderPasses {N size : ℕ} (c : Coder N) (table : List RgbaPixel) (piece : Piece size) (pixels : List RgbaPixel)
+    (c' : Coder N) (table' : List RgbaPixel) (piece' : Piece size) (rest : List RgbaPixel) : Type 0 where
+  pub style : c'.style ≡ c.style
+  pub on : (ahead : List ℕ) (more : List RgbaPixel) → CoderBetween c.style ahead (pixels ++ more) table c.last (kept_bytes piece)
+      → CoderBetween c'.style ahead (rest ++ more) table' c'.last (kept_bytes piece')
+
+-- if no others follow these pixels, all that was ahead is kept
+pub record CoderEnds {N size : ℕ} (c : Coder N) (table : List RgbaPixel) (piece : Piece size) (pixels : List RgbaPixel) (piece' : Piece size) : Type 0 where
+  pub all : (ahead : List ℕ) → CoderBetween c.style ahead pixels table c.last (kept_bytes piece) → ahead ≡ kept_bytes piece'
+
+-- From the pixels, table, last pixel and piece to these some pixels are written, whatever others follow.
+pub record WritesSome {N ROOM : ℕ} (style : Style) (raw : Pixels N) (table : List RgbaPixel) (last : LastPixel) (piece : Piece ROOM)
+    (raw' : Pixels N) (table' : List RgbaPixel) (last' : LastPixel) (piece' : Piece ROOM) : Type 0 where
+  pub opaque : N ≡ 3 → last'.px.a ≡ 255
+  pub less : length (pixels_in raw') < length (pixels_in raw)
+  pub on : (ahead : List ℕ) (more : List RgbaPixel) → CoderBetween style ahead (pixels_in raw ++ more) table last (kept_bytes piece)
+      → CoderBetween style ahead (pixels_in raw' ++ more) table' last' (kept_bytes piece')

@@ -1,0 +1,113 @@
+-- Vectors of sixteen bytes: what they have of a block's lanes, from the steps to the chunks' bytes and
+-- sizes and the counted repeats.
+use Rattle.std.specs.Prelude.{◌≡◌, ℕ, Bool, List, map, length, suc, ◌+◌, ◌-◌, ◌%◌, ◌==◌, min, [], ◌∷◌, max, if◌then◌else◌, ◌<◌, ◌≤◌, ◌⊎◌, true, false, slice_index, ◌&&◌, not, ◌||◌, IsTrue}
+use Rattle.std.specs.Int.Bits.{bit_and, bit_or}
+use Rattle.qoi.specs.declared.encode.block.planes.Planes.{Planes}
+use Rattle.qoi.specs.declared.encode.block.steps.Changes.{Changes}
+use Rattle.qoi.specs.declared.encode.block.spelling.Fits.{Fits}
+use Rattle.qoi.specs.declared.encode.block.spelling.Spelled.{Spelled}
+use Rattle.qoi.specs.declared.types.Style.{Style}
+use Rattle.qoi.specs.declared.types.Style.TheVariants.{Reference, Places, Tight}
+use Rattle.qoi.specs.Qoi.{RgbaPixel, hash, IsPixel}
+use Rattle.qoi.specs.inner.block.Lanes.{Lane, mask, AreLanes, step_of, same_alpha, fits_diff, fits_luma, is_rep, first_of, size_of, goes_on, second_of, State, lanes_of}
+use Rattle.qoi.specs.inner.block.Planes.{AreSixteen, reds}
+use Rattle.qoi.specs.inner.block.Positions.{stand_tests}
+
+-- The numbers are what `f` gives for these lanes, of which there are sixteen.
+pub record AreBy (ls : List Lane) (f : Lane → ℕ) (xs : List ℕ) : Type 0 where
+  pub long : length ls ≡ 16
+  pub are : AreLanes ls
+  pub is : xs ≡ map f ls
+
+-- They are 255 in the lanes of which `b` holds, else 0.
+abbrev pub AreMasks : List Lane → (Lane → Bool) → List ℕ → Type 0
+AreMasks ls b xs = AreBy ls (λ l. mask (b l)) xs
+
+-- the planes of what `f` gives for these lanes
+pub record ArePlanesBy (ls : List Lane) (f : Lane → RgbaPixel) (p : Planes) : Type 0 where
+  pub r_is : AreBy ls (λ l. (f l).r) p.r
+  pub g_is : AreBy ls (λ l. (f l).g) p.g
+  pub b_is : AreBy ls (λ l. (f l).b) p.b
+  pub a_is : AreBy ls (λ l. (f l).a) p.a
+
+-- what the lanes' pixels fit
+pub record AreFits (ls : List Lane) (f : Fits) : Type 0 where
+  pub diff_is : AreMasks ls fits_diff f.diff
+  pub luma_is : AreMasks ls fits_luma f.luma
+  pub same_alpha_is : AreMasks ls same_alpha f.same_alpha
+
+-- the steps of all four channels, and which lanes repeat
+pub record AreChanges (ls : List Lane) (x : Changes) : Type 0 where
+  pub steps_are : ArePlanesBy ls step_of x.steps
+  pub rep_is : AreMasks ls is_rep x.rep
+
+-- In style Places a single repeat before a fresh pixel is the index position, if the chunk before it
+-- isn't. `f` is the byte otherwise, and `q` is whether the pixel before the lane stands at its
+-- position.
+abbrev pub named_in : Style → Bool → Bool → ℕ → ℕ → ℕ → ℕ
+named_in Reference rep q place n f = f
+named_in Places rep q place n f = min f (bit_or place (255 - bit_and (bit_and (mask rep) (mask (n == 1))) (255 - mask q)))
+named_in Tight rep q place n f = f
+
+-- the first byte of a lane, by whether it is a repeat, the n-th of its group: that of a run
+abbrev pub first_in : Style → Bool → Bool → Lane → ℕ → ℕ
+first_in style rep q l n = named_in style rep q (hash l.px) n (max (first_of l) (bit_and (mask rep) ((n + 191) % 256)))
+
+-- of each lane, after c repeats
+abbrev pub firsts_in : Style → Bool → ℕ → List Lane → List ℕ
+firsts_in style q c [] = []
+firsts_in style q c (l ∷ ls) =
+    let n = if is_rep l then suc c else 0 in
+    first_in style (is_rep l) q l n ∷ firsts_in style l.stands n ls
+
+-- sizes: 0 of a repeat before another one, or at the end
+abbrev pub sizes : List Lane → List ℕ
+sizes [] = []
+sizes (l ∷ ls) = (size_of l + bit_and (mask (is_rep l)) (mask (goes_on ls))) % 256 ∷ sizes ls
+
+-- how many repeats end with each lane, with those that came before
+abbrev pub counts : ℕ → List Bool → List ℕ
+counts c [] = []
+counts c (true ∷ rs) = suc c ∷ counts (suc c) rs
+counts c (false ∷ rs) = 0 ∷ counts 0 rs
+
+-- The number is 0 or one of the w members that end at index k, and none of those is greater.
+pub record IsMost (xs : List ℕ) (w k m : ℕ) : Type 0 where
+  pub above : (j : ℕ) → j ≤ k → k < j + w → slice_index xs j ≤ m
+  pub one_of : (m ≡ 0) ⊎ ((j : ℕ) × (j ≤ k) × (m ≡ slice_index xs j))
+
+-- of each of sixteen
+abbrev pub AreMost : List ℕ → ℕ → List ℕ → Type 0
+AreMost xs w ms = (k : ℕ) → k < 16 → IsMost xs w k (slice_index ms k)
+
+-- all hold
+abbrev pub all_true : List Bool → Bool
+all_true [] = true
+all_true (b ∷ bs) = b && all_true bs
+
+-- the pixel has another alpha than the one before it, and doesn't stand at its index position
+abbrev pub is_full : Lane → Bool
+is_full l = not (same_alpha l || l.stands)
+
+-- so are all of these
+abbrev pub AreFull : List Lane → Type 0
+AreFull ls = all_true (map is_full ls) ≡ true
+
+-- A block's pixels after the last one of the state: red of each, which of them stand at their index
+-- positions, and these positions.
+pub record IsBlock (s : State) (ps : List RgbaPixel) (red stands places : List ℕ) : Type 0 where
+  pub sixteen : AreSixteen ps
+  pub last_is : IsPixel s.last
+  pub red_is : red ≡ reds ps
+  pub stands_are : stands ≡ map mask (stand_tests s.held ps)
+  pub places_are : places ≡ map hash ps
+
+-- Which of a block's pixels repeat, first and second bytes in a style, sizes and counted repeats; and
+-- whether an RGBA chunk is known to give each.
+pub record HasSpelled (style : Style) (s : State) (ps : List RgbaPixel) (x : Spelled) : Type 0 where
+  pub rep_is : x.rep ≡ map (λ l. mask (is_rep l)) (lanes_of s.held s.last ps)
+  pub first_is : x.first ≡ firsts_in style s.placed s.carry (lanes_of s.held s.last ps)
+  pub second_is : x.second ≡ map second_of (lanes_of s.held s.last ps)
+  pub size_is : x.size ≡ sizes (lanes_of s.held s.last ps)
+  pub count_is : x.count ≡ counts s.carry (map is_rep (lanes_of s.held s.last ps))
+  pub full_is : IsTrue x.full → AreFull (lanes_of s.held s.last ps)
