@@ -86,7 +86,7 @@ impl<const N: usize, const F: usize> Progress<N, F> {
     // past its pixels is written again later.
     //
     // `taken` doesn't count the first bytes of the `DONE` chunks before it nor, after the call, its
-    // own: a row adds them at its end. So from chunk to chunk only the second byte of a luma is
+    // own: `short_chunks` adds them. So from chunk to chunk only the second byte of a luma is
     // added, and the next byte's address is known a cycle sooner.
     #[inline(always)]
     fn short_chunk<const DONE: usize>(

@@ -82,7 +82,8 @@ fn last_run<const N: usize, const F: usize>(
 }
 
 /// Decodes chunks from the front of the bytes into a piece of an image, after what others reached,
-/// and goes on near its end: a run that goes on past it is taken.
+/// and goes on near its end: a run that goes on past it is taken. Leaves less than 32 bytes of the
+/// piece, unless a run fills them or the bytes end.
 #[inline(always)]
 pub(super) fn chunks_in_place<const N: usize, const F: usize>(
     table: &mut TermTable,

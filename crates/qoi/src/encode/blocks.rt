@@ -20,7 +20,7 @@ use crate::encode::pairs::{go_by_pairs, write_pairs};
 use crate::encode::piece::{OpenPiece, Piece, REPEATS_AT_ONCE};
 use crate::encode::pixels::{FrontBlock, Marked, PixelOf, Pixels};
 use crate::encode::runs::repeats_of;
-use crate::encode::sparse::{go_by_fresh, write_sparse};
+use crate::encode::sparse::{go_by_sparse, write_sparse};
 use crate::encode::table::PixelTable;
 use crate::types::Style::{self, Places, Reference, Tight};
 
@@ -80,7 +80,7 @@ fn coder_after<const N: usize, const STYLE: u8>(carry: Carry<N>) -> Coder<N>
 // Writes the full runs of the carried repeats and those at the front; the others are carried.
 // Returns the rest, and what is carried.
 #[inline(always)]
-fn write_long_group<'a, 'p, const N: usize, const ROOM: usize>(
+fn write_full_runs<'a, 'p, const N: usize, const ROOM: usize>(
     piece: OpenPiece<'p, ROOM>,
     raw: Pixels<'a, N>,
     carry: Carry<N>,
@@ -120,7 +120,7 @@ fn write_front<'a, 'p, const N: usize, const STYLE: u8, const ROOM: usize, const
     let block = Block::first::<N>(front, carry);
     let marks = block.marks();
     if marks == 0 {
-        return write_long_group(piece, front.raw, carry);
+        return write_full_runs(piece, front.raw, carry);
     }
     if goes_by_marks(marks, front, carry) {
         let mut piece = piece.piece;
@@ -240,7 +240,7 @@ pub(super) fn write_some<'a, 'p, const N: usize, const STYLE: u8, const ROOM: us
     if go_by_pairs(last.px, raw) {
         return write_apart::<N, STYLE, ROOM, true>(last, table, piece, raw);
     }
-    let few = go_by_fresh::<N>(PixelOf { px: last.px }, raw);
+    let few = go_by_sparse::<N>(PixelOf { px: last.px }, raw);
     if few || !goes_by_blocks(style_of::<STYLE>(), *last, raw) {
         return write_apart::<N, STYLE, ROOM, false>(last, table, piece, raw);
     }

@@ -55,8 +55,8 @@ fn write_blocks<'a, 'p, W: Writer, const N: usize, const STYLE: u8, const ROOM: 
     Ok((rest.bytes, piece))
 }
 
-/// Writes whole pixels through the piece, which the writer is sent each time it is full, but for
-/// fewer than a block has at their end. Returns those, and the piece.
+/// Writes whole pixels through the piece, which the writer is sent each time it is full (and else
+/// not), but for fewer than a block has at their end. Returns those, and the piece.
 #[inline(always)]
 pub(super) fn write_whole<'a, 'p, W: Writer, const ROOM: usize>(
     writer: &mut W,

@@ -1,10 +1,10 @@
-//! The last pixel that came, and what is known of it.
+//! The last pixel that was written or repeated, and what is known of it.
 ghost use Rattle.std.specs.Prelude.{◌≡◌, ◌<◌};
 ghost use Rattle.qoi.specs.Qoi.{run_max, start};
 
 use crate::packed::Packed;
 
-/// The last pixel that came, `px`; `repeats`, how many repeats of it came that aren't written yet:
+/// The last pixel that was written or repeats, `px`; `repeats`, how many repeats of it came that aren't written yet:
 /// fewer than a full run has; `begun`, whether a fresh pixel came, one that differs from the pixel
 /// before it; and `placed`, in style `Places` whether the chunk before those repeats names `px`'s
 /// index position. The count stands first: else the zeros of the start are stored in other widths

@@ -46,7 +46,7 @@ fn fresh_in_block<const N: usize>(front: FrontBlock<N>, last: PixelOf<N>) -> u64
 /// Whether the pixels go by `write_sparse`: if they are many, and one or two of the first sixteen
 /// are fresh. Not in three channels.
 #[inline(always)]
-pub(super) fn go_by_fresh<const N: usize>(last: PixelOf<N>, raw: Pixels<N>) -> bool
+pub(super) fn go_by_sparse<const N: usize>(last: PixelOf<N>, raw: Pixels<N>) -> bool
     requires { 16 ≤ length (pixels_in raw) }
 {
     if N == 3 || !raw.are_many() {

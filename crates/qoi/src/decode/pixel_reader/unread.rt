@@ -15,10 +15,10 @@ use crate::decode::reached::Reached;
 use crate::decode::table::TermTable;
 use crate::error::Error;
 
-/// What is unread of an image: the decoded `bytes` from `from` to `to`, and `undecoded` others, of which
-/// the first `run` are copies of the last pixel, the rest of its run. While some are
-/// undecoded, table and last pixel are those behind all chunks so far. After a refusal its error stands
-/// in `fault`, until it is returned.
+/// What is unread of an image: the decoded `bytes` from `from` to `to`, and `undecoded` raw bytes, of
+/// which the first `run` are copies of the last pixel, the rest of its run. While some are undecoded,
+/// table and last pixel are those behind all chunks so far. After a refusal its error stands in
+/// `fault`, until it is returned.
 #[derive(Drop)]
 pub struct Unread {
     pub(super) table: TermTable,
@@ -173,9 +173,9 @@ impl Unread {
         self.give(out)
     }
 
-    // Gives the rest of a run and, if `out` isn't short and 256 bytes of the image follow it, the chunks
-    // behind the run that stand in memory (else `long_piece` may). Returns how many bytes, and keeps
-    // what has no room of a run; one may go on past the piece.
+    // Gives the rest of a run and, if `out` isn't short and 256 bytes of the image follow it (so that
+    // any run ends in the image), the chunks behind the run that stand in memory (else `long_piece`
+    // may). Returns how many bytes, and keeps what has no room of a run; one may go on past the piece.
     #[inline(always)]
     fn piece_front<R: Chunks<N, F>, const N: usize, const F: usize>(
         &mut self,
@@ -192,6 +192,7 @@ impl Unread {
             return Ok(self.give_run::<N, F>(out));
         }
         let size = out.len() / N * N;
+        // Even if none is left of a run: what is stored then is written again.
         store_run::<N, F>(out, 0, self.last, self.run / N);
         let (last, at) = (self.last, self.run);
         let from = Reached { last, at };

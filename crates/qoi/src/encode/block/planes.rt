@@ -13,7 +13,7 @@ use crate::encode::pixels::PixelOf;
 use crate::packed::Packed;
 use std::simd::prelude::*;
 
-/// Sixteen packed pixels, four in each vector.
+/// Sixteen numbers, four in each vector: packed pixels or, at last, the bytes of their chunks.
 #[derive(Clone, Copy)]
 pub(in crate::encode) struct Words {
     pub(in crate::encode) one: u32x4,

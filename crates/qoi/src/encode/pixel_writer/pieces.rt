@@ -34,7 +34,7 @@ pub(super) fn send_bytes<W: Write>(writer: &mut W, bytes: &[u8]) -> Result<()>
 
 // `write_whole` as a function of its own: three calls of its loops would be long.
 #[inline(never)]
-fn send_whole<'a, 'p, W: Writer>(
+fn write_whole_apart<'a, 'p, W: Writer>(
     writer: &mut W,
     pending: &mut Pending,
     piece: OpenPiece<'p, FULL_ROOM>,
@@ -75,13 +75,13 @@ fn write_more<'a, 'p, W: Writer>(
     let held = came.held.bytes().len();
     if held == 0 {
         let (pixels, part) = raw.split_at(raw.len() - raw.len() % n);
-        let (left, piece) = send_whole(writer, &mut came.pending, piece, pixels)?;
+        let (left, piece) = write_whole_apart(writer, &mut came.pending, piece, pixels)?;
         came.held.push(left);
         return Ok((part, piece));
     }
     let (front, rest) = raw.split_at((16 * n - held % (16 * n)) % (16 * n));
     came.held.push(front);
-    let (left, piece) = send_whole(writer, &mut came.pending, piece, came.held.bytes())?;
+    let (left, piece) = write_whole_apart(writer, &mut came.pending, piece, came.held.bytes())?;
     let mut few = [0; 64];
     let count = copy_after(&mut few, 0, left);
     came.held.replace(&few[..count]);
@@ -137,7 +137,7 @@ pub(super) fn write_held<W: Write>(writer: &mut W, kept: &mut Kept) -> Result<()
     let pending = &mut kept.came.pending;
     let piece = Piece::<FULL_ROOM>::new(&mut kept.piece_bytes).open();
     let mut stream = GenericWriter::new(writer);
-    let (left, piece) = send_whole(&mut stream, pending, piece, kept.came.held.bytes())?;
+    let (left, piece) = write_whole_apart(&mut stream, pending, piece, kept.came.held.bytes())?;
     let mut last_piece = piece.piece;
     write_end(&mut stream, pending, &mut last_piece, left)
 }

@@ -14,8 +14,8 @@ use Rattle.qoi.proofs.encoding.coder.MarkedPixels.{none_group, repeat_even}
 use Rattle.qoi.proofs.encode.blocks.write_front.Goals as goal
 
 -- no bit is set, so all repeat
-pub write_long_group-requires : goal.write_long_group-requires
-write_long_group-requires g c =
+pub write_full_runs-requires : goal.write_full_runs-requires
+write_full_runs-requires g c =
     let q = last_pixel c.args.carry.before in
     let block = c.first-block in
     let none : 0 ≡ fresh_marks q (block_pixels block.result.words) = sym c.if-marks-eq0.true ∙ c.marks-marks.ensures c.args.carry.before block.ensures.changes in (
@@ -33,7 +33,7 @@ write_long_group-requires g c =
     )
 
 pub returns-then-marks-eq0 : goal.returns-then-marks-eq0
-returns-then-marks-eq0 g c = c.write_long_group.ensures (style_of g.row.STYLE) _ c.args.table.now
+returns-then-marks-eq0 g c = c.write_full_runs.ensures (style_of g.row.STYLE) _ c.args.table.now
 
 pub write_marked-rest-requires : goal.write_marked-rest-requires
 write_marked-rest-requires g c =

@@ -9,9 +9,9 @@ use Rattle.qoi.specs.inner.BlockLoop.{InBlocks}
 use Rattle.qoi.specs.inner.Coder.{pixels_in, kept_bytes}
 use Rattle.qoi.proofs.encoding.lists.CarriedRuns.{blocks_on}
 use Rattle.qoi.proofs.encoding.coder.PixelsIn.{NearGroup, near_group, near_some}
-use Rattle.qoi.proofs.encode.blocks.write_long_group.Given.{Over}
-use Rattle.qoi.proofs.encode.blocks.write_long_group.Goals.{After-repeats_of-ahead}
-use Rattle.qoi.proofs.encode.blocks.write_long_group.Goals as goal
+use Rattle.qoi.proofs.encode.blocks.write_full_runs.Given.{Over}
+use Rattle.qoi.proofs.encode.blocks.write_full_runs.Goals.{After-repeats_of-ahead}
+use Rattle.qoi.proofs.encode.blocks.write_full_runs.Goals as goal
 
 -- the repeats stand ahead
 near : (g : Over) (c : After-repeats_of-ahead g)
