@@ -60,7 +60,7 @@ static ADDED: [u64; 256] = of_all_bytes!(added_table);
 // stands above red, green and blue.
 const KEEP: u64 = 0xffff_00ff_00ff_00ff;
 
-const ALL_BITS: u64 = u64::MAX;
+const ALL: u64 = u64::MAX;
 
 // How many pixels a chunk has, by its first byte.
 macro_rules! count {
@@ -85,7 +85,7 @@ macro_rules! byte_tables {
             // What a first byte keeps of the last pixel's number: for an RGB chunk alpha alone.
             $(if $b < 64 || $b == 255 { 0 } else if $b == 254 { 0xff << 48 } else { KEEP },)*
             // What counts of what is read after it: of an RGB chunk three lanes of 16 bits.
-            $(if $b / 64 == 2 || $b == 255 { ALL_BITS } else if $b == 254 { ALL_BITS >> 16 } else { 0 },)*
+            $(if $b / 64 == 2 || $b == 255 { ALL } else if $b == 254 { ALL >> 16 } else { 0 },)*
             // How many bytes the chunk's pixels have in three channels, and in four.
             $(3 * count!($b),)*
             $(4 * count!($b),)*

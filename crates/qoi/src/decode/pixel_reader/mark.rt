@@ -1,5 +1,4 @@
 //! Places in images, from which decoding goes on.
-#![tactic(auto, unfolding(crate::specs::pieces::Mark::marked_left, crate::specs::pieces::PixelReader::pixels_left))]
 
 ghost use Rattle.std.specs.Prelude.{◌≡◌, ℕ, ◌-◌, ◌<◌, ◌≤◌, List, ◌++◌, length, drop, Some, Ok, Err, IsOk, IfOk};
 ghost use Rattle.qoi.specs.DecoderState.{DecoderState};
@@ -57,6 +56,7 @@ impl<'a> PixelReader<Bytes<'a>> {
     /// counts from the front of the slice, so bytes may be appended behind the file.
     ///
     /// In another slice, the mark stands as far from the end as the reader does from that of its own.
+    #[tactic(auto, unfolding(crate::specs::pieces::Mark::marked_left, crate::specs::pieces::PixelReader::pixels_left))]
     pub fn mark(&self, file: &[u8]) -> Mark
         ensures state { result ≡ mark_of (length file.now - length self.now.reader) self.now }
         // If the slice is that of the file, of which some decoder was made, the mark says what was
@@ -92,6 +92,7 @@ impl<'a> PixelReader<Bytes<'a>> {
 
 impl Mark {
     /// How many raw bytes of the image are unread behind the mark.
+    #[tactic(auto, unfolding(crate::specs::pieces::Mark::marked_left))]
     pub fn left(&self) -> usize
         ensures { result ≡ marked_left self.now }
     {
@@ -102,6 +103,7 @@ impl Mark {
     /// it. In another slice it reads what the bytes there decode to, if it isn't refused.
     ///
     /// `UnexpectedBufferEnd` if the slice ends before the mark.
+    #[tactic(auto, unfolding(crate::specs::pieces::Mark::marked_left, crate::specs::pieces::PixelReader::pixels_left))]
     pub fn resume<'a>(&self, file: &'a [u8]) -> Result<PixelReader<Bytes<'a>>>
         // The reader that was marked, with the bytes of the slice behind the mark ahead.
         ensures same { self.now.at ≤ length file.entry.now
