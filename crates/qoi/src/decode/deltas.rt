@@ -60,6 +60,7 @@ static ADDED: [u64; 256] = of_all_bytes!(added_table);
 // stands above red, green and blue.
 const KEEP: u64 = 0xffff_00ff_00ff_00ff;
 
+// All bits.
 const ALL: u64 = u64::MAX;
 
 // How many pixels a chunk has, by its first byte.

@@ -162,6 +162,7 @@ impl<const N: usize> Coder<N> {
             repeats: 0,
         };
         if JUMP && stands {
+            // The position's byte, appended as that of a single repeat is.
             piece.append_run(1, place);
             return;
         }

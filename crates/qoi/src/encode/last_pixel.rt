@@ -4,11 +4,11 @@ ghost use Rattle.qoi.specs.Qoi.{run_max, start};
 
 use crate::packed::Packed;
 
-/// The last pixel that was written or repeats, `px`; `repeats`, how many repeats of it came that aren't written yet:
-/// fewer than a full run has; `begun`, whether a fresh pixel came, one that differs from the pixel
-/// before it; and `placed`, in style `Places` whether the chunk before those repeats names `px`'s
-/// index position. The count stands first: else the zeros of the start are stored in other widths
-/// than they are read in, which is slower.
+/// The last pixel that was written or repeated, `px`; `repeats`, how many repeats of it came that
+/// aren't written yet: fewer than a full run has; `begun`, whether a fresh pixel came, one that differs
+/// from the pixel before it; and `placed`, in style `Places` whether the chunk before those repeats
+/// names `px`'s index position. The count stands first: else the zeros of the start are stored in
+/// other widths than they are read in, which is slower.
 #[derive(Clone, Copy)]
 pub(super) struct LastPixel {
     pub(super) repeats: usize,
