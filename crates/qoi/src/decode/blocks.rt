@@ -10,7 +10,7 @@ use crate::decode::reached::{Decoded, Reached};
 use crate::decode::table::TermTable;
 
 // How many bytes of input the first block has, and a later one.
-const FIRST_BLOCK: usize = 128;
+const FIRST_BLOCK: usize = 512;
 
 const BLOCK: usize = 2048;
 

@@ -49,21 +49,21 @@ fn assert_before(rt: &impl Abort, alloc: Global, mut list: List, after: Kind) {
     list.check(rt, alloc);
 }
 
-// The first row is looked for after 128 bytes, the next one after 2,048 more if there was none.
+// The first row is looked for after 512 bytes, the next one after 2,048 more if there was none.
 #[test]
 fn full_rows_around_blocks(rt: HostRuntime) {
     let alloc = rt.alloc();
     for full in FULL {
         for n in 1..16u8 {
             for after in [Luma, Rgb, Rgba] {
-                for front in 84..130usize {
+                for front in 468..514usize {
                     let list = with_full(&rt, alloc, front, full, n);
                     assert_before(&rt, alloc, list, after);
                 }
             }
         }
         for n in [3, 4, 9, 40] {
-            for front in 2140..2180usize {
+            for front in 2524..2564usize {
                 let list = with_full(&rt, alloc, front, full, n);
                 assert_before(&rt, alloc, list, Place);
             }
@@ -77,14 +77,14 @@ fn plain_rows_around_blocks(rt: HostRuntime) {
     for seed in 0..12u8 {
         for n in [1, 7, 8, 9, 16, 40, 90] {
             for after in KINDS {
-                for front in 120..125usize {
+                for front in 504..509usize {
                     let list = with_plain(&rt, alloc, front, seed, n);
                     assert_before(&rt, alloc, list, after);
                 }
             }
         }
     }
-    for front in 2140..2180usize {
+    for front in 2524..2564usize {
         let list = with_plain(&rt, alloc, front, (front % 50) as u8, 40);
         assert_before(&rt, alloc, list, Luma);
     }
@@ -96,7 +96,7 @@ fn plain_rows_at_the_end(rt: HostRuntime) {
     let alloc = rt.alloc();
     for seed in 0..20u8 {
         for n in 1..90u8 {
-            let list = with_plain(&rt, alloc, 124, seed, n);
+            let list = with_plain(&rt, alloc, 508, seed, n);
             list.check(&rt, alloc);
         }
     }
@@ -105,7 +105,7 @@ fn plain_rows_at_the_end(rt: HostRuntime) {
 // A row of RGB chunks, one of a kind, a row of RGBA chunks, and two of that kind, again and again.
 fn with_rows(rt: &impl Abort, alloc: Global, rgb: u8, kind: Kind, rgba: u8) -> List {
     let mut list = List::new(alloc);
-    for i in 0..40u8 {
+    for i in 0..90u8 {
         for n in 0..rgb {
             list.add(rt, Rgb, n.wrapping_mul(7).wrapping_add(i));
         }
@@ -135,9 +135,9 @@ fn full_rows_between_others(rt: HostRuntime) {
 // Chunks of two kinds by turns, which end a row.
 fn by_turns(rt: &impl Abort, alloc: Global, one: Kind, other: Kind) -> List {
     let mut list = List::new(alloc);
-    for i in 0..250u8 {
-        list.add(rt, one, i);
-        list.add(rt, other, i);
+    for i in 0..500usize {
+        list.add(rt, one, (i % 250) as u8);
+        list.add(rt, other, (i % 250) as u8);
     }
     list
 }
@@ -157,13 +157,13 @@ fn plain_chunks_by_turns(rt: HostRuntime) {
 fn rows_by_each_reader(rt: HostRuntime) {
     let alloc = rt.alloc();
     for full in FULL {
-        for front in 100..130usize {
+        for front in 484..514usize {
             let list = with_full(&rt, alloc, front, full, 250);
             list.check_readers(&rt, alloc, front % 21);
         }
     }
     for seed in 0..20u8 {
-        let list = with_plain(&rt, alloc, 124, seed, 200);
+        let list = with_plain(&rt, alloc, 508, seed, 200);
         list.check_readers(&rt, alloc, usize::from(seed));
     }
 }
