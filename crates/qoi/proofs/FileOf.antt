@@ -21,19 +21,17 @@ use Rattle.std.specs.Prelude.{Option, drop, Ok}
 use Rattle.std.specs.Io.KnownBytes.{Appends}
 use Rattle.qoi.specs.writers.Writes.{AppendsBeginning}
 use Rattle.qoi.specs.Sent.{HasFileLength, MakesFile, PutsFile, SendsFile, SendsPart}
-use Rattle.qoi.proofs.format.Appended.{length-bytes_of}
+use Rattle.qoi.proofs.format.ChunkSteps.{length-bytes_of}
 use Rattle.qoi.proofs.format.WholePixels.{by_channels, take_whole}
 use Rattle.qoi.proofs.decoding.Ahead.{stands_after}
-use Rattle.qoi.proofs.decoding.FrontImage.{file_image_is, file_rest_is}
+use Rattle.qoi.proofs.decoding.FrontImage.{file_image_is, file_rest_is, decodes_file}
 use Rattle.qoi.proofs.decoding.ImageSize.{channels_are}
-use Rattle.qoi.proofs.decoding.OneFile.{decodes_file}
 use Rattle.qoi.proofs.decoding.Tiles.{tile_put, sent_image, sent_kept, sent_known, sent_stay}
-use Rattle.qoi.proofs.format.ImageHeader.{accepted_says}
+use Rattle.qoi.proofs.format.HeaderBytes.{accepted_says}
 use Rattle.qoi.proofs.format.RawPixels.{pixels_of_are, pixels_of_have, length-pixels_of, output-pixels_of}
 use Rattle.qoi.proofs.encoding.styles.StyleLists.{list_written, style_chunks, style_means, style_unique, style_reaches, style_fits, style_length, style_exact, style_apart, style_regular, style_upper}
 use Rattle.qoi.proofs.shortness.RegularLists.{no_blank_regular}
-use Rattle.qoi.proofs.shortness.Lower.{lower}
-use Rattle.qoi.proofs.shortness.TightLists.{lower0}
+use Rattle.qoi.proofs.shortness.Lower.{lower, lower0}
 use Rattle.qoi.proofs.shortness.SlackSteps.{slack_most, slack_opens}
 
 -- the bytes of a file are the header's, the chunks' and the end marker's

@@ -1,27 +1,21 @@
 -- Lemmas on decoding.
 pub mod Ahead
-pub mod Appended
 pub mod FastSteps
 pub mod FilledBuffer
 pub mod FirstChunk
 pub mod Frames
-pub mod FrontFile
 pub mod FrontImage
 pub mod GivenMore
 pub mod Grown
 pub mod ImageSize
 pub mod InPlace
-pub mod LeastBytes
 pub mod Marks
-pub mod OneFile
-pub mod PieceFront
 pub mod PieceSteps
 pub mod PixelPieces
 pub mod Places
 pub mod Progress
 pub mod Promised
 pub mod Refusals
-pub mod RefusedBytes
 pub mod RowIndexes
 pub mod SlicesRefused
 pub mod StreamReads

@@ -1,25 +1,20 @@
 -- Lemmas on the format: headers, pixels, index positions, chunks and files.
 pub mod AddedTerms
-pub mod Appended
 pub mod ChunkSteps
 pub mod Entries
 pub mod HashedPixels
 pub mod HeaderBytes
-pub mod ImageHeader
 pub mod LaneRuns
 pub mod LaneBytes
 pub mod LaneWords
 pub mod OneVerdict
 pub mod PackedPixels
 pub mod PartOfChunk
-pub mod PixelBlocks
-pub mod PutTerms
 pub mod RawPixels
 pub mod RectangleLaws
 pub mod SamePixels
 pub mod SameBits
 pub mod SeenTable
-pub mod SetLast
 pub mod SomeVerdict
 pub mod TableHolds
 pub mod WholePixels

@@ -5,4 +5,3 @@ pub mod Reached
 pub mod RegularLists
 pub mod SlackSteps
 pub mod Upper
-pub mod TightLists

@@ -2,7 +2,6 @@
 pub mod BlockLoop
 pub mod Chunks
 pub mod Coder
-pub mod Conversion
 pub mod Filling
 pub mod Hashed
 pub mod Packed

@@ -13,7 +13,6 @@ ghost use Rattle.qoi.specs.Sent.{IsFileFor};
 mod blocks;
 mod buffered;
 mod chunks;
-mod conversion;
 mod deltas;
 mod fast;
 mod full_rows;

@@ -1,18 +1,17 @@
 //! Encoding, into buffers, vectors and writers.
 ghost use Rattle.std.specs.Prelude.{◌≡◌, ◌*◌, ◌<◌, ◌≤◌, length, ◌⊎◌, Ok, Err, IsErrOf, IsOk, IsOkUnless, IfOk, IfErr};
 ghost use Rattle.qoi.specs.declared.header.Header.{Header};
-ghost use Rattle.qoi.specs.declared.encode.chunks.TheConstants.{FEW_BYTES};
 ghost use Rattle.qoi.specs.declared.encode.piece.TheConstants.{FULL_ROOM};
 ghost use Rattle.qoi.specs.declared.error.Error.{Error};
 ghost use Rattle.qoi.specs.declared.types.Channels.{Channels};
 ghost use Rattle.qoi.specs.declared.types.ColorSpace.{ColorSpace};
 ghost use Rattle.qoi.specs.declared.types.Style.{Style};
 ghost use Rattle.qoi.specs.declared.types.Style.TheVariants.{Reference};
-ghost use Rattle.qoi.specs.Qoi.{IsValid, pixels_max};
+ghost use Rattle.qoi.specs.Qoi.{IsValid, AreBytes, pixels_max};
 ghost use Rattle.qoi.specs.Raw.{image_byte_count};
 ghost use Rattle.qoi.specs.Encoded.{max_len, max_file_len, image_header, measured_header, with_number};
 ghost use Rattle.qoi.specs.Errors.{IsIoError};
-ghost use Rattle.qoi.specs.EncoderState.{free_encoder};
+ghost use Rattle.qoi.specs.EncoderState.{EncoderState, free_encoder};
 ghost use Rattle.qoi.specs.Sent.{IsFileFor, MakesFile, PutsFile, SendsFile, SendsPart};
 ghost use Rattle.qoi.specs.inner.Sending.{WritesImage};
 
@@ -22,11 +21,7 @@ mod carry;
 mod chunks;
 mod coder;
 pub(crate) mod fresh;
-mod full;
-mod last_pixel;
-mod marked;
 mod pairs;
-mod pending;
 pub(crate) mod piece;
 mod pixel_writer;
 mod pixels;
@@ -35,8 +30,8 @@ mod sparse;
 mod table;
 
 use crate::consts::{QOI_HEADER_SIZE, QOI_PADDING_SIZE};
-use crate::encode::chunks::{FEW_BYTES, encode_file, fill_few};
-use crate::encode::piece::{FEW_ROOM, FULL_ROOM, Piece, SMALL_ROOM, TINY_ROOM};
+use crate::encode::chunks::{FEW_BYTES, encode_few, encode_file};
+use crate::encode::piece::{FULL_ROOM, SMALL_ROOM, SPARE, TINY_ROOM};
 pub use crate::encode::pixel_writer::PixelWriter;
 use crate::error::{Error, Result};
 use crate::header::Header;
@@ -45,13 +40,6 @@ use crate::writers::{BytesMut, GenericWriter, VecMut, Writer};
 use std::alloc::Global;
 use std::io::Write;
 use std::marker::Model;
-
-// An image of so many raw bytes goes to memory through a piece of 4096 bytes, a smaller one through
-// a piece of 512.
-const LARGE_IMAGE: usize = 4096;
-
-// An image of fewer raw bytes goes to memory through a piece of 128 bytes.
-const TINY_IMAGE: usize = 128;
 
 // The channels that an image of this size has in these raw bytes. Only a refusal takes a division.
 fn channels_found(data: &[u8], header: &Header) -> Result<Channels>
@@ -169,11 +157,6 @@ pub struct Encoder<'a> {
 }
 
 impl<'a> Model for Encoder<'a> {
-    ghost use Rattle.std.specs.Prelude.{◌≡◌, length};
-    ghost use Rattle.qoi.specs.EncoderState.{EncoderState};
-    ghost use Rattle.qoi.specs.Qoi.{IsValid, AreBytes};
-    ghost use Rattle.qoi.specs.Raw.{image_byte_count};
-
     ghost Value = { EncoderState };
 
     ghost view = { λ e. record { raw = e.«data».now; header = e.header; style = e.style } };
@@ -264,34 +247,20 @@ impl<'a> Encoder<'a> {
         self.header.encode_max_len()
     }
 
-    // Writes the file of an image of fewer than `FEW_BYTES`, and returns how many bytes it has. It is
-    // apart from `write_to_memory`, which would clear its room too.
-    fn write_few<W: Writer>(&self, writer: &mut W) -> Result<usize>
-        requires few { length self.now.raw < FEW_BYTES }
-        requires room { max_file_len self.now.header ≤ W.room writer.old }
-        ensures { WritesImage W.wrote W.IsFault self.now writer.old writer.new result }
-    {
-        let mut bytes = [0; FEW_ROOM];
-        let mut piece = Piece::<FEW_ROOM>::with_header(&mut bytes, &self.header);
-        let n = fill_few(&mut piece, self);
-        writer.write_many(piece.front(n))?;
-        Ok(n)
-    }
-
     // Writes the file of the image to memory, and returns how many bytes it has: through a piece with
-    // little room, if the image is small.
+    // little room, if the image has fewer raw bytes than the tiny piece, or than the full one.
     #[inline(always)]
     fn write_to_memory<W: Writer>(&self, writer: &mut W) -> Result<usize>
         requires room { max_file_len self.now.header ≤ W.room writer.old }
         ensures { WritesImage W.wrote W.IsFault self.now writer.old writer.new result }
     {
         if self.data.len() < FEW_BYTES {
-            return self.write_few(writer);
+            return encode_few(writer, self);
         }
-        if self.data.len() < TINY_IMAGE {
+        if self.data.len() < TINY_ROOM - SPARE {
             return encode_file::<W, TINY_ROOM>(writer, self);
         }
-        if self.data.len() < LARGE_IMAGE {
+        if self.data.len() < FULL_ROOM - SPARE {
             return encode_file::<W, SMALL_ROOM>(writer, self);
         }
         encode_file::<W, FULL_ROOM>(writer, self)
@@ -324,7 +293,7 @@ impl<'a> Encoder<'a> {
         let mut writer = BytesMut::new(buf);
         // Asked here first: each call that passes a `Result` on copies its room.
         if self.data.len() < FEW_BYTES {
-            return self.write_few(&mut writer);
+            return encode_few(&mut writer, self);
         }
         self.write_to_memory(&mut writer)
     }
@@ -364,7 +333,7 @@ impl<'a> Encoder<'a> {
     {
         let mut writer = GenericWriter::new(writer);
         let n = if self.data.len() < FEW_BYTES {
-            self.write_few(&mut writer)?
+            encode_few(&mut writer, self)?
         } else {
             encode_file::<_, FULL_ROOM>(&mut writer, self)?
         };

@@ -90,10 +90,8 @@ impl fmt::Display for Error {
                     "output buffer size too small: {size} (required: {required})"
                 )
             }
-            Error::UnexpectedBufferEnd => {
-                write!(f, "unexpected input buffer end while decoding")
-            }
-            Error::InvalidPadding => { write!(f, "invalid padding (stream end marker mismatch)") }
+            Error::UnexpectedBufferEnd => write!(f, "unexpected input buffer end while decoding"),
+            Error::InvalidPadding => write!(f, "invalid padding (stream end marker mismatch)"),
             Error::IoError(ref error) => write!(f, "i/o error: {error}"),
             Error::OutOfMemory => write!(f, "out of memory"),
         }

@@ -1,6 +1,7 @@
 //! Pixels as single numbers of 32 bits.
 ghost use Rattle.std.specs.Prelude.{◌≡◌, ◌↔◌, ◌+◌, ◌*◌, ◌%◌, ◌<◌, ◌≤◌, length, take, drop, replicate, IsTrue};
-ghost use Rattle.qoi.specs.Qoi.{IsPixel, pixel, rgba, start, blank, hash};
+ghost use Rattle.std.proofs.Common.{sym};
+ghost use Rattle.qoi.specs.Qoi.{RgbaPixel, IsPixel, pixel, rgba, blank, hash};
 ghost use Rattle.qoi.specs.Raw.{IsChannels, output};
 ghost use Rattle.qoi.specs.inner.Packed.{word, pixel_of_word};
 
@@ -19,11 +20,6 @@ const HASH_FACTOR: u64 = 0x0c00_1c00_0014_002c;
 pub(crate) struct Packed(u32);
 
 impl Model for Packed {
-    ghost use Rattle.std.specs.Prelude.{◌≡◌};
-    ghost use Rattle.std.proofs.Common.{sym};
-    ghost use Rattle.qoi.specs.Qoi.{RgbaPixel};
-    ghost use Rattle.qoi.specs.inner.Packed.{word, pixel_of_word};
-
     ghost Value = { RgbaPixel };
 
     ghost view = { λ p. pixel_of_word p.0 };
@@ -70,26 +66,12 @@ impl Packed {
         if bytes.len() < 4 {
             return Packed::new(bytes[0], bytes[1], bytes[2], 0xff);
         }
-        let four = Packed::load(bytes);
-        if N == 4 { four } else { four.opaque() }
-    }
-
-    // The pixel of four bytes, which are read at once.
-    #[inline(always)]
-    fn load(bytes: &[u8]) -> Packed
-        requires { 4 ≤ length bytes.now }
-        ensures { result ≡ rgba (take 4 bytes.now) }
-    {
-        let number = Simd::<u32, 1>::from_le_bytes(u8x4::from_slice(bytes));
-        Packed(number.to_array()[0])
-    }
-
-    /// The pixel with alpha 255.
-    #[inline(always)]
-    pub(crate) fn opaque(self) -> Packed
-        ensures { result ≡ pixel self.r self.g self.b 255 }
-    {
-        Packed(self.0 % 0x100_0000 + 0xff00_0000)
+        // Four bytes are read at once.
+        let four = Simd::<u32, 1>::from_le_bytes(u8x4::from_slice(bytes)).to_array()[0];
+        if N == 4 {
+            return Packed(four);
+        }
+        Packed(four % 0x100_0000 + 0xff00_0000)
     }
 
     /// Red.
@@ -173,13 +155,5 @@ impl Packed {
         let word = u64::from(self.number());
         let spread = ((word & 0xff00_ff00) << 32) | (word & 0x00ff_00ff);
         (spread.wrapping_mul(HASH_FACTOR) >> 58) as u8
-    }
-
-    /// Opaque black, the pixel before the first one.
-    #[tactic(auto, unfolding(crate::specs::Qoi::start))]
-    pub(crate) fn start() -> Packed
-        ensures { result ≡ start }
-    {
-        Packed(0xff00_0000)
     }
 }

@@ -48,7 +48,6 @@ impl<const N: usize> From<Pixel<N>> for [u8; N] {
 
 impl<const N: usize> Pixel<N> {
     /// The pixel whose bytes are all 0.
-    #[inline]
     pub fn new() -> Pixel<N>
         requires { IsChannels N }
         ensures { result ≡ replicate N 0 }
@@ -57,7 +56,6 @@ impl<const N: usize> Pixel<N> {
     }
 
     /// Takes the bytes of a slice, of which there are `N`.
-    #[inline]
     pub fn read(&mut self, s: &[u8])
         requires channels { IsChannels N }
         requires size { length s.now ≡ N }
@@ -67,7 +65,6 @@ impl<const N: usize> Pixel<N> {
     }
 
     /// Takes the first bytes of another pixel, as many as both have.
-    #[inline]
     pub fn update<const M: usize>(&mut self, px: Pixel<M>)
         requires own { IsChannels N }
         requires other { IsChannels M }
@@ -79,7 +76,6 @@ impl<const N: usize> Pixel<N> {
 
     /// Sets red, green and blue, and keeps alpha, as an RGB chunk does (QOI specification 1.0,
     /// "QOI_OP_RGB").
-    #[inline]
     pub fn update_rgb(&mut self, r: u8, g: u8, b: u8)
         requires { IsChannels N }
         ensures { self.new ≡ r ∷ g ∷ b ∷ drop 3 self.old }
@@ -91,7 +87,6 @@ impl<const N: usize> Pixel<N> {
 
     /// Sets red, green, blue and alpha, as an RGBA chunk does (QOI specification 1.0,
     /// "QOI_OP_RGBA"); three channels drop alpha.
-    #[inline]
     pub fn update_rgba(&mut self, r: u8, g: u8, b: u8, a: u8)
         requires { IsChannels N }
         ensures { self.new ≡ take N (r ∷ g ∷ b ∷ a ∷ []) }
@@ -106,7 +101,6 @@ impl<const N: usize> Pixel<N> {
 
     /// Adds to red, green and blue the differences of a difference chunk's byte (QOI specification
     /// 1.0, "QOI_OP_DIFF"); sums wrap at 256.
-    #[inline]
     #[tactic(auto, unfolding(crate::specs::Qoi::after_diff))]
     pub fn update_diff(&mut self, b1: u8)
         requires { IsChannels N }
@@ -120,7 +114,6 @@ impl<const N: usize> Pixel<N> {
 
     /// Adds to red, green and blue the differences of a luma chunk's two bytes (QOI specification
     /// 1.0, "QOI_OP_LUMA"); sums wrap at 256.
-    #[inline]
     #[tactic(auto, unfolding(crate::specs::Qoi::after_luma))]
     pub fn update_luma(&mut self, b1: u8, b2: u8)
         requires { IsChannels N }
@@ -133,7 +126,6 @@ impl<const N: usize> Pixel<N> {
     }
 
     /// Adds to red, green and blue; sums wrap at 256.
-    #[inline]
     pub fn rgb_add(&mut self, r: u8, g: u8, b: u8)
         requires { IsChannels N }
         ensures { rgba self.new ≡ moved (rgba self.old) r g b }
@@ -144,7 +136,6 @@ impl<const N: usize> Pixel<N> {
     }
 
     /// The pixel in four channels, with alpha `with_a` if it has three.
-    #[inline]
     pub fn as_rgba(self, with_a: u8) -> Pixel<4>
         requires { IsChannels N }
         ensures { result ≡ take 4 (self.entry ++ with_a ∷ []) }
@@ -154,7 +145,6 @@ impl<const N: usize> Pixel<N> {
     }
 
     /// Red.
-    #[inline]
     pub fn r(self) -> u8
         requires { IsChannels N }
         ensures { result ≡ slice_index self.entry 0 }
@@ -163,7 +153,6 @@ impl<const N: usize> Pixel<N> {
     }
 
     /// Green.
-    #[inline]
     pub fn g(self) -> u8
         requires { IsChannels N }
         ensures { result ≡ slice_index self.entry 1 }
@@ -172,7 +161,6 @@ impl<const N: usize> Pixel<N> {
     }
 
     /// Blue.
-    #[inline]
     pub fn b(self) -> u8
         requires { IsChannels N }
         ensures { result ≡ slice_index self.entry 2 }
@@ -181,7 +169,6 @@ impl<const N: usize> Pixel<N> {
     }
 
     /// Alpha, or `value` if there are three channels.
-    #[inline]
     pub fn a_or(self, value: u8) -> u8
         requires { IsChannels N }
         ensures alpha { result ≡ slice_index_or self.entry 3 value }
@@ -191,8 +178,7 @@ impl<const N: usize> Pixel<N> {
     }
 
     /// The pixel with this alpha, or the pixel as it is if there are three channels.
-    #[inline]
-    #[tactic(auto, using(crate::proofs::format::SetLast::set_last))]
+    #[tactic(auto, using(crate::proofs::format::RawPixels::set_last))]
     pub fn with_a(mut self, value: u8) -> Pixel<N>
         requires { IsChannels N }
         ensures { result ≡ take N (take 3 self.entry ++ value ∷ []) }
@@ -205,7 +191,6 @@ impl<const N: usize> Pixel<N> {
 
     /// The index position of the pixel, 0 to 63, with alpha 255 if it has three channels (QOI
     /// specification 1.0, "Chunks").
-    #[inline]
     pub fn hash_index(self) -> u8
         requires { IsChannels N }
         ensures position { result ≡ hash (rgba self.entry) }
@@ -219,7 +204,6 @@ impl<const N: usize> Pixel<N> {
     ///
     /// The caller sees to it that the writer has room for `N` + 1 bytes. The only refusals are the
     /// writer's, and then a beginning of the chunk is written.
-    #[inline]
     pub fn encode_into<W: Writer>(&self, px_prev: Pixel<N>, writer: &mut W) -> Result<()>
         requires channels { IsChannels N }
         requires room { N + 1 ≤ W.room writer.old }

@@ -126,14 +126,12 @@ pub struct VecMut<'a> {
 }
 
 impl<'a> VecMut<'a> {
-    ghost use Rattle.qoi.specs.writers.VecMut.{vec_name, vec_bytes, vec_room};
-
     /// A writer that appends to the vector, within its capacity.
     #[inline]
     pub fn new(vec: &'a mut Vec<u8>) -> VecMut<'a>
-        ensures same_vec { vec_name result ≡ vec.entry.ghost_name }
-        ensures bytes { vec_bytes result ≡ vec.old.items }
-        ensures room { vec_room result ≡ vec_capacity vec.old - vec_len vec.old }
+        ensures same_vec { result.vec.ghost_name ≡ vec.entry.ghost_name }
+        ensures bytes { result.vec.now.items ≡ vec.old.items }
+        ensures room { result.room ≡ vec_capacity vec.old - vec_len vec.old }
     {
         let room = vec.capacity() - vec.len();
         VecMut { vec, room }
@@ -141,11 +139,11 @@ impl<'a> VecMut<'a> {
 }
 
 impl<'a> Writer for VecMut<'a> {
-    ghost use Rattle.qoi.specs.writers.VecMut.{VecWrote, vec_room, vec_laws};
+    ghost use Rattle.qoi.specs.writers.VecMut.{VecWrote, vec_laws};
 
     ghost wrote = { VecWrote };
 
-    ghost room = { vec_room };
+    ghost room = { λ s. s.room };
 
     ghost IsFault = { λ _. ⊥ };
 

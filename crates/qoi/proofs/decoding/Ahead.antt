@@ -15,7 +15,7 @@ use Rattle.qoi.specs.DecoderState.{DecoderState}
 use Rattle.qoi.specs.Encoded.{IsFileOf}
 use Rattle.qoi.specs.Reading.{IsDecoderOf, IsImage, StandsAhead}
 use Rattle.qoi.specs.Errors.{IsReaderFault}
-use Rattle.qoi.proofs.decoding.OneFile.{decodes_file, file_parts}
+use Rattle.qoi.proofs.decoding.FrontImage.{decodes_file, file_parts}
 use Rattle.qoi.proofs.decoding.StreamVerdicts.{fourth_is_opaque, read_is_whole, whole_is_io_error}
 use Rattle.qoi.proofs.decoding.Refusals.{whole_not_refused_in}
 use Rattle.qoi.proofs.format.HeaderBytes.{header_split}

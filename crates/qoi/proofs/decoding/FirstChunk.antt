@@ -1,7 +1,9 @@
 -- The chunk that bytes begin with.
-use Rattle.std.proofs.Common.{◌≡◌, ℕ, ◌+◌, ◌<◌, ◌≤◌, inl, inr, List, [], ◌∷◌, ◌++◌, length, take, get_or, replicate, arith, refl, sym, ap, ◌∙◌, Bool, nat_le, nat_lt, ◌&&◌}
+use Rattle.std.proofs.Common.{◌≡◌, ℕ, ◌+◌, ◌<◌, ◌≤◌, inl, inr, List, [], ◌∷◌, ◌++◌, length, map, take, get_or, replicate, arith, refl, sym, ap, ◌∙◌, Bool, nat_le, nat_lt, ◌&&◌}
+use Rattle.std.specs.List.{range_with_len}
 use Rattle.std.proofs.lemmas.Bool.{cases_lt}
 use Rattle.std.proofs.lemmas.Bool.Decides.{nat_tests}
+use Rattle.std.proofs.lemmas.Simd.{pick_l-range_with_len}
 use mir.Val.{bool_byte}
 use Rattle.qoi.specs.declared.chunk.Chunk.{Chunk}
 use Rattle.qoi.specs.declared.chunk.Chunk.TheVariants.{Place, Diff, Luma, Run, Rgb, Rgba}
@@ -11,26 +13,9 @@ use Rattle.qoi.specs.inner.Hashed.{pixel_of_lanes, HoldsSeen, IsAfterShort, IsAf
 use Rattle.qoi.proofs.format.ChunkSteps.{times_some}
 use Rattle.qoi.proofs.format.SeenTable.{holds_seen_copies, previous_copies}
 
--- the first byte
-pub front_1 : (bytes : List ℕ) → 1 ≤ length bytes → take 1 bytes ≡ get_or bytes 0 0 ∷ []
-front_1 [] l = absurd (omega arith)
-front_1 (a ∷ bytes) l = refl
-
--- the first two
-front_2 : (bytes : List ℕ) → 2 ≤ length bytes → take 2 bytes ≡ get_or bytes 0 0 ∷ get_or bytes 1 0 ∷ []
-front_2 (a ∷ b ∷ bytes) l = refl
-front_2 _ l = absurd (omega arith)
-
--- the first four
-front_4 : (bytes : List ℕ) → 4 ≤ length bytes → take 4 bytes ≡ get_or bytes 0 0 ∷ get_or bytes 1 0 ∷ get_or bytes 2 0 ∷ get_or bytes 3 0 ∷ []
-front_4 (a ∷ b ∷ c ∷ d ∷ bytes) l = refl
-front_4 _ l = absurd (omega arith)
-
--- the first five
-front_5 : (bytes : List ℕ) → 5 ≤ length bytes → take 5 bytes
-    ≡ get_or bytes 0 0 ∷ get_or bytes 1 0 ∷ get_or bytes 2 0 ∷ get_or bytes 3 0 ∷ get_or bytes 4 0 ∷ []
-front_5 (a ∷ b ∷ c ∷ d ∷ e ∷ bytes) l = refl
-front_5 _ l = absurd (omega arith)
+-- the first n bytes, one by one
+pub front : (n : ℕ) (bytes : List ℕ) → n ≤ length bytes → take n bytes ≡ map (λ k. get_or bytes k 0) (range_with_len 0 n)
+front n bytes l = sym (pick_l-range_with_len 0 bytes 0 n (omega (arith, l)))
 
 -- a pixel was put at its index position, and written `count` times
 pub record PutsCopies (f c : ℕ) (p : RgbaPixel) (count : ℕ) (old new : Filling) : Type 0 where
@@ -65,7 +50,7 @@ pub decodes_run : {f c : ℕ} {old new : Filling} (bytes : List ℕ) (count : �
 decodes_run bytes count long first some most g = record {
   chunk = Run count;
   is_chunk = (some, most);
-  bytes_are = front_1 bytes long ∙ ap (λ x. x ∷ []) (first ∙ omega arith);
+  bytes_are = front 1 bytes long ∙ ap (λ x. x ∷ []) (first ∙ omega arith);
   decodes = decodes_copies (Run count) (some, most) refl (λ past h. h.last_is) g;
 }
 
@@ -78,21 +63,21 @@ decodes_short bytes b e taken count long first second low byte size once often p
       | inl place ↦ record {
         chunk = Place b;
         is_chunk = place;
-        bytes_are = rw (size.one (omega arith), first) (front_1 bytes (omega arith));
+        bytes_are = rw (size.one (omega arith), first) (front 1 bytes (omega arith));
         decodes = decodes_copies (Place b) place (sym (once (omega arith))) (λ past h. px.place place past h.table_is) g;
       }
       | inr other ↦ elim (cases_lt b 128) [
         | inl diff ↦ record {
           chunk = Diff b;
           is_chunk = (other, diff);
-          bytes_are = rw (size.one (omega arith), first) (front_1 bytes (omega arith));
+          bytes_are = rw (size.one (omega arith), first) (front 1 bytes (omega arith));
           decodes = decodes_copies (Diff b) (other, diff) (sym (once (omega arith))) (λ past h. px.diff other diff ∙ ap (λ q. after_diff q b) h.last_is) g;
         }
         | inr high ↦ elim (cases_lt b 192) [
           | inl luma ↦ record {
             chunk = Luma b e;
             is_chunk = (high, luma, byte);
-            bytes_are = rw (size.luma high luma, first, second) (front_2 bytes long);
+            bytes_are = rw (size.luma high luma, first, second) (front 2 bytes long);
             decodes = decodes_copies (Luma b e) (high, luma, byte) (sym (once luma)) (λ past h. px.luma high luma ∙ ap (λ q. after_luma q b e) h.last_is) g;
           }
           | inr run ↦
@@ -116,7 +101,7 @@ decodes_full {old = old} bytes b size long fits first full four five px g =
           record {
             chunk = rgb;
             is_chunk = is_chunk;
-            bytes_are = rw (four is) (front_4 bytes (omega (arith, long)) ∙ ap (λ x. x ∷ get_or bytes 1 0 ∷ get_or bytes 2 0 ∷ get_or bytes 3 0 ∷ []) (sym first ∙ is));
+            bytes_are = rw (four is) (front 4 bytes (omega (arith, long)) ∙ ap (λ x. x ∷ get_or bytes 1 0 ∷ get_or bytes 2 0 ∷ get_or bytes 3 0 ∷ []) (sym first ∙ is));
             decodes = decodes_copies rgb is_chunk refl (λ past h. px.rgb is ∙ ap (λ (q : RgbaPixel). pixel (get_or bytes 1 0) (get_or bytes 2 0) (get_or bytes 3 0) q.a) h.last_is) g;
           }
       | inr more ↦
@@ -125,7 +110,7 @@ decodes_full {old = old} bytes b size long fits first full four five px g =
           record {
             chunk = rgba;
             is_chunk = is_chunk;
-            bytes_are = rw (five is) (front_5 bytes long ∙ ap (λ x. x ∷ get_or bytes 1 0 ∷ get_or bytes 2 0 ∷ get_or bytes 3 0 ∷ get_or bytes 4 0 ∷ []) (sym first ∙ is));
+            bytes_are = rw (five is) (front 5 bytes long ∙ ap (λ x. x ∷ get_or bytes 1 0 ∷ get_or bytes 2 0 ∷ get_or bytes 3 0 ∷ get_or bytes 4 0 ∷ []) (sym first ∙ is));
             decodes = decodes_copies rgba is_chunk refl (λ past h. px.rgba is) g;
           }
     ]

@@ -1,7 +1,7 @@
 -- A store of frames: one is put or found behind the others, the last is cut off, and each is read.
 use Rattle.std.proofs.Common.{◌≡◌, ◌+◌, ◌-◌, ◌<◌, ◌≤◌, ℕ, zero, suc, inl, inr, Option, Some, List, [], ◌∷◌, ◌++◌, length, take, drop, get_or, slice_index, slice_index_or, refl, arith, ap, sym, subst, ◌∙◌, append_assoc}
 use Rattle.std.proofs.lemmas.Bool.{cases_lt}
-use Rattle.std.proofs.lemmas.List.{append-nil, length-append, length-drop, length-take-le, take-append-drop, get_or_append_left, append_cancel_right}
+use Rattle.std.proofs.lemmas.List.{append-nil, length-append, length-drop, length-take-le, take-append-drop, get_or_append_left, append_cancel_right, same_from_push}
 use Rattle.std.proofs.Math.Seq.{get_or-append_seam, take-append_seam, take-append-add}
 use Rattle.qoi.specs.declared.header.Header.{Header}
 use Rattle.qoi.specs.declared.chunk.Chunk.{Chunk}
@@ -15,8 +15,7 @@ use Rattle.qoi.specs.FrontFile.{BeginsWithFile}
 use Rattle.qoi.specs.Frames.{AreFrames, none, more}
 use Rattle.qoi.specs.Tiles.{HasTile}
 use Rattle.qoi.proofs.decoding.Ahead.{file_ahead}
-use Rattle.qoi.proofs.decoding.FrontImage.{file_image_is, file_rest_is}
-use Rattle.qoi.proofs.decoding.OneFile.{decodes_file}
+use Rattle.qoi.proofs.decoding.FrontImage.{file_image_is, file_rest_is, decodes_file}
 use Rattle.qoi.proofs.decoding.Tiles.{file_put, sent_known, tile_kept, tile_within}
 
 -- no frame
@@ -135,25 +134,14 @@ frame_stands bytes offsets images k frames below =
     let tile = frame_tile bytes offsets images k frames below in
     subst BeginsWithFile (sym tile.decodes.split) (begins tile.header tile.decodes.cs tile.rest tile.decodes.is_file)
 
--- lists with a last element each, which are equal, are equal before it
-before_last : {A : Type 0} (xs ys : List A) (x y : A) → xs ++ x ∷ [] ≡ ys ++ y ∷ [] → xs ≡ ys
-before_last xs ys x y is =
-    let size : length xs ≡ length ys = omega (arith, ap length is, length-append xs (x ∷ []), length-append ys (y ∷ [])) in
-    sym (take-append_seam xs (x ∷ [])) ∙ ap (take (length xs)) is ∙ ap (λ n. take n (ys ++ y ∷ [])) size ∙ take-append_seam ys (y ∷ [])
-
--- and at it
-last_of : {A : Type 0} (xs ys : List A) (x y : A) → xs ++ x ∷ [] ≡ ys ++ y ∷ [] → x ≡ y
-last_of xs ys x y is =
-    sym (get_or-append_seam xs x [] x) ∙ ap (λ z. get_or z (length xs) x) is ∙ ap (λ z. get_or (ys ++ y ∷ []) (length z) x) (before_last xs ys x y is) ∙ get_or-append_seam ys y [] x
-
 -- the last frame is cut off from frames that are given by equations
 cut_at : (bytes offsets fewer last : List ℕ) (images before : List (List ℕ)) (at : ℕ) → AreFrames bytes offsets images
     → images ≡ before ++ last ∷ [] → offsets ≡ fewer ++ at ∷ [] → AreFrames (take at bytes) fewer before
 cut_at _ _ fewer last _ before at none images_are are = absurd (omega (arith, ap length are, length-append fewer (at ∷ [])))
 cut_at _ _ fewer last _ before at (more bytes offsets images h cs frames f) images_are are =
     let whole : take at (bytes ++ file h cs) ≡ bytes =
-    ap (λ n. take n (bytes ++ file h cs)) (sym (last_of offsets fewer (length bytes) at are)) ∙ take-append_seam bytes (file h cs) in
-    rw (whole, sym (before_last offsets fewer (length bytes) at are), sym (before_last images before (file_image (file h cs)) last images_are)) frames
+    ap (λ n. take n (bytes ++ file h cs)) (sym (same_from_push offsets fewer (length bytes) at are).1) ∙ take-append_seam bytes (file h cs) in
+    rw (whole, sym (same_from_push offsets fewer (length bytes) at are).0, sym (same_from_push images before (file_image (file h cs)) last images_are).0) frames
 
 -- the last frame is cut off
 pub last_cut : (bytes offsets fewer new last : List ℕ) (images : List (List ℕ)) (at : ℕ) → AreFrames bytes offsets (images ++ last ∷ [])

@@ -1,15 +1,15 @@
 -- Steps over the pieces of an image, one after another.
-use Rattle.std.proofs.Common.{◌≡◌, ℕ, ◌+◌, ◌-◌, ◌*◌, ◌/◌, ◌≤◌, List, [], ◌++◌, length, take, drop, replicate, min, Bool, Option, Some, Result, arith, refl, sym, ap, ◌∙◌, subst, append-nil, length-append}
+use Rattle.std.proofs.Common.{◌≡◌, ℕ, ◌+◌, ◌-◌, ◌*◌, ◌/◌, ◌≤◌, List, [], ◌++◌, length, take, drop, replicate, min, Bool, Option, Some, Result, MatchOption, arith, refl, sym, ap, ◌∙◌, subst, append-nil, length-append}
 use Rattle.std.proofs.lemmas.List.{length-take-le, take_at}
 use Rattle.std.proofs.lemmas.Result.{MatchResult-weaker}
 use borrow.Rule.Slice.PartMut.{put_mid, mid_of, mid_len, same_len_mid}
 use Rattle.qoi.specs.declared.error.Error.{Error}
 use Rattle.qoi.specs.declared.decode.pixel_reader.unread.Unread.{Unread}
 use Rattle.qoi.specs.declared.decode.pixel_reader.unread.Refused.{Refused}
-use Rattle.qoi.specs.declared.decode.conversion.Conversion.{Conversion}
+use Rattle.qoi.specs.declared.decode.reader.Conversion.{Conversion}
 use Rattle.qoi.specs.declared.types.Channels.TheVariants.{Rgb, Rgba}
-use Rattle.qoi.specs.inner.Chunks.{RefusesFilling, HasFault}
-use Rattle.qoi.specs.declared.decode.in_place.InPlace.{InPlace}
+use Rattle.qoi.specs.inner.Chunks.{RefusesFilling}
+use Rattle.qoi.specs.declared.decode.reached.Reached.{Reached}
 use Rattle.qoi.specs.Raw.{IsChannels}
 use Rattle.qoi.specs.inner.Filling.{HasWritten, upto, reached, filling}
 use Rattle.qoi.specs.inner.Hashed.{pixel_of_lanes}
@@ -85,7 +85,7 @@ steps_in_three in_memory ahead rest old new out result k three four h =
     (λ e m. record { refused = λ n start given before. m.refused n start given (in_three before) }))
 
 -- the error of a refusal stands in its place
-pub faulted : (Why : Error → Type 0) {fault : Option Error} {e : Error} → fault ≡ Some e → Why e → HasFault Why fault
+pub faulted : (Why : Error → Type 0) {fault : Option Error} {e : Error} → fault ≡ Some e → Why e → MatchOption fault ⊥ Why
 faulted Why is why = rw is why
 
 -- chunks were refused for an output that was lent
@@ -106,22 +106,22 @@ gives_after_none {f} {c} {ahead} {middle} {rest} {old} {between} {new} {out} {si
 }
 
 -- a piece in place gives what it filled
-pub gives_placed : {f c : ℕ} {ahead rest : Option (List ℕ)} {p : Unread} {before out table : List ℕ} {placed : InPlace} (now behind : List ℕ)
+pub gives_placed : {f c : ℕ} {ahead rest : Option (List ℕ)} {p : Unread} {before out table : List ℕ} {to : Reached} {run : ℕ} (now behind : List ℕ)
     → IsChannels c → Asks c p (length before) → 512 ≤ length before → length before + 256 ≤ p.undecoded → length out ≡ length before
     → HasWritten f c (upto before 0) (upto out (0 + c * (p.run / c))) (replicate (p.run / c) (pixel_of_lanes p.last))
-    → TakesInPlace f c ahead rest (filling p.table (reached p.last p.run) (take (length before / c * c) out)) table now placed
-    → IsInPlace c (length now) placed → length now ≡ length (take (length before / c * c) out)
-    → GivesMore f c ahead rest p (record p { table = table; last = placed.reached.last; run = placed.run; undecoded = p.undecoded - placed.reached.at }) (now ++ behind) placed.reached.at
-gives_placed {f} {c} {ahead} {rest} {p} {before} {out} {table} {placed} now behind is asks long fits same written takes sizes size =
+    → TakesInPlace f c ahead rest (filling p.table (reached p.last p.run) (take (length before / c * c) out)) table now to run
+    → IsInPlace c (length now) to run → length now ≡ length (take (length before / c * c) out)
+    → GivesMore f c ahead rest p (record p { table = table; last = to.last; run = run; undecoded = p.undecoded - to.at }) (now ++ behind) to.at
+gives_placed {f} {c} {ahead} {rest} {p} {before} {out} {table} {to} {run} now behind is asks long fits same written takes sizes size =
     let whole = asks.pixels.1 in
-    let room : placed.reached.at + 256 ≤ p.undecoded = omega (arith, sizes.within, size, placed_most c before out is, fits) in
-    let run : placed.run ≤ 248 = by_channels (λ d. placed.run ≤ d * 62 → placed.run ≤ 248) is (λ a. omega (arith, a)) (λ a. omega (arith, a)) sizes.run_short in
+    let room : to.at + 256 ≤ p.undecoded = omega (arith, sizes.within, size, placed_most c before out is, fits) in
+    let short : run ≤ 248 = by_channels (λ d. run ≤ d * 62 → run ≤ 248) is (λ a. omega (arith, a)) (λ a. omega (arith, a)) sizes.run_short in
     record {
       read = λ n start given h.
           let l = piece_lent p before out is h asks.none whole long fits same written in
-          piece_read l.gone now behind placed h asks.none l.so_far (takes l.gone _ _ l.before) sizes.within (omega (arith, room));
+          piece_read l.gone now behind to run h asks.none l.so_far (takes l.gone _ _ l.before) sizes.within (omega (arith, room));
       within = omega (arith, sizes.within, length-append now behind);
-      pixels = (asks.pixels.0, (minus_whole c p.undecoded placed.reached.at is whole.0 sizes.whole, sizes.run_whole, sizes.run_short, λ some. omega (arith, run, room)));
+      pixels = (asks.pixels.0, (minus_whole c p.undecoded to.at is whole.0 sizes.whole, sizes.run_whole, sizes.run_short, λ some. omega (arith, short, room)));
       left = omega (arith, room);
       fault = refl;
     }

@@ -13,10 +13,10 @@ use Rattle.qoi.specs.inner.Hashed.{pixel_of_lanes, HoldsSeen}
 use Rattle.qoi.specs.inner.Filling.{Filling, reached, filling, IsFillable, DecoderBetween}
 use Rattle.qoi.specs.inner.Chunks.{TakesMore, RefusesFilling}
 use Rattle.qoi.proofs.format.WholePixels.{by_channels, whole_pixels}
-use Rattle.qoi.proofs.decoding.LeastBytes.{pixels_most}
+use Rattle.qoi.proofs.decoding.TakenBytes.{pixels_most}
 use Rattle.qoi.proofs.decoding.Progress.{fewer, stays_more, start_between}
 use Rattle.std.proofs.KnownBytes.{Consumes-trans}
-use Rattle.qoi.proofs.format.Appended.{length-meaning}
+use Rattle.qoi.proofs.format.ChunkSteps.{length-meaning}
 
 -- if n pixels have more bytes than m, they are more
 more_pixels : (c m n size more : ℕ) → IsChannels c → size ≡ c * m → size + more ≡ c * n → m ≤ n

@@ -5,18 +5,16 @@ use Rattle.std.proofs.KnownBytes.{Consumes-trans}
 use Rattle.std.proofs.lemmas.List.{get_or-drop, length-drop, replicate-append-replicate}
 use Rattle.std.proofs.Math.Seq.{take-add}
 use Rattle.qoi.specs.declared.chunk.Chunk.TheVariants.{Run}
-use Rattle.qoi.specs.declared.decode.in_place.InPlace.{InPlace}
 use Rattle.qoi.specs.declared.decode.reached.Reached.{Reached}
 use Rattle.qoi.specs.Qoi.{Past, RgbaPixel, bytes_of, chunk_bytes, then_chunk, previous, IsChunk}
 use Rattle.qoi.specs.Raw.{IsChannels, output}
 use Rattle.qoi.specs.inner.Hashed.{pixel_of_lanes, HoldsSeen}
 use Rattle.qoi.specs.inner.Filling.{upto, Filling, filling, HasWritten, DecoderBetween, IsFrontAfter}
 use Rattle.qoi.specs.pieces.Unread.{copies, DecoderAfter, TakesPiece}
-use Rattle.qoi.proofs.format.Appended.{chunk_bytes-last, all_append}
-use Rattle.qoi.proofs.format.ChunkSteps.{then_chunks-append}
+use Rattle.qoi.proofs.format.ChunkSteps.{chunk_bytes-last, all_append, then_chunks-append}
 use Rattle.qoi.proofs.format.SeenTable.{holds_seen_copies, previous_copies}
 use Rattle.qoi.proofs.format.WholePixels.{by_channels}
-use Rattle.qoi.proofs.decoding.FirstChunk.{front_1}
+use Rattle.qoi.proofs.decoding.FirstChunk.{front}
 use Rattle.qoi.proofs.decoding.Progress.{front_of_none}
 use Rattle.qoi.proofs.decoding.PieceSteps.{closes, output_copies}
 
@@ -54,37 +52,37 @@ pub next_taken : (before bytes : List ℕ) (taken count : ℕ) → taken < lengt
     → (before ++ take taken bytes) ++ bytes_of (Run count) ≡ before ++ take (taken + 1) bytes
 next_taken before bytes taken count inside is =
     let first : take 1 (drop taken bytes) ≡ bytes_of (Run count) =
-    front_1 (drop taken bytes) (omega (arith, inside, length-drop taken bytes))
+    front 1 (drop taken bytes) (omega (arith, inside, length-drop taken bytes))
     ∙ ap (λ x. x ∷ []) (get_or-drop taken bytes 0 0 ∙ ap (λ i. get_or bytes i 0) (omega arith) ∙ sym is ∙ omega arith) in
     append_assoc before (take taken bytes) (bytes_of (Run count))
     ∙ ap (λ z. before ++ z) (ap (λ z. take taken bytes ++ z) (sym first) ∙ sym (take-add taken 1 bytes))
 
 -- A run fills the output, and goes on past its end.
-pub piece_ends : {f c n : ℕ} {gone : Past} {Taken Taken' : List ℕ → Type 0} {table table' : List ℕ} {from : Reached} (k count : ℕ) (out out' : List ℕ) (now : InPlace)
+pub piece_ends : {f c n : ℕ} {gone : Past} {Taken Taken' : List ℕ → Type 0} {table table' : List ℕ} {from : Reached} (k count : ℕ) (out out' : List ℕ) (now : Reached) (run : ℕ)
     → IsChannels c → from.at < length out → DecoderBetween f c gone n Taken (filling table from out) → 0 < count → count ≤ 62
     → ((past : Past) → HoldsSeen table past → HoldsSeen table' (pixel_of_lanes from.last ∷ past))
     → ((before : List ℕ) → Taken before → Taken' (before ++ bytes_of (Run count)))
-    → HasWritten f c (upto out from.at) (upto out' (from.at + c * k)) (replicate k (pixel_of_lanes from.last)) → now.reached.at ≡ from.at + c * k → now.reached.last ≡ from.last
-    → (rest : ℕ) → rest ≡ c * k → rest ≤ c * count → now.run ≡ c * count - rest → TakesPiece f c gone Taken' table' out' now
-piece_ends {f} {c} {n} {gone} {Taken} {Taken'} {table} {table'} {from} k count out out' now is inside h some most put takes filled end same rest few fits left =
+    → HasWritten f c (upto out from.at) (upto out' (from.at + c * k)) (replicate k (pixel_of_lanes from.last)) → now.at ≡ from.at + c * k → now.last ≡ from.last
+    → (rest : ℕ) → rest ≡ c * k → rest ≤ c * count → run ≡ c * count - rest → TakesPiece f c gone Taken' table' out' now run
+piece_ends {f} {c} {n} {gone} {Taken} {Taken'} {table} {table'} {from} k count out out' now run is inside h some most put takes filled end same rest few fits left =
     let p = pixel_of_lanes from.last in
     let before = output f c (reverse gone) in
     let (all, after, e) = closes before out is h inside refl in
-    let parts : copies c now.run from.last ++ (replicate k p ++ all) ≡ replicate count p ++ all =
-    sym (append_assoc (copies c now.run from.last) (replicate k p) all) ∙ ap (λ z. z ++ all) (parts_of_run c k count now.run rest p is few fits left) in
+    let parts : copies c run from.last ++ (replicate k p ++ all) ≡ replicate count p ++ all =
+    sym (append_assoc (copies c run from.last) (replicate k p) all) ∙ ap (λ z. z ++ all) (parts_of_run c k count run rest p is few fits left) in
     record {
       all = replicate k p ++ all;
-      after = subst (λ l. DecoderAfter Taken' table' l (copies c now.run l ++ (replicate k p ++ all))) (sym same)
+      after = subst (λ l. DecoderAfter Taken' table' l (copies c run l ++ (replicate k p ++ all))) (sym same)
           (subst (DecoderAfter Taken' table' from.last) (sym parts) (then_run count some most after put takes));
       bytes_are = ap (λ i. before ++ take i out') end ∙ ap (λ z. before ++ z) filled.same ∙ sym (append_assoc before (take from.at out) (output f c (replicate k p)))
           ∙ ap (λ z. z ++ output f c (replicate k p)) e ∙ sym (output_copies f c k p all);
     }
 
 -- a piece of what a reader showed was taken
-pub piece_taken : {f c : ℕ} (ahead rest : Option (List ℕ)) {old : Filling} {table out : List ℕ} {now : InPlace} (bytes : List ℕ) (size : ℕ)
-    → ((gone : Past) (n : ℕ) (before : List ℕ) → DecoderBetween f c gone n (IsFrontAfter before bytes 0) old → TakesPiece f c gone (IsFrontAfter before bytes size) table out now)
+pub piece_taken : {f c : ℕ} (ahead rest : Option (List ℕ)) {old : Filling} {table out : List ℕ} {now : Reached} {run : ℕ} (bytes : List ℕ) (size : ℕ)
+    → ((gone : Past) (n : ℕ) (before : List ℕ) → DecoderBetween f c gone n (IsFrontAfter before bytes 0) old → TakesPiece f c gone (IsFrontAfter before bytes size) table out now run)
     → Consumes ahead rest (take size bytes)
-    → (gone : Past) (n : ℕ) (start : Option (List ℕ)) → DecoderBetween f c gone n (Consumes start ahead) old → TakesPiece f c gone (Consumes start rest) table out now
+    → (gone : Past) (n : ℕ) (start : Option (List ℕ)) → DecoderBetween f c gone n (Consumes start ahead) old → TakesPiece f c gone (Consumes start rest) table out now run
 piece_taken ahead rest bytes size fast took gone n start h =
     let t = fast gone n (chunk_bytes h.cs) (front_of_none bytes h) in
     let all = Consumes-trans start ahead rest (chunk_bytes h.cs) (take size bytes) h.taken took in

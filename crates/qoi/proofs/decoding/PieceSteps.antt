@@ -7,7 +7,6 @@ use Rattle.std.proofs.Math.Seq.{take-add}
 use borrow.Rule.Slice.PartMut.{put_mid}
 use Rattle.std.proofs.lemmas.Grind.{flat_map-append}
 use Rattle.qoi.specs.declared.chunk.Chunk.{Chunk}
-use Rattle.qoi.specs.declared.decode.in_place.InPlace.{InPlace}
 use Rattle.qoi.specs.declared.decode.pixel_reader.unread.Unread.{Unread}
 use Rattle.qoi.specs.declared.decode.reached.Reached.{Reached}
 use Rattle.qoi.specs.Qoi.{Past, RgbaPixel, Each, AreChunks, pixel_after, times, then_chunk, then_chunks}
@@ -17,9 +16,9 @@ use Rattle.qoi.specs.inner.Filling.{HasSeen, HasWritten, upto, reached, filling,
 use Rattle.qoi.specs.inner.Hashed.{pixel_of_lanes}
 use Rattle.qoi.specs.pieces.Unread.{kept_raw, bytes_left, copies, KeepsWithin, KeepsNothing, AreWhole, DecoderAfter, IsUnread, TakesPiece}
 use Rattle.qoi.proofs.format.ChunkSteps.{times_some, reverse-replicate, length-then_chunks}
+use Rattle.qoi.proofs.format.LaneBytes.{front_put}
 use Rattle.qoi.proofs.format.WholePixels.{by_channels, whole_pixels, length-output, take_whole}
 use Rattle.qoi.proofs.decoding.Progress.{fewer, none_written}
-use Rattle.qoi.proofs.decoding.StreamReads.{take-read}
 
 -- chunks give no fewer pixels
 pub longer : (past : Past) (cs : List Chunk) → length past ≤ length (then_chunks past cs)
@@ -209,14 +208,14 @@ placed_most c before out is =
 
 -- a piece of what was lent was taken
 pub piece_read : {f c n : ℕ} {start old new : Option (List ℕ)} {given : List ℕ} {p : Unread} {table : List ℕ} (gone : Past)
-    (now rest : List ℕ) (placed : InPlace) → IsUnread f c n start old given p → p.from ≡ p.to → given ≡ output f c (reverse gone)
-    → TakesPiece f c gone (Consumes start new) table now placed → placed.reached.at ≤ length now → placed.reached.at < p.undecoded
-    → IsUnread f c n start new (given ++ take placed.reached.at (now ++ rest))
-    (record p { table = table; last = placed.reached.last; run = placed.run; undecoded = p.undecoded - placed.reached.at })
-piece_read {f} {c} {n} {start} {old} {new} {given} {p} {table} gone now rest placed h same so_far t inside fits =
-    let at = placed.reached.at in
+    (now rest : List ℕ) (to : Reached) (run : ℕ) → IsUnread f c n start old given p → p.from ≡ p.to → given ≡ output f c (reverse gone)
+    → TakesPiece f c gone (Consumes start new) table now to run → to.at ≤ length now → to.at < p.undecoded
+    → IsUnread f c n start new (given ++ take to.at (now ++ rest))
+    (record p { table = table; last = to.last; run = run; undecoded = p.undecoded - to.at })
+piece_read {f} {c} {n} {start} {old} {new} {given} {p} {table} gone now rest to run h same so_far t inside fits =
+    let at = to.at in
     let front : take at (now ++ rest) ≡ take at now = take-append-le at now rest inside in
-    let then : Unread = record p { table = table; last = placed.reached.last; run = placed.run; undecoded = p.undecoded - at } in
+    let then : Unread = record p { table = table; last = to.last; run = run; undecoded = p.undecoded - at } in
     let more = given ++ take at (now ++ rest) in
     let size : length more ≡ length given + at = length-append given (take at (now ++ rest)) ∙ ap (λ k. length given + k) (ap length front ∙ length-take-le at now inside) in
     record {
@@ -226,9 +225,9 @@ piece_read {f} {c} {n} {start} {old} {new} {given} {p} {table} gone now rest pla
     }
 
 -- chunks that end before the output leave nothing of a run
-pub piece_stops : {f c n : ℕ} {gone : Past} {Taken : List ℕ → Type 0} {table : List ℕ} {now : Reached} (out : List ℕ) (taken : ℕ) → IsChannels c → now.at < length out
-    → DecoderBetween f c gone n Taken (filling table now out) → TakesPiece f c gone Taken table out (record { taken = taken; reached = now; run = 0 })
-piece_stops {f} {c} {gone = gone} {Taken} {table} {now} out taken is inside h =
+pub piece_stops : {f c n : ℕ} {gone : Past} {Taken : List ℕ → Type 0} {table : List ℕ} {now : Reached} (out : List ℕ) → IsChannels c → now.at < length out
+    → DecoderBetween f c gone n Taken (filling table now out) → TakesPiece f c gone Taken table out now 0
+piece_stops {f} {c} {gone = gone} {Taken} {table} {now} out is inside h =
     let (all, after, e) = closes (output f c (reverse gone)) out is h inside refl in
     record { all = all; after = subst (DecoderAfter Taken table now.last) (sym (no_copies c 0 now.last all is refl)) after; bytes_are = e }
 
@@ -238,9 +237,8 @@ pub long_read : {f c n m : ℕ} {start old new : Option (List ℕ)} {given : Lis
     → DecoderBetween f c l.gone m (Consumes start new) (filling table to now) → to.at < length now → length now ≤ p.undecoded
     → IsUnread f c n start new (given ++ take to.at (now ++ rest)) (record p { table = table; last = to.last; undecoded = p.undecoded - to.at })
 long_read {f} {c} {n} {m} {start} {old} {new} {given} {p} {out} {table} {to} now rest is h same l after inside fits =
-    let placed : InPlace = record { taken = 0; reached = to; run = 0 } in
     subst (λ k. IsUnread f c n start new (given ++ take to.at (now ++ rest)) (record p { table = table; last = to.last; run = k; undecoded = p.undecoded - to.at })) (sym same.1)
-    (piece_read l.gone now rest placed h same.0 l.so_far (piece_stops now 0 is inside after) (omega (arith, inside)) (omega (arith, inside, fits)))
+    (piece_read l.gone now rest to 0 h same.0 l.so_far (piece_stops now is inside after) (omega (arith, inside)) (omega (arith, inside, fits)))
 
 -- chunks were decoded into the front of what is kept
 pub kept_read : {f c n m : ℕ} {start old new : Option (List ℕ)} {given : List ℕ} {p : Unread} {out : List ℕ} {table : List ℕ} {to : Reached}
@@ -352,7 +350,7 @@ still_goes {f} {c} {n} {start} {now} {given} p is h whole some =
 pub read_two : (given front more : List ℕ) (i j : ℕ) → i ≤ length front → j ≤ length more
     → (given ++ take i front) ++ take j more ≡ given ++ take (i + j) (put_mid i (length front - i) front more)
 read_two given front more i j within some =
-    append_assoc given (take i front) (take j more) ∙ ap (λ z. given ++ z) (sym (take-read i j (length front - i) front more within some))
+    append_assoc given (take i front) (take j more) ∙ ap (λ z. given ++ z) (sym (front_put i j (length front - i) front more within some))
 
 -- what whole pixels are left of whole ones
 pub minus_whole : (c a b : ℕ) → IsChannels c → a % c ≡ 0 → b % c ≡ 0 → (a - b) % c ≡ 0

@@ -11,12 +11,11 @@ use Rattle.qoi.specs.Verdicts.{AreCut}
 use Rattle.qoi.specs.Decoding.{ReadsImage, TakesBytes, RefusesMarker, RefusesTakenMarker}
 use Rattle.qoi.specs.declared.error.Error.{Error}
 use Rattle.qoi.specs.declared.chunk.Chunk.{Chunk}
-use Rattle.qoi.proofs.format.ChunkSteps.{times_some, then_chunks-append, each_append}
+use Rattle.qoi.proofs.format.ChunkSteps.{times_some, then_chunks-append, each_append, all_append, chunk_bytes-last, length-meaning}
 use Rattle.std.proofs.lemmas.Grind.{flat_map-append}
 use Rattle.std.proofs.lemmas.List.{length-reverse, reverse-append}
 use Rattle.std.proofs.Math.Seq.{take-append-add}
 use Rattle.qoi.proofs.format.SomeVerdict.{reading_of}
-use Rattle.qoi.proofs.format.Appended.{all_append, chunk_bytes-last, length-meaning}
 use Rattle.qoi.proofs.format.WholePixels.{by_channels, whole_pixels}
 use Rattle.qoi.proofs.decoding.FilledBuffer.{counts, filled_all}
 use Rattle.qoi.proofs.format.SeenTable.{previous_copies}

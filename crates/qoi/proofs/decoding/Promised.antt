@@ -1,5 +1,13 @@
--- What a success and a refusal promise follows from what they mean.
-use Rattle.std.proofs.Common.{◌≡◌, ◌≤◌, ◌<◌, ◌+◌, ℕ, ◌*◌, List, [], take, length, Bool, Option, None, Some, IfSome, Ok, ◌-◌, ◌^◌, min, ◌++◌, drop, inl, inr, refl, sym, ◌∙◌, subst, ap, arith}
+-- What a success and a refusal promise follows from what they mean, also which errors refuse known
+-- bytes ahead of a decoder.
+use Rattle.std.proofs.Common.{◌≡◌, ℕ, List, Bool, true, false, Option, Some, inl, inr, refl, subst, ◌≤◌, ◌<◌, ◌+◌, ◌*◌, [], take, length, None, IfSome, Ok, ◌-◌, ◌^◌, min, ◌++◌, drop, sym, ◌∙◌, ap, arith}
+use Rattle.qoi.specs.declared.error.Error.{Error}
+use Rattle.qoi.specs.declared.error.Error.TheVariants.{UnexpectedBufferEnd, InvalidPadding, IoError}
+use Rattle.qoi.specs.Decoding.{RefusesBytes, RefusesImage, RefusesTaken, DecodesFile, ReadsImage, TakesHeader, RefusesFile, RefusesStreamHeader}
+use Rattle.qoi.specs.Verdicts.{AreWrong, AreCut, IsWhole}
+use Rattle.qoi.specs.Errors.{IsErrorOfCut, IsErrorOfWrong, IsIoError}
+use Rattle.qoi.proofs.decoding.StreamVerdicts.{cut_is_io_error, padding_is_wrong}
+use Rattle.qoi.proofs.format.OneVerdict.{cut_not_wrong, whole_not_cut, whole_not_wrong}
 use Rattle.std.proofs.Math.Nat.{mul_comm}
 use Rattle.std.proofs.lemmas.List.{append-nil, append_assoc, length-append, length-drop, take-append-drop, take_at}
 use Rattle.qoi.specs.declared.chunk.Chunk.{Chunk}
@@ -7,31 +15,69 @@ use Rattle.qoi.specs.declared.header.Header.{Header}
 use Rattle.qoi.specs.declared.types.Channels.{Channels}
 use Rattle.qoi.specs.declared.types.Channels.TheVariants.{Rgb, Rgba}
 use Rattle.qoi.specs.declared.types.Style.{Style}
-use Rattle.qoi.specs.declared.error.Error.{Error}
-use Rattle.qoi.specs.declared.error.Error.TheVariants.{IoError}
-use Rattle.qoi.specs.Errors.{IsIoError}
 use Rattle.qoi.specs.Qoi.{channels_number, pixel_count, header_size, header_of, IsValid, AreBytes, file}
 use Rattle.qoi.specs.Raw.{HasImageLength, capped_byte_count, image_byte_count, byte_count}
-use Rattle.qoi.specs.Decoding.{DecodesFile, ReadsImage, TakesHeader, RefusesBytes, RefusesFile, RefusesImage, RefusesStreamHeader}
 use Rattle.qoi.specs.DecoderState.{DecoderState, output_byte_count}
-use Rattle.qoi.specs.declared.decode.conversion.Conversion.{Conversion}
-use Rattle.qoi.specs.inner.Conversion.{conversion_of, ReadsIn, RefusesIn}
+use Rattle.qoi.specs.declared.decode.reader.Conversion.{Conversion}
+use Rattle.qoi.specs.inner.Chunks.{conversion_of, ReadsIn, RefusesIn}
 use Rattle.qoi.specs.Images.{front_image, front_rest, file_image, file_image_in, file_rest}
 use Rattle.qoi.specs.Reading.{IsImage}
 use Rattle.qoi.specs.Decoded.{HasHeader, HasRefusedHeader, HasDecoded, HasRefused, HasDecodedFile, HasRefusedFile}
 use Rattle.qoi.specs.Encoded.{IsFileOf}
-use Rattle.qoi.specs.Verdicts.{IsWhole}
 use Rattle.qoi.proofs.decoding.Ahead.{decoder_of, fault_ahead, file_ahead, header_front, header_read_from, file_from_image, fourth_of_image, image_not_cut, image_not_wrong, image_read_from}
-use Rattle.qoi.proofs.decoding.LeastBytes.{nine_taken, whole_holds}
-use Rattle.qoi.proofs.decoding.FrontImage.{file_image_is, file_rest_then, image_after, image_in_after, image_is, rest_is, some_pixels, three_of_front}
+use Rattle.qoi.proofs.decoding.TakenBytes.{nine_taken, whole_holds, read_within, refused_within}
+use Rattle.qoi.proofs.decoding.FrontImage.{file_image_is, file_rest_then, image_after, image_in_after, image_is, rest_is, some_pixels, three_of_front, decodes_after, decodes_more, file_has_header, file_is_whole, header_is_one}
 use Rattle.qoi.proofs.decoding.ImageSize.{bounded_by, channels_are, image_length, pixels_of_size}
-use Rattle.qoi.proofs.decoding.OneFile.{decodes_after, decodes_more, file_has_header, file_is_whole, header_is_one}
 use Rattle.qoi.proofs.format.HeaderBytes.{header_front as header_at_front}
-use Rattle.qoi.proofs.format.OneVerdict.{whole_not_cut, whole_not_wrong}
-use Rattle.qoi.proofs.decoding.RefusedBytes.{cut_in_memory, end_is_cut, wrong_in_memory, padding_is_only_wrong, refused_for_cut, refused_for_wrong}
 use Rattle.qoi.proofs.decoding.Refusals.{whole_not_refused, whole_not_refused_in}
 use Rattle.qoi.proofs.decoding.Tiles.{file_put}
-use Rattle.qoi.proofs.decoding.TakenBytes.{read_within, refused_within}
+
+-- cut bytes in memory are refused for their end
+pub cut_in_memory : (n : ℕ) (bytes : List ℕ) (e : Error) → AreCut n bytes → RefusesBytes n bytes e → e ≡ UnexpectedBufferEnd
+cut_in_memory n bytes UnexpectedBufferEnd cut why = refl
+cut_in_memory n bytes InvalidPadding (cs, part, cut) (rest, (ds, eight, wrong)) = absurd (cut_not_wrong n bytes cs ds part eight rest cut wrong)
+cut_in_memory n bytes _ cut none = absurd none
+
+-- wrong bytes in memory are refused for their padding
+pub wrong_in_memory : (n : ℕ) (bytes : List ℕ) (e : Error) → AreWrong n bytes → RefusesBytes n bytes e → e ≡ InvalidPadding
+wrong_in_memory n bytes InvalidPadding wrong why = refl
+wrong_in_memory n bytes UnexpectedBufferEnd (rest, (ds, eight, wrong)) (cs, part, cut) = absurd (cut_not_wrong n bytes cs ds part eight rest cut wrong)
+wrong_in_memory n bytes _ wrong none = absurd none
+
+-- a stream is refused for its padding or with an i/o error
+padding_or_io : (n : ℕ) (taken : List ℕ) (e : Error) → RefusesTaken n taken e → IsErrorOfWrong false e
+padding_or_io n taken (IoError x) why = inr tt
+padding_or_io n taken InvalidPadding why = inl refl
+padding_or_io n taken _ none = absurd none
+
+-- what refuses cut bytes
+pub refused_for_cut : (in_memory : Bool) (n : ℕ) (old new : Option (List ℕ)) (e : Error) (bytes : List ℕ) → old ≡ Some bytes → AreCut n bytes
+    → RefusesImage in_memory n old new e → IsErrorOfCut in_memory e
+refused_for_cut true n old new e bytes told cut refused =
+    cut_in_memory n bytes e cut (subst (λ z. RefusesImage true n z new e) told refused).1
+refused_for_cut false n old new e bytes told (cs, part, cut) refused =
+    cut_is_io_error n bytes cs part new e cut (subst (λ z. RefusesImage false n z new e) told refused)
+
+-- what refuses wrong bytes
+pub refused_for_wrong : (in_memory : Bool) (n : ℕ) (old new : Option (List ℕ)) (e : Error) (bytes : List ℕ) → old ≡ Some bytes
+    → AreWrong n bytes → RefusesImage in_memory n old new e → IsErrorOfWrong in_memory e
+refused_for_wrong true n old new e bytes told wrong refused =
+    wrong_in_memory n bytes e wrong (subst (λ z. RefusesImage true n z new e) told refused).1
+refused_for_wrong false n old new e bytes told wrong (taken, took, why) = padding_or_io n taken e why
+
+-- only cut bytes are refused for their end
+pub end_is_cut : (in_memory : Bool) (n : ℕ) (old new : Option (List ℕ)) (e : Error) (bytes : List ℕ) → old ≡ Some bytes → e ≡ UnexpectedBufferEnd
+    → RefusesImage in_memory n old new e → AreCut n bytes
+end_is_cut true n old new e bytes told is refused = (rw (told, is) at refused).1
+end_is_cut false n old new e bytes told is (taken, took, none) = absurd (rw is at none)
+
+-- only wrong bytes are refused for their padding
+pub padding_is_only_wrong : (in_memory : Bool) (n : ℕ) (old new : Option (List ℕ)) (e : Error) (bytes : List ℕ) → old ≡ Some bytes
+    → e ≡ InvalidPadding → RefusesImage in_memory n old new e → AreWrong n bytes
+padding_is_only_wrong true n old new e bytes told is refused = (rw (told, is) at refused).1
+padding_is_only_wrong false n old new e bytes told is (taken, took, why) =
+    let w = padding_is_wrong n bytes new taken (rw told at took) (rw is at why) in
+    (w.2, (w.0, w.1, w.3))
 
 -- what holds of known bytes
 pub if_known : (old : Option (List ℕ)) (P : List ℕ → Type 0) → ((bytes : List ℕ) → old ≡ Some bytes → P bytes) → IfSome old P

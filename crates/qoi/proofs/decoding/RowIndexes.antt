@@ -17,9 +17,8 @@ use Rattle.qoi.proofs.format.HeaderBytes.{header_front, header_split}
 use Rattle.std.proofs.Math.Nat.{mul_assoc, mul_comm}
 use Rattle.std.proofs.lemmas.Nat.{mul-le}
 use Rattle.qoi.proofs.format.WholePixels.{length-output}
-use Rattle.qoi.proofs.decoding.FrontImage.{image_is}
+use Rattle.qoi.proofs.decoding.FrontImage.{image_is, header_is_one}
 use Rattle.qoi.proofs.decoding.ImageSize.{channels_are}
-use Rattle.qoi.proofs.decoding.OneFile.{header_is_one}
 use Rattle.qoi.proofs.decoding.Places.{header_fits, stands_then}
 use Rattle.qoi.proofs.decoding.Promised.{has_refused_file}
 

@@ -1,15 +1,15 @@
 -- What a refusal says of bytes in memory.
-use Rattle.std.proofs.Common.{◌≡◌, ℕ, List, drop, Bool, true, false, IsTrue, Option, Some, Ok, Err, inl, inr, refl, sym, subst}
+use Rattle.std.proofs.Common.{◌≡◌, ℕ, List, drop, Bool, true, false, IsTrue, Option, Some, Ok, inl, inr, refl, sym, subst}
 use Rattle.qoi.specs.declared.error.Error.{Error}
 use Rattle.qoi.specs.declared.error.Error.TheVariants.{UnexpectedBufferEnd, InvalidPadding}
 use Rattle.qoi.specs.declared.header.Header.{Header}
 use Rattle.qoi.specs.Qoi.{pixel_count, header_of, header_size}
 use Rattle.qoi.specs.Decoding.{RefusesBytes}
 use Rattle.qoi.specs.DecoderState.{DecoderState}
-use Rattle.qoi.specs.Decoded.{HasHeader, HasDecoded, HasRefused, HasRefusedFile}
+use Rattle.qoi.specs.Decoded.{HasHeader, HasDecoded, HasRefused}
 use Rattle.qoi.specs.FrontFile.{IsNoFile}
 use Rattle.qoi.specs.Reading.{IsCutAhead, IsWrongAhead, SaysWhy}
-use Rattle.qoi.proofs.decoding.Promised.{has_refused_file, why_after}
+use Rattle.qoi.proofs.decoding.Promised.{why_after}
 
 -- bytes are refused for one of two reasons
 two_reasons : (h : Header) (bytes : List ℕ) (e : Error) → RefusesBytes (pixel_count h) bytes e → SaysWhy h bytes e
@@ -33,11 +33,6 @@ pub decoded_whole : {R : Type 0} (d : DecoderState R) {old new : Option (List �
 unfolding IsCutAhead IsWrongAhead
 decoded_whole d start told h = (h.not_cut start told, h.not_wrong start told)
 
--- bytes whose header is refused
-pub header_refused : (bytes : List ℕ) (e : Error) → header_of bytes ≡ Err e → IsNoFile bytes e
-unfolding IsNoFile
-header_refused bytes e refused = inl refused
-
 -- one of two reasons refuses bytes
 refuses : (h : Header) (bytes : List ℕ) (e : Error) → SaysWhy h bytes e → RefusesBytes (pixel_count h) bytes e
 unfolding IsCutAhead IsWrongAhead
@@ -55,8 +50,3 @@ file_refused d bytes e made why =
 pub why_no_file : (bytes : List ℕ) (e : Error) (h : Header) → IsNoFile bytes e → header_of bytes ≡ Ok h → SaysWhy h (drop header_size bytes) e
 unfolding IsNoFile
 why_no_file bytes e h refused read = two_reasons h (drop header_size bytes) e (why_after bytes e refused h read)
-
--- what such bytes promise
-pub refused_file : (bytes : List ℕ) (e : Error) → IsNoFile bytes e → HasRefusedFile bytes e
-unfolding IsNoFile
-refused_file bytes e refused = has_refused_file bytes e refused

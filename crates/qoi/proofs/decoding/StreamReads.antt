@@ -1,10 +1,7 @@
 -- What was read from a stream, piece after piece, and why an image is refused.
 use Rattle.std.proofs.Common.{◌≡◌, ◌≢◌, ℕ, zero, suc, ◌+◌, ◌<◌, ◌≤◌, ◌-◌, ◌⊎◌, inl, inr, List, [], ◌∷◌, ◌++◌, length, get_or, take, drop, take-append-drop, Option, arith, refl, sym, ap, ◌∙◌, append-nil}
-use Rattle.std.proofs.lemmas.List.{take-append-le, length-take-le}
-use Rattle.std.proofs.Math.Seq.{take-append-add}
 use Rattle.std.specs.Io.KnownBytes.{Consumes}
 use Rattle.std.proofs.KnownBytes.{Consumes-trans}
-use borrow.Rule.Slice.PartMut.{put_mid, post_of}
 use Rattle.qoi.specs.declared.error.Error.{Error}
 use Rattle.qoi.specs.declared.error.Error.TheVariants.{InvalidPadding, IoError, UnexpectedBufferEnd}
 use Rattle.qoi.specs.declared.chunk.Chunk.{Chunk}
@@ -17,25 +14,11 @@ use Rattle.qoi.specs.Verdicts.{IsPartOfChunk, AreCut, AreWrongThen}
 use Rattle.qoi.specs.Decoding.{RefusesBytes, RefusesMarker, RefusesTaken, RefusesTakenMarker}
 use Rattle.qoi.proofs.format.PartOfChunk.{byte_and, part_luma, part_rgb, part_rgba}
 
--- the front of a buffer after a read past what was filled
-pub take-read : (filled n k : ℕ) (buf piece : List ℕ) → filled ≤ length buf → n ≤ length piece
-    → take (filled + n) (put_mid filled k buf piece) ≡ take filled buf ++ take n piece
-take-read filled n k buf piece within fits =
-    let size = length-take-le filled buf within in
-    ap (λ z. take (z + n) (put_mid filled k buf piece)) (sym size) ∙ take-append-add (take filled buf) (piece ++ post_of filled k buf) n
-    ∙ ap (λ z. take filled buf ++ z) (take-append-le n piece (post_of filled k buf) fits)
-
--- and what it keeps of the front
-pub take-before : (filled k : ℕ) (buf piece : List ℕ) → filled ≤ length buf → take filled (put_mid filled k buf piece) ≡ take filled buf
-take-before filled k buf piece within = let e : filled + 0 ≡ filled = omega arith in ap (λ z. take z (put_mid filled k buf piece)) (sym e)
-    ∙ take-read filled 0 k buf piece within (omega arith) ∙ append-nil (take filled buf)
-
 -- the front of bytes is bytes
 pub bytes_take : (n : ℕ) (bytes : List ℕ) → AreBytes bytes → AreBytes (take n bytes)
-bytes_take zero bytes h i = omega arith
-bytes_take (suc n) [] h i = omega arith
 bytes_take (suc n) (b ∷ bytes) h zero = h 0
 bytes_take (suc n) (b ∷ bytes) h (suc i) = bytes_take n bytes (λ j. h (suc j)) i
+bytes_take n bytes h i = omega arith
 
 -- bytes and bytes are bytes
 pub bytes_append : (xs ys : List ℕ) → AreBytes xs → AreBytes ys → AreBytes (xs ++ ys)

@@ -1,17 +1,17 @@
--- How many bytes a decoder takes for n pixels.
-use Rattle.std.proofs.Common.{◌≡◌, inl, inr, ℕ, ◌+◌, ◌*◌, ◌<◌, ◌≤◌, List, [], ◌∷◌, ◌++◌, length, replicate, Bool, true, false, Option, Some, None, sym, ap, arith, length-append}
-use Rattle.std.specs.Io.KnownBytes.{Consumes, Keeps}
-use Rattle.qoi.specs.declared.error.Error.{Error}
-use Rattle.qoi.specs.declared.error.Error.TheVariants.{InvalidPadding, IoError}
-use Rattle.qoi.specs.Verdicts.{IsPartOfChunk, AreCut, AreWrongThen}
-use Rattle.qoi.specs.Decoding.{ReadsImage, RefusesImage}
-use Rattle.qoi.specs.DecoderState.{TakesAtMost}
+-- How many bytes a decoder takes for n pixels, and how many an image has at least.
+use Rattle.std.proofs.Common.{ℕ, ◌+◌, ◌*◌, ◌≤◌, List, [], ◌∷◌, ◌++◌, length, replicate, arith, ap, length-append, ◌≡◌, inl, inr, ◌<◌, Bool, true, false, Option}
 use Rattle.std.proofs.lemmas.List.{length-replicate}
 use Rattle.qoi.specs.declared.chunk.Chunk.{Chunk}
-use Rattle.qoi.specs.Qoi.{Past, AreChunks, bytes_of, chunk_bytes, times, pixel_after, then_chunk, Reaches, StayBelow, meaning, then_chunks, end_marker}
-use Rattle.qoi.proofs.format.Appended.{length-bytes_of, length-meaning}
+use Rattle.qoi.specs.declared.chunk.Chunk.TheVariants.{Run}
+use Rattle.qoi.specs.Qoi.{Past, IsChunk, AreChunks, bytes_of, chunk_bytes, times, pixel_after, then_chunk, then_chunks, end_marker, Reaches, StayBelow, meaning}
+use Rattle.qoi.specs.Verdicts.{IsWhole, IsPartOfChunk, AreCut, AreWrongThen}
+use Rattle.qoi.specs.Decoding.{least_byte_count, ReadsImage, RefusesImage}
+use Rattle.qoi.proofs.format.ChunkSteps.{length-bytes_of, length-meaning, times_some}
+use Rattle.std.proofs.KnownBytes.{Consumes-nil, Consumes-kept}
+use Rattle.qoi.specs.declared.error.Error.{Error}
+use Rattle.qoi.specs.declared.error.Error.TheVariants.{InvalidPadding, IoError}
+use Rattle.qoi.specs.DecoderState.{TakesAtMost}
 use Rattle.qoi.proofs.format.OneVerdict.{StayBelowAfter}
-use Rattle.qoi.proofs.format.ChunkSteps.{times_some}
 
 -- the pixels after a chunk are those before it and its own
 length-then_chunk : (past : Past) (c : Chunk) → length (then_chunk past c) ≡ times c + length past
@@ -97,15 +97,47 @@ read_within f c n old new out r = (
   omega (arith, reached_within n r.cs r.chunks r.reaches, length-append (chunk_bytes r.cs) end_marker),
 )
 
--- of unchanged bytes none were consumed
-keeps_all : (old new : Option (List ℕ)) → Keeps old new → Consumes old new []
-keeps_all None new k = tt
-keeps_all (Some xs) None k = absurd k
-keeps_all (Some xs) (Some ys) k = sym k
-
 -- a refused image is, too
 pub refused_within : (in_memory : Bool) (n : ℕ) (old new : Option (List ℕ)) (e : Error) → RefusesImage in_memory n old new e → TakesAtMost (5 * n + 8) old new
-refused_within true n old new e r = ([], keeps_all old new r.0, omega arith)
+refused_within true n old new e r = ([], Consumes-kept old old new [] (Consumes-nil old) r.0, omega arith)
 refused_within false n old new (IoError x) (taken, took, why) = (taken, took, cut_within n taken why)
 refused_within false n old new InvalidPadding (taken, took, why) = (taken, took, wrong_within n taken why)
 refused_within false n old new _ (taken, took, why) = absurd why
+
+-- a chunk gives 62 pixels at most
+pub times_most : (c : Chunk) → IsChunk c → times c ≤ 62
+times_most (Run n) is = is.1
+times_most c is = omega arith
+
+-- chunks give 62 pixels at most for each of their bytes
+pub pixels_most : (past : Past) (cs : List Chunk) → AreChunks cs → length (then_chunks past cs) ≤ length past + 62 * length (chunk_bytes cs)
+pixels_most past [] chunks = omega arith
+pixels_most past (c ∷ cs) chunks =
+    omega (
+      arith,
+      pixels_most (then_chunk past c) cs chunks.1,
+      times_most c chunks.0,
+      (length-bytes_of c).0,
+      length-append (bytes_of c) (chunk_bytes cs),
+      length-then_chunk past c,
+    )
+
+-- whole bytes are enough
+pub whole_holds : (n : ℕ) (bytes : List ℕ) (cs : List Chunk) (rest : List ℕ) → IsWhole n bytes cs rest → least_byte_count n ≤ length bytes
+whole_holds n bytes cs rest whole =
+    let most = pixels_most [] cs whole.has.chunks in
+    omega (arith, most, whole.enough, length-meaning cs, ap length whole.has.split, length-append (chunk_bytes cs) (end_marker ++ rest), length-append end_marker rest)
+
+-- an image and the end marker take nine bytes at least
+pub nine_taken : (n : ℕ) (bytes : List ℕ) (cs : List Chunk) (rest : List ℕ) → 1 ≤ n → IsWhole n bytes cs rest → length rest + 9 ≤ length bytes
+nine_taken n bytes cs rest some whole =
+    omega (
+      arith,
+      pixels_most [] cs whole.has.chunks,
+      some,
+      whole.enough,
+      length-meaning cs,
+      ap length whole.has.split,
+      length-append (chunk_bytes cs) (end_marker ++ rest),
+      length-append end_marker rest,
+    )

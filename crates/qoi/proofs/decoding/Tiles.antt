@@ -12,8 +12,7 @@ use Rattle.qoi.specs.Decoding.{DecodesFile}
 use Rattle.qoi.specs.Images.{file_image}
 use Rattle.qoi.specs.Tiles.{HasTile}
 use Rattle.qoi.proofs.decoding.Ahead.{file_ahead}
-use Rattle.qoi.proofs.decoding.FrontImage.{file_image_is}
-use Rattle.qoi.proofs.decoding.OneFile.{decodes_more}
+use Rattle.qoi.proofs.decoding.FrontImage.{file_image_is, decodes_more}
 
 -- a file at an offset
 tile_of : (bytes raw : List ℕ) (offset : ℕ) (h : Header) (rest : List ℕ) → DecodesFile (drop offset bytes) h rest raw → HasTile bytes offset raw

@@ -1,16 +1,15 @@
 -- Sixteen bytes at a time.
 use Rattle.std.proofs.Common.{◌≡◌, [], ◌∷◌, ℕ, ◌+◌, ◌-◌, ◌*◌, ◌/◌, ◌≤◌, List, ◌++◌, length, take, drop, set, get_or, replicate, arith, refl, sym, ap, ◌∙◌, append-nil, append_assoc}
-use Rattle.std.proofs.lemmas.List.{take-take, length-take-le, length-drop, length-set, length-replicate, take-replicate, replicate-append-replicate}
+use Rattle.std.proofs.lemmas.List.{take-take, length-take-le, length-set, length-replicate, take-replicate, replicate-append-replicate}
 use Rattle.std.proofs.lemmas.Grind.{flat_map-append, take-set_at}
 use Rattle.std.proofs.Math.Seq.{take-append-add}
-use Rattle.std.proofs.lemmas.Simd.{put_chunk_whole}
-use Rattle.std.proofs.lemmas.Slice.{take-put_mid}
 use borrow.Rule.Slice.PartMut.{put_mid}
 use lib.Lanes.{put_chunk}
 use Rattle.qoi.specs.Qoi.{RgbaPixel}
 use Rattle.qoi.specs.Raw.{IsChannels, pixel_bytes, output}
 use Rattle.qoi.specs.inner.Filling.{upto, HasWritten, HasCopies}
 use Rattle.qoi.specs.inner.Hashed.{pixel_of_lanes}
+use Rattle.qoi.proofs.format.LaneBytes.{bytes_put}
 use Rattle.qoi.proofs.format.WholePixels.{by_channels, take-output}
 
 -- the whole pixels of a vector
@@ -20,34 +19,13 @@ whole_of f c p bytes is = by_channels (λ d. bytes ≡ take 16 (output f d (repl
     → (take (d * (16 / d)) bytes ≡ output f d (replicate (16 / d) p)) × (d * (16 / d) ≤ 16) × (length bytes ≡ 16)) is (λ e. rw e (refl, omega arith, refl))
     (λ e. rw e (refl, omega arith, refl))
 
--- the front of a piece that was written stands after what was written before
-front_written : (at size c : ℕ) (out piece : List ℕ) → length piece ≡ size → at + size ≤ length out → c ≤ size
-    → take (at + c) (put_mid at (at + size - at) out piece) ≡ take at out ++ take c piece
-front_written at size c out piece is room within =
-    let new = put_mid at (at + size - at) out piece in
-    let all : take (at + size) new ≡ take at out ++ piece = take-put_mid at (at + size - at) out piece (at + size) (omega (arith, is)) (omega arith) in
-    let front : length (take at out) ≡ at = length-take-le at out (omega arith) in
-    sym (take-take (at + c) (at + size) new (omega arith)) ∙ ap (take (at + c)) all ∙ ap (λ n. take (n + c) (take at out ++ piece)) (sym front)
-    ∙ take-append-add (take at out) piece c
-
 -- the whole pixels of a vector stand after what was written before
 whole_written : (f c : ℕ) (p : RgbaPixel) (out bytes : List ℕ) (at : ℕ) → IsChannels c → at + 16 ≤ length out → bytes ≡ take 16 (output f c (replicate 6 p))
     → take (at + c * (16 / c)) (put_mid at (at + 16 - at) out (put_chunk 0 (take (at + 16 - at) (drop at out)) bytes)) ≡ take at out ++ output f c
     (replicate (16 / c) p)
 whole_written f c p out bytes at is room e =
     let whole = whole_of f c p bytes is e in
-    let size : at + 16 - at ≡ 16 = omega arith in
-    let part = take (at + 16 - at) (drop at out) in
-    let held : length part ≡ length bytes = omega (
-      arith,
-      whole.2,
-      size,
-      length-take-le (at + 16 - at) (drop at out) (omega (arith, length-drop at out)),
-      length-drop at out,
-    ) in
-    let put : put_chunk 0 part bytes ≡ bytes = put_chunk_whole part bytes held in
-    front_written at 16 (c * (16 / c)) out (put_chunk 0 part bytes) (ap length put ∙ whole.2) room whole.1
-    ∙ ap (λ z. take at out ++ take (c * (16 / c)) z) put ∙ ap (λ z. take at out ++ z) whole.0
+    bytes_put 16 at (c * (16 / c)) out bytes room whole.2 whole.1 ∙ ap (λ z. take at out ++ z) whole.0
 
 -- copies of a pixel were written, and then more of them
 pub written_copies : {f c : ℕ} {old mid new : List ℕ} (px at j k n : ℕ) → IsChannels c → n ≡ j + k → HasCopies f c at j px old mid → HasCopies f c (at + c * j) k px mid new

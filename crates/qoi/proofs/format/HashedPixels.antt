@@ -42,10 +42,14 @@ alpha_alone s =
     split : s ≡ s / 2 ^ 48 * 2 ^ 48 + s % 2 ^ 48
     split = omega arith
 
--- a number to which alpha is added, and its pixel, whose other channels are those of four lanes
-pub record WithAlpha (t four a : ℕ) : Type 0 where
-  pub pixel_is : pixel_of_lanes t ≡ pixel (four % 2 ^ 8) (four / 2 ^ 16 % 2 ^ 8) (four / 2 ^ 32 % 2 ^ 8) a
+-- the number is that of this pixel
+pub record IsNumberOf (t : ℕ) (p : RgbaPixel) : Type 0 where
+  pub pixel_is : pixel_of_lanes t ≡ p
   pub is_hashed : IsHashed t
+
+-- the pixel of four lanes, but with this alpha
+abbrev with_a : ℕ → ℕ → RgbaPixel
+with_a four a = pixel (four % 2 ^ 8) (four / 2 ^ 16 % 2 ^ 8) (four / 2 ^ 32 % 2 ^ 8) a
 
 -- alpha's share of the index position
 alpha_share : (r g b a place : ℕ) → place ≡ 4 * ((3 * r + 5 * g + 7 * b + 11 * 0) % 64) → (place + 44 * a) % 2 ^ 8 ≡ 4 * ((3 * r + 5 * g + 7 * b + 11 * a) % 64)
@@ -56,7 +60,7 @@ product_is : (t w a : ℕ) → w / 2 ^ 48 % 2 ^ 8 ≡ 0 → t ≡ (a * 2 ^ 48 * 
 product_is t w a none e = omega (arith, none, e)
 
 -- the number of three lanes, with alpha
-with_alpha : (t w a : ℕ) → a < 2 ^ 8 → IsHashed w → w / 2 ^ 48 % 2 ^ 8 ≡ 0 → t ≡ (a * 2 ^ 48 * 0x2c01 % 2 ^ 64 + w) % 2 ^ 64 → WithAlpha t w a
+with_alpha : (t w a : ℕ) → a < 2 ^ 8 → IsHashed w → w / 2 ^ 48 % 2 ^ 8 ≡ 0 → t ≡ (a * 2 ^ 48 * 0x2c01 % 2 ^ 64 + w) % 2 ^ 64 → IsNumberOf t (with_a w a)
 unfolding hash
 with_alpha t w a la hashed none e =
     let sum = product_is t w a none e in
@@ -65,7 +69,7 @@ with_alpha t w a la hashed none e =
     let blue : t / 2 ^ 32 % 2 ^ 8 ≡ w / 2 ^ 32 % 2 ^ 8 = omega (arith, sum) in
     let alpha : t / 2 ^ 48 % 2 ^ 8 ≡ a = omega (arith, sum, la) in
     let high : t / 2 ^ 56 ≡ (w / 2 ^ 56 + 44 * a) % 2 ^ 8 = omega (arith, sum, la) in
-    let px : pixel_of_lanes t ≡ pixel (w % 2 ^ 8) (w / 2 ^ 16 % 2 ^ 8) (w / 2 ^ 32 % 2 ^ 8) a = same_pixel _ _ red green blue alpha in
+    let px : pixel_of_lanes t ≡ with_a w a = same_pixel _ _ red green blue alpha in
     let place : w / 2 ^ 56 ≡ 4 * ((3 * (w % 2 ^ 8) + 5 * (w / 2 ^ 16 % 2 ^ 8) + 7 * (w / 2 ^ 32 % 2 ^ 8) + 11 * 0) % 64) = hashed ∙ ap (λ z. 4 * ((3 * (w % 2 ^ 8) + 5 * (w / 2 ^ 16 % 2 ^ 8) + 7 * (w / 2 ^ 32 % 2 ^ 8) + 11 * z) % 64)) none in
     record {
       pixel_is = px;
@@ -74,7 +78,7 @@ with_alpha t w a la hashed none e =
 
 -- the number after an RGB chunk: three of the four lanes that are read, and the last pixel's alpha
 pub after_rgb : (s keep four read w : ℕ) → keep ≡ alpha_mask → read ≡ 2 ^ 48 - 1 → IsHashed w → pixel_of_lanes w ≡ pixel_of_lanes (bit_and four read)
-    → WithAlpha ((bit_and s keep * 0x2c01 % 2 ^ 64 + w) % 2 ^ 64) four (s / 2 ^ 48 % 2 ^ 8)
+    → IsNumberOf ((bit_and s keep * 0x2c01 % 2 ^ 64 + w) % 2 ^ 64) (with_a four (s / 2 ^ 48 % 2 ^ 8))
 after_rgb s keep four read w is_keep is_read hashed same =
     let kept : bit_and s keep ≡ s / 2 ^ 48 % 2 ^ 8 * 2 ^ 48 = ap (λ m. bit_and s m) is_keep ∙ alpha_alone s in
     let lanes : bit_and four read ≡ four % 2 ^ 48 = ap (λ m. bit_and four m) is_read ∙ and_mask four 48 in
@@ -99,13 +103,8 @@ after_rgba s keep w is_keep hashed =
 top_alone : (s : ℕ) → s < 2 ^ 64 → bit_and s top_mask ≡ s / 2 ^ 56 * 2 ^ 56
 top_alone s l = omega (arith, and_high_numeral s 0xfeffffffffffffff refl l)
 
--- four lanes with the index position that their product has
-pub record PlacedLanes (t l : ℕ) : Type 0 where
-  pub pixel_is : pixel_of_lanes t ≡ pixel_of_lanes l
-  pub is_hashed : IsHashed t
-
--- the index position is added to the lanes
-pub placed_lanes : (l mask : ℕ) → IsPlain l → mask ≡ top_mask → PlacedLanes ((l + bit_and (l * 0x0c0014001c002c00 % 2 ^ 64) mask) % 2 ^ 64) l
+-- the index position, which the product has, is added to the lanes
+pub placed_lanes : (l mask : ℕ) → IsPlain l → mask ≡ top_mask → IsNumberOf ((l + bit_and (l * 0x0c0014001c002c00 % 2 ^ 64) mask) % 2 ^ 64) (pixel_of_lanes l)
 unfolding hash
 placed_lanes l mask plain is =
     let place = l * 0x0c0014001c002c00 % 2 ^ 64 / 2 ^ 56 in
@@ -137,11 +136,6 @@ hash_moved : (p : RgbaPixel) (r g b k : ℕ) → k % 64 ≡ (3 * r + 5 * g + 7 *
 unfolding hash
 hash_moved p r g b k e = omega arith
 
--- a number after a sum, and its pixel
-pub record Sum (s t r g b : ℕ) : Type 0 where
-  pub pixel_is : pixel_of_lanes t ≡ moved (pixel_of_lanes s) r g b
-  pub is_hashed : IsHashed t
-
 -- the highest bits of a sum
 high_sum : (t u i k : ℕ) → u < 2 ^ 56 → t ≡ (u + (4 * i + 4 * k) * 2 ^ 56) % 2 ^ 64 → t / 2 ^ 56 ≡ 4 * ((i + k) % 64)
 high_sum t u i k lu e = omega (arith, lu, e)
@@ -161,7 +155,7 @@ alpha_lane t u a high lu la e = omega arith
 
 -- numbers that are added in their lanes move the pixel, and with it the index position
 pub sum_is : (s t r g b k : ℕ) → s < 2 ^ 64 → IsHashed s → r ≤ 1000 → g ≤ 1000 → b ≤ 1000 → k % 64 ≡ (3 * r + 5 * g + 7 * b) % 64
-    → t ≡ (bit_and s lane_mask + r + g * 2 ^ 16 + b * 2 ^ 32 + 4 * k * 2 ^ 56) % 2 ^ 64 → Sum s t r g b
+    → t ≡ (bit_and s lane_mask + r + g * 2 ^ 16 + b * 2 ^ 32 + 4 * k * 2 ^ 56) % 2 ^ 64 → IsNumberOf t (moved (pixel_of_lanes s) r g b)
 sum_is s t r g b k l h lr lg lb position e =
     let red = s % 2 ^ 8 + r in
     let green = s / 2 ^ 16 % 2 ^ 8 + g in
@@ -220,21 +214,21 @@ short_sum {b} {e} {table} {s} {own} {more} {entry} {t} p l hashed fits sum = (
     place low = omega (arith, p.none low, p.no_more (inl (omega (arith, low))), fits, sum)
 
     moves : (x y z k : ℕ) → 64 ≤ b → x ≤ 1000 → y ≤ 1000 → z ≤ 1000 → k % 64 ≡ (3 * x + 5 * y + 7 * z) % 64
-        → entry + more ≡ x + y * 2 ^ 16 + z * 2 ^ 32 + 4 * k * 2 ^ 56 → Sum s t x y z
+        → entry + more ≡ x + y * 2 ^ 16 + z * 2 ^ 32 + 4 * k * 2 ^ 56 → IsNumberOf t (moved (pixel_of_lanes s) x y z)
     moves x y z k low lx ly lz position is = sum_is s t x y z k l hashed lx ly lz position (omega (arith, p.kept low, is, sum))
 
-    diff : 64 ≤ b → b < 128 → Sum s t (b / 16 % 4 + 254) (b / 4 % 4 + 254) (b % 4 + 254)
+    diff : 64 ≤ b → b < 128 → IsNumberOf t (moved (pixel_of_lanes s) (b / 16 % 4 + 254) (b / 4 % 4 + 254) (b % 4 + 254))
     diff low high =
         moves _ _ _ ((3 * (b / 16 % 4 + 254) + 5 * (b / 4 % 4 + 254) + 7 * (b % 4 + 254)) % 64) low
         (omega arith) (omega arith) (omega arith) (omega arith) (omega (arith, (p.added low).diff low high, p.no_more (inl high)))
 
-    luma : 128 ≤ b → b < 192 → Sum s t (b % 64 + e / 16 + 216) (b % 64 + 224) (b % 64 + e % 16 + 216)
+    luma : 128 ≤ b → b < 192 → IsNumberOf t (moved (pixel_of_lanes s) (b % 64 + e / 16 + 216) (b % 64 + 224) (b % 64 + e % 16 + 216))
     luma low high =
         let some : 64 ≤ b = omega (arith, low) in
         moves _ _ _ ((3 * (b % 64 + 216) + 5 * (b % 64 + 224) + 7 * (b % 64 + 216)) % 64 + (3 * (e / 16) + 5 * 0 + 7 * (e % 16)) % 64) some
         (omega (arith, p.luma low high)) (omega arith) (omega arith) (omega arith) (omega (arith, (p.added some).luma low high, p.luma low high))
 
-    run : 192 ≤ b → Sum s t 0 0 0
+    run : 192 ≤ b → IsNumberOf t (moved (pixel_of_lanes s) 0 0 0)
     run low =
         let some : 64 ≤ b = omega (arith, low) in
         moves 0 0 0 0 some (omega arith) (omega arith) (omega arith) (omega arith) (omega (arith, (p.added some).run low, p.no_more (inr low)))

@@ -1,5 +1,5 @@
 -- The lowest bit that isn't set, where bits say which lanes of two vectors agree.
-use Rattle.std.proofs.Common.{◌≡◌, ℕ, zero, suc, ◌+◌, ◌-◌, ◌*◌, ◌/◌, ◌%◌, ◌^◌, ◌<◌, ◌≤◌, Bool, true, false, cond, eqb, List, [], ◌∷◌, length, refl, ap, ◌∙◌, arith, pow_mono}
+use Rattle.std.proofs.Common.{◌≡◌, ℕ, zero, suc, ◌+◌, ◌-◌, ◌*◌, ◌/◌, ◌%◌, ◌^◌, ◌<◌, ◌≤◌, Bool, true, false, cond, eqb, List, ◌∷◌, length, refl, ap, ◌∙◌, arith, pow_mono}
 use Rattle.std.specs.List.{common_prefix_len}
 use Rattle.std.proofs.Math.Nat.{pow-suc}
 use Rattle.std.proofs.lemmas.Simd.{mask_l-lt}
@@ -24,16 +24,12 @@ clear_step k false m n c l h f = odd_under n (count_trailing_zeros k (n / 2)) (o
 pub first_clear : (k : ℕ) (xs ys : List ℕ) (n : ℕ) → length (zip2 eqb xs ys) ≤ k → n ≡ 2 ^ k - 1 - mask_l (zip2 eqb xs ys)
     → count_trailing_zeros k n ≡ common_prefix_len eqb xs ys
 unfolding count_trailing_zeros
-first_clear zero [] ys n l h = refl
-first_clear zero (x ∷ xs) [] n l h = refl
 first_clear zero (x ∷ xs) (y ∷ ys) n l h = absurd (omega arith)
-first_clear (suc k) [] ys n l h =
-    let some : 2 ^ 0 ≤ 2 ^ k = pow_mono {i = 0} {j = k} (omega arith) in
-    odd_under n (count_trailing_zeros k (n / 2)) (omega (arith, pow-suc 2 k))
-first_clear (suc k) (x ∷ xs) [] n l h =
-    let some : 2 ^ 0 ≤ 2 ^ k = pow_mono {i = 0} {j = k} (omega arith) in
-    odd_under n (count_trailing_zeros k (n / 2)) (omega (arith, pow-suc 2 k))
+first_clear zero xs ys n l h = refl
 first_clear (suc k) (x ∷ xs) (y ∷ ys) n l h =
     let few : length (zip2 eqb xs ys) ≤ k = omega arith in
     clear_step k (eqb x y) (mask_l (zip2 eqb xs ys)) n (common_prefix_len eqb xs ys)
     (omega (arith, mask_l-lt (zip2 eqb xs ys), pow_mono few)) h (first_clear k xs ys (n / 2) few)
+first_clear (suc k) xs ys n l h =
+    let some : 2 ^ 0 ≤ 2 ^ k = pow_mono {i = 0} {j = k} (omega arith) in
+    odd_under n (count_trailing_zeros k (n / 2)) (omega (arith, pow-suc 2 k))

@@ -5,7 +5,7 @@ use Rattle.qoi.specs.declared.chunk.Chunk.{Chunk}
 use Rattle.qoi.specs.declared.chunk.Chunk.TheVariants.{Place, Diff, Luma, Run, Rgb, Rgba}
 use Rattle.qoi.specs.Qoi.{Past, IsChunk, AreChunks, bytes_of, chunk_bytes, then_chunk, Each, then_chunks, meaning, end_marker}
 use Rattle.qoi.specs.Verdicts.{IsPartOfChunk, HasChunks, IsWhole, IsCut, IsWrong}
-use Rattle.qoi.proofs.format.Appended.{length-meaning}
+use Rattle.qoi.proofs.format.ChunkSteps.{length-meaning}
 
 -- equal bytes begin with the same chunk, and go on the same
 pub chunks_apart : (c d : Chunk) (x y : List ℕ) → IsChunk c → IsChunk d → bytes_of c ++ x ≡ bytes_of d ++ y → (c ≡ d) × (x ≡ y)

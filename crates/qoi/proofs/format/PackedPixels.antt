@@ -1,10 +1,9 @@
 -- Pixels as single numbers of 32 bits.
-use Rattle.std.proofs.Common.{◌≡◌, ℕ, ◌+◌, ◌*◌, ◌/◌, ◌%◌, ◌^◌, ◌<◌, ◌≤◌, List, ◌∷◌, length, take, arith, refl, ap, ◌∙◌}
-use lib.Lanes.{number_l}
+use Rattle.std.proofs.Common.{◌≡◌, ℕ, ◌+◌, ◌*◌, ◌/◌, ◌%◌, ◌^◌, ◌<◌, arith, refl, ap, ◌∙◌}
 use Rattle.std.specs.Int.Bits.{bit_and, bit_or, and_zero_r}
 use Rattle.std.proofs.lemmas.Grind.{or_after_shift}
 use Rattle.std.proofs.lemmas.Nat.{and_block, and_mask}
-use Rattle.qoi.specs.Qoi.{AreBytes, RgbaPixel, IsPixel, rgba, hash}
+use Rattle.qoi.specs.Qoi.{RgbaPixel, IsPixel, hash}
 use Rattle.qoi.proofs.format.SamePixels.{same_pixel}
 use Rattle.qoi.specs.inner.Packed.{word, pixel_of_word}
 
@@ -21,12 +20,6 @@ product_hash p = spread p * 0x0c00_1c00_0014_002c % 2 ^ 64 / 2 ^ 58
 pub unpacked : (p : RgbaPixel) → IsPixel p → pixel_of_word (word p) ≡ p
 unpacked p i = same_pixel _ p (omega (arith, i.r, i.g, i.b, i.a)) (omega (arith, i.r, i.g, i.b, i.a)) (omega (arith, i.r, i.g, i.b, i.a))
     (omega (arith, i.r, i.g, i.b, i.a))
-
--- four bytes read as one number mean their pixel
-pub loaded : (bytes : List ℕ) → AreBytes bytes → 4 ≤ length bytes → pixel_of_word (number_l 256 (take 4 bytes) % 2 ^ 32) ≡ rgba (take 4 bytes)
-loaded (r ∷ g ∷ b ∷ a ∷ bytes) h l = same_pixel _ _ (omega (arith, h 0, h 1, h 2, h 3)) (omega (arith, h 0, h 1, h 2, h 3))
-    (omega (arith, h 0, h 1, h 2, h 3)) (omega (arith, h 0, h 1, h 2, h 3))
-loaded _ h l = absurd (omega arith)
 
 -- green and alpha of a number of four bytes
 second_bytes : (a b g r : ℕ) → b < 2 ^ 8 → g < 2 ^ 8 → r < 2 ^ 8 → bit_and (((a * 2 ^ 8 + b) * 2 ^ 8 + g) * 2 ^ 8 + r) 0xff00ff00 ≡ ((a % 2 ^ 8 * 2 ^ 8) * 2 ^ 8 + g) * 2 ^ 8

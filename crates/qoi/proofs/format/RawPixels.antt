@@ -1,5 +1,5 @@
 -- The pixels of raw bytes: they are pixels, of as many channels, and give the bytes back.
-use Rattle.std.proofs.Common.{◌≡◌, inl, inr, ℕ, zero, suc, ◌*◌, ◌<◌, List, [], ◌∷◌, ◌++◌, length, refl, sym, ap, ◌∙◌, arith}
+use Rattle.std.proofs.Common.{◌≡◌, inl, inr, ℕ, zero, suc, ◌*◌, ◌<◌, List, [], ◌∷◌, ◌++◌, length, take, slice_set, refl, sym, ap, ◌∙◌, arith}
 use Rattle.std.specs.List.{AllByRecursion}
 use Rattle.qoi.specs.Qoi.{RgbaPixel, IsPixel, pixel}
 use Rattle.qoi.specs.Raw.{IsChannels, output, pixels_of_3, pixels_of_4, pixels_of, AreOpaque, HasChannels}
@@ -70,3 +70,8 @@ pub pixels_of-append : (channels n : ℕ) (xs ys : List ℕ) → IsChannels chan
     → pixels_of channels (xs ++ ys) ≡ pixels_of channels xs ++ pixels_of channels ys
 pixels_of-append channels n xs ys is = by_channels (λ c. length xs ≡ c * n → pixels_of c (xs ++ ys) ≡ pixels_of c xs ++ pixels_of c ys) is
     (append_3 xs ys n) (append_4 xs ys n)
+
+-- four bytes after a write to the last one: the first three and the new one
+pub set_last : (n : ℕ) (xs : List ℕ) (v : ℕ) → length xs ≡ n → n ≡ 4 → slice_set xs 3 v ≡ take n (take 3 xs ++ v ∷ [])
+set_last n (r ∷ g ∷ b ∷ a ∷ []) v h e = rw e refl
+set_last n _ v h e = absurd (omega arith)

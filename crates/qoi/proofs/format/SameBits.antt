@@ -19,8 +19,6 @@ compared_bits xs ys e l = ap (λ ms. mask_l ms % 2 ^ 64) (tops_compared w8 eqb x
 pub parted : (n : ℕ) (xs ys : List ℕ) → n ≤ length xs → n ≤ length ys
     → same_bits xs ys ≡ same_bits (take n xs) (take n ys) + 2 ^ n * same_bits (drop n xs) (drop n ys)
 parted zero xs ys l m = omega arith
-parted (suc n) [] ys l m = absurd (omega arith)
-parted (suc n) (x ∷ xs) [] l m = absurd (omega arith)
 parted (suc n) (x ∷ xs) (y ∷ ys) l m =
     let rest = same_bits (drop n xs) (drop n ys) in
     let power : 2 ^ suc n * rest ≡ 2 * (2 ^ n * rest) = doubled n rest in
@@ -28,6 +26,7 @@ parted (suc n) (x ∷ xs) (y ∷ ys) l m =
   where
     doubled : (n m : ℕ) → 2 ^ suc n * m ≡ 2 * (2 ^ n * m)
     doubled n m = rw (pow-suc 2 n) (omega arith)
+parted n xs ys l m = absurd (omega arith)
 
 -- beside `[]` no bits are set
 pub none_beside : (xs : List ℕ) → same_bits xs [] ≡ 0

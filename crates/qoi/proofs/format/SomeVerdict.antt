@@ -10,7 +10,7 @@ use Rattle.qoi.specs.Qoi.{AreBytes, Past, IsChunk, AreChunks, bytes_of, chunk_by
 use Rattle.qoi.specs.Verdicts.{IsPartOfChunk, HasChunks, IsWhole, IsWrong, AreCut}
 use Rattle.qoi.proofs.format.PartOfChunk.{part_empty, part_luma, part_rgb, part_rgba}
 use Rattle.qoi.proofs.format.OneVerdict.{StayBelowAfter, EndsChunks}
-use Rattle.qoi.proofs.format.Appended.{length-bytes_of, length-meaning}
+use Rattle.qoi.proofs.format.ChunkSteps.{length-bytes_of, length-meaning}
 
 -- what follows some bytes is bytes
 pub bytes_after_front : (front rest : List ℕ) → AreBytes (front ++ rest) → AreBytes rest

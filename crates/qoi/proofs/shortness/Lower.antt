@@ -1,16 +1,22 @@
--- No regular chunk list of an image has fewer bytes than its pixels cost.
-use Rattle.std.proofs.Common.{◌≡◌, ◌⊎◌, inl, inr, ℕ, ◌+◌, ◌≤◌, false, List, [], ◌∷◌, ◌++◌, length, reverse, refl, sym, ap, ◌∙◌, arith}
-use Rattle.std.proofs.lemmas.List.{length-append, reverse-append, reverse-reverse}
+-- No regular chunk list of an image has fewer bytes than its pixels cost, and no list at all fewer than
+-- the tight one.
+use Rattle.std.proofs.Common.{◌≡◌, ◌⊎◌, inl, inr, ℕ, ◌+◌, ◌≤◌, true, false, ◌&&◌, List, [], ◌∷◌, length, reverse, None, is_some, refl, sym, ap, ◌∙◌, append-nil, arith, ◌++◌}
+use Rattle.std.proofs.lemmas.Bool.{cond-true, and_from}
 use Rattle.qoi.specs.declared.chunk.Chunk.{Chunk}
 use Rattle.qoi.specs.declared.chunk.Chunk.TheVariants.{Place, Diff, Luma, Run, Rgb, Rgba}
-use Rattle.qoi.specs.Qoi.{RgbaPixel, Past, previous, seen, IsChunk, AreChunks, pixel_after, bytes_of, chunk_bytes, then_chunk, then_chunks, meaning, Each}
-use Rattle.qoi.specs.Regular.{NamesPixelThere, Regular, Begins}
+use Rattle.qoi.specs.Qoi.{RgbaPixel, Past, pixel_eq, blank, previous, seen, hash, IsChunk, AreChunks, pixel_after, bytes_of, chunk_bytes, then_chunk, meaning, Each, then_chunks}
+use Rattle.qoi.specs.Raw.{HasChannels}
+use Rattle.qoi.specs.Regular.{Begins, NamesPixelThere, Regular}
 use Rattle.qoi.specs.Shortest.{least, cost, total_cost, floor}
-use Rattle.qoi.proofs.format.Appended.{length-bytes_of}
-use Rattle.qoi.proofs.format.SamePixels.{cases_pixel}
+use Rattle.qoi.specs.Written.{GivesFresh, IsAllowedAfter, WrittenBy}
 use Rattle.qoi.specs.Styles.{is_run}
-use Rattle.qoi.proofs.format.ChunkSteps.{cases_run, then_other}
-use Rattle.qoi.proofs.shortness.Costs.{some_diff-from, some_luma-from, bounds, cost_fresh, cost_repeat, cost_run}
+use Rattle.qoi.specs.Tight.{is_unseen, least_unseen, IsTightChoice, least0, floor0}
+use Rattle.qoi.proofs.format.SamePixels.{cases_pixel, pixel_eq-from, pixel_eq-true}
+use Rattle.qoi.proofs.encoding.styles.TightChoice.{unseen_blank, unseen_or, unseen_some, by_tight}
+use Rattle.qoi.proofs.shortness.Costs.{bounds, cost_fresh, cost_repeat, some_diff-from, some_luma-from, cost_run}
+use Rattle.qoi.proofs.shortness.Upper.{first_least, upper_by}
+use Rattle.std.proofs.lemmas.List.{length-append, reverse-append, reverse-reverse}
+use Rattle.qoi.proofs.format.ChunkSteps.{length-bytes_of, cases_run, then_other}
 
 -- a chunk other than a run is no shorter than the least of its pixel
 pub least_bounds : (past : Past) (c : Chunk) → IsChunk c → NamesPixelThere past c → is_run c ≡ false → least past (pixel_after past c) ≤ length (bytes_of c)
@@ -71,3 +77,70 @@ module _ (shortest : Past → RgbaPixel → ℕ) (Allowed : Past → Chunk → T
 -- no regular chunk list that begins with an image has fewer bytes than the image's floor
 pub lower : (image : List RgbaPixel) (cs : List Chunk) → AreChunks cs → Regular cs → Begins (meaning cs) image → floor image ≤ length (chunk_bytes cs)
 lower image cs k r b = lower_by least NamesPixelThere least_bounds image cs k r b
+
+-- a fresh pixel costs at least a byte
+least0_low : (past : Past) (p : RgbaPixel) → 1 ≤ least0 past p
+unfolding least0
+least0_low past p = grind (arith, bounds past p)
+
+-- and no more than in a regular list
+least0_high : (past : Past) (p : RgbaPixel) → least0 past p ≤ least past p
+unfolding least0
+least0_high past p = grind (arith, bounds past p)
+
+-- transparent black costs a byte if a position is unseen
+least0_unseen : (past : Past) (p : RgbaPixel) → p ≡ blank → is_some (least_unseen past) ≡ true → least0 past p ≡ 1
+unfolding least0
+least0_unseen past p b u = cond-true (pixel_eq p blank && is_some (least_unseen past)) 1 (least past p) (and_from _ _ (pixel_eq-from p blank b) u)
+
+-- else a pixel costs its `least`
+least0_same : (past : Past) (p : RgbaPixel) → (p ≡ blank → least_unseen past ≡ None) → least0 past p ≡ least past p
+unfolding least0
+least0_same past p other = grind (arith, other, pixel_eq-true p blank)
+
+-- a chunk other than a run is no shorter than its pixel costs
+least0_bounds : (past : Past) (c : Chunk) → IsChunk c → Unit {0} → is_run c ≡ false → least0 past (pixel_after past c) ≤ length (bytes_of c)
+least0_bounds past (Place i) k _ o = go (unseen_or past i)
+  where
+    go : (is_unseen past i ≡ true) ⊎ (hash (seen past i) ≡ i) → least0 past (seen past i) ≤ 1
+    go (inl e) = let h = least0_unseen past (seen past i) (unseen_blank past i e) (unseen_some past i k e) in omega arith
+    go (inr h) = let a = least0_high past (seen past i) in let b = (bounds past (seen past i)).place (ap (seen past) h) in omega arith
+least0_bounds past c k _ o = let a = least0_high past (pixel_after past c) in let b = least_bounds past c k tt o in omega arith
+
+-- each list is allowed
+each_allowed : (past : Past) (cs : List Chunk) → Each (λ past c. Unit {0}) past cs
+each_allowed past [] = tt
+each_allowed past (c ∷ cs) = (tt, each_allowed (then_chunk past c) cs)
+
+-- no chunk list that begins with an image has fewer bytes than its pixels cost
+pub lower0 : (image : List RgbaPixel) (cs : List Chunk) → AreChunks cs → Begins (meaning cs) image → floor0 image ≤ length (chunk_bytes cs)
+lower0 image cs k b = lower_by least0 (λ past c. Unit {0}) least0_bounds image cs k (each_allowed [] cs) b
+
+-- a fresh pixel's chunk is no longer than it costs
+tight_cost : (past : Past) (c : Chunk) → IsChunk c → HasChannels (then_chunk past c) 4 → is_run c ≡ false → GivesFresh IsTightChoice past c
+    → IsAllowedAfter IsTightChoice past c → length (bytes_of c) + 0 ≤ least0 past (pixel_after past c) + 0
+tight_cost past c k h o g r =
+    by_tight (λ past p c. IsChunk c → length (bytes_of c) + 0 ≤ least0 past p + 0) past (pixel_after past c) c g.is_chosen
+    (λ e _. let l = least0_low past (pixel_after past c) in omega arith)
+    (λ i n b e _. let l = least0_low past (pixel_after past c) in omega arith)
+    (λ n other f i. let l = first_least past (pixel_after past c) c i f n in let s = least0_same past (pixel_after past c) other in omega arith)
+    k
+
+-- so the tight list has just as many bytes
+pub tight_exact : (image : List RgbaPixel) (cs : List Chunk) → WrittenBy IsTightChoice image cs → length (chunk_bytes cs) ≡ floor0 image
+tight_exact image cs w =
+    let u = upper_by least0 IsTightChoice (λ past. 0) (λ past p. omega arith) 4 tight_cost image cs (inl refl) w in
+    let l = lower0 image cs w.chunks ([], w.means ∙ sym (append-nil image)) in
+    omega arith
+
+-- if a pixel's shortest chunk is no longer, pixels cost no more
+costs_less : (s t : Past → RgbaPixel → ℕ) → ((past : Past) (p : RgbaPixel) → s past p ≤ t past p) → (past : Past) → total_cost s past ≤ total_cost t past
+costs_less s t less [] = omega arith
+costs_less s t less (p ∷ past) = let more = costs_less s t less past in omega (arith, one)
+  where
+    one : cost s past p ≤ cost t past p
+    one = grind (arith, cost_repeat s past p, cost_repeat t past p, cost_fresh s past p, cost_fresh t past p, cases_pixel p (previous past), less past p)
+
+-- so the floor isn't higher than for regular lists
+pub floor0_high : (image : List RgbaPixel) → floor0 image ≤ floor image
+floor0_high image = costs_less least0 least least0_high (reverse image)

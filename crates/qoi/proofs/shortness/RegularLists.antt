@@ -6,11 +6,9 @@ use Rattle.qoi.specs.declared.chunk.Chunk.{Chunk}
 use Rattle.qoi.specs.declared.chunk.Chunk.TheVariants.{Place}
 use Rattle.qoi.specs.Qoi.{RgbaPixel, Past, blank, seen, hash, then_chunk, then_chunks, meaning, Each, Reaches}
 use Rattle.qoi.specs.Written.{noted, IsChoice, IsAllowedAfter, Written}
-use Rattle.qoi.specs.Raw.{HasChannels}
 use Rattle.qoi.specs.Regular.{NamesPixelThere, Regular, Begins}
 use Rattle.qoi.proofs.format.SamePixels.{cases_pixel}
-use Rattle.qoi.proofs.format.ChunkSteps.{given, then_chunks_given}
-use Rattle.qoi.proofs.format.Appended.{all_back, all_reverse}
+use Rattle.qoi.proofs.format.ChunkSteps.{given, then_chunks_given, all_back, all_reverse}
 use Rattle.qoi.proofs.encoding.styles.TightChoice.{unseen_blank, unseen_or}
 
 -- an index position that an allowed chunk names is its pixel's
@@ -64,18 +62,3 @@ no_blank_regular image cs r (more, b) h =
     let l : length image ≡ length (reverse image) = sym (length-reverse image) in
     all_named [] cs (reverse more) (reverse image) e (subst (λ n. Each (λ past c. length past < n) [] cs) l r.stays_below)
     (all_reverse (λ p. p ≢ blank) image h)
-
--- what follows from P holds of each of a list if P does
-all_map : {A : Type 0} (P Q : A → Type 0) → ((x : A) → P x → Q x) → (xs : List A) → AllByRecursion P xs → AllByRecursion Q xs
-all_map P Q f [] h = tt
-all_map P Q f (x ∷ xs) h = (f x h.0, all_map P Q f xs h.1)
-
--- an opaque pixel is not transparent black
-opaque_not_blank : (p : RgbaPixel) → p.a ≡ 255 → p ≢ blank
-unfolding blank
-opaque_not_blank p a e = let z = ap (λ x. x.a) e in omega arith
-
--- so a list of an image of three channels is regular
-pub opaque_regular : (image : List RgbaPixel) (cs : List Chunk) → Reaches (length image) cs → Begins (meaning cs) image → HasChannels image 3 → Regular cs
-opaque_regular image cs r b (inl e) = absurd (omega arith)
-opaque_regular image cs r b (inr (e, h)) = no_blank_regular image cs r b (all_map (λ p. p.a ≡ 255) (λ p. p ≢ blank) opaque_not_blank image h)

@@ -1,12 +1,15 @@
--- What every kind of reader promises of the chunks and the end marker that it takes. `in_memory` says
--- whether its bytes stand in memory; how those are left after a refusal isn't said.
-use Rattle.std.specs.Prelude.{ℕ, ◌+◌, ◌<◌, ◌≤◌, List, ◌++◌, length, reverse, Bool, true, false, IsTrue, IsFalse, Option, IfSome, MatchOption}
+-- What every kind of reader promises of the chunks and the end marker that it takes, and of an image
+-- in channels. `in_memory` says whether its bytes stand in memory; only `RefusesIn` says how those are
+-- left after a refusal.
+use Rattle.std.specs.Prelude.{◌≡◌, ℕ, ◌+◌, ◌/◌, ◌%◌, ◌<◌, ◌≤◌, List, ◌++◌, length, reverse, Bool, true, false, IsTrue, IsFalse, Option, IfSome}
 use Rattle.std.specs.Io.KnownBytes.{Consumes}
 use Rattle.qoi.specs.declared.error.Error.{Error}
 use Rattle.qoi.specs.declared.decode.output.TheConstants.{RUN_ROOM}
-use Rattle.qoi.specs.Qoi.{Past}
+use Rattle.qoi.specs.declared.decode.reader.Conversion.{Conversion}
+use Rattle.qoi.specs.Qoi.{Past, channels_number}
 use Rattle.qoi.specs.Raw.{output}
-use Rattle.qoi.specs.Decoding.{ReadsImage, TakesBytes, RefusesBytes, RefusesTaken}
+use Rattle.qoi.specs.Decoding.{ReadsImage, TakesBytes, RefusesBytes, RefusesTaken, RefusesImage}
+use Rattle.qoi.specs.DecoderState.{DecoderState}
 use Rattle.qoi.specs.inner.Filling.{Filling, IsFillable, DecoderBetween}
 
 -- Why chunks of n pixels and the end marker are refused, which begin with the bytes `start`: in memory
@@ -44,6 +47,18 @@ abbrev pub RefusesRest : ℕ → ℕ → Bool → Option (List ℕ) → Option (
 RefusesRest f c in_memory ahead rest old e = (gone : Past) (n : ℕ) (start : Option (List ℕ)) → DecoderBetween f c gone n (Consumes start ahead) old
     → RefusesChunks in_memory (length gone + n) start rest e
 
--- the place for the error of a refusal has one, of which this holds
-abbrev pub HasFault : (Error → Type 0) → Option Error → Type 0
-HasFault Why fault = MatchOption fault ⊥ Why
+-- the channels of a decoder
+abbrev pub conversion_of : {R : Type 0} → DecoderState R → Conversion
+conversion_of d = record { channels = d.channels; file_channels = d.header.channels }
+
+-- the output has whole pixels
+abbrev pub IsWholeIn : Conversion → ℕ → Type 0
+IsWholeIn k size = size % channels_number k.channels ≡ 0
+
+-- the output has the image that stood ahead
+abbrev pub ReadsIn : Conversion → ℕ → Option (List ℕ) → Option (List ℕ) → List ℕ → Type 0
+ReadsIn k size old new out = ReadsImage (channels_number k.file_channels) (channels_number k.channels) (size / channels_number k.channels) old new out
+
+-- an image of as many pixels was refused
+abbrev pub RefusesIn : Conversion → ℕ → Bool → Option (List ℕ) → Option (List ℕ) → Error → Type 0
+RefusesIn k size in_memory old new e = RefusesImage in_memory (size / channels_number k.channels) old new e

@@ -3,11 +3,10 @@
 -- chunk of a fresh pixel as a number.
 use Rattle.std.specs.Prelude.{◌≡◌, ◌<◌, ℕ, Bool, not, ◌&&◌, ◌||◌, nat_lt, if◌then◌else◌, List, [], ◌∷◌, ◌++◌, length, take, Option, Some}
 use Rattle.std.specs.List.{AllByRecursion}
-use lib.Lanes.{digits_l}
 use Rattle.qoi.specs.declared.chunk.Chunk.{Chunk}
 use Rattle.qoi.specs.declared.chunk.Chunk.TheVariants.{Place, Run}
 use Rattle.qoi.specs.declared.encode.coder.Coder.{Coder}
-use Rattle.qoi.specs.declared.encode.last_pixel.LastPixel.{LastPixel}
+use Rattle.qoi.specs.declared.encode.coder.LastPixel.{LastPixel}
 use Rattle.qoi.specs.declared.encode.piece.Piece.{Piece}
 use Rattle.qoi.specs.declared.encode.pixels.Pixels.{Pixels}
 use Rattle.qoi.specs.declared.types.Style.{Style}
@@ -18,6 +17,7 @@ use Rattle.qoi.specs.Written.{fresh, IsFirst}
 use Rattle.qoi.specs.Styles.{some_fresh, names, styled}
 use Rattle.qoi.specs.WrittenList.{chosen, list_after}
 use Rattle.qoi.specs.inner.Table.{Holds}
+use Rattle.qoi.specs.inner.block.Storing.{chunk_of}
 
 -- the pixels of raw bytes
 abbrev pub pixels_in : {N : ℕ} → Pixels N → List RgbaPixel
@@ -47,14 +47,10 @@ abbrev pub last_chunk : Option Chunk → List Chunk → Option Chunk
 last_chunk before [] = before
 last_chunk before (c ∷ cs) = last_chunk (Some c) cs
 
--- the chunk's bytes are the lowest ones of the number and, if there is a fifth, alpha
-abbrev pub HasBytes : ℕ → ℕ → ℕ → Chunk → Type 0
-HasBytes alpha number size c = take size (digits_l 256 4 number ++ alpha ∷ []) ≡ bytes_of c
-
 -- the chunk of this number and size is the first that spells out p after q
 pub record SpellsOut (q p : RgbaPixel) (number size : ℕ) (c : Chunk) : Type 0 where
   pub chunk : IsChunk c
-  pub bytes : HasBytes p.a number size c
+  pub bytes : chunk_of size number p.a ≡ bytes_of c
   pub first : (past : Past) → previous past ≡ q → IsFirst past p c
 
 -- What hasn't gone to a writer yet, `ahead`, is the bytes that are kept, and those that are written

@@ -4,14 +4,14 @@ use Rattle.std.specs.Prelude.{◌≡◌, ⊤, ℕ, ◌+◌, ◌*◌, ◌%◌, �
 use Rattle.std.specs.Borrow.{Bor}
 use Rattle.std.specs.Io.KnownBytes.{Appends}
 use Rattle.qoi.specs.declared.encode.piece.OpenPiece.{OpenPiece}
-use Rattle.qoi.specs.declared.encode.pending.Pending.{Pending}
+use Rattle.qoi.specs.declared.encode.chunks.Pending.{Pending}
 use Rattle.qoi.specs.declared.encode.piece.TheConstants.{SPARE, FULL_ROOM}
 use Rattle.qoi.specs.declared.error.Error.{Error}
 use Rattle.qoi.specs.declared.types.Channels.{Channels}
 use Rattle.qoi.specs.declared.types.Style.{Style}
 use Rattle.qoi.specs.Encoded.{IsFileOf, image_file}
 use Rattle.qoi.specs.EncoderState.{EncoderState}
-use Rattle.qoi.specs.Qoi.{channels_number, marker_size, end_marker, start}
+use Rattle.qoi.specs.Qoi.{channels_number, marker_size, end_marker}
 use Rattle.qoi.specs.Raw.{pixels_of}
 use Rattle.qoi.specs.writers.Writes.{WroteBut, WroteBeginning}
 use Rattle.qoi.specs.inner.Coder.{kept_bytes, CoderAfter, CoderBetween}
@@ -28,7 +28,6 @@ EndsOpaque p = pixel_size p ≡ 3 → p.last.px.a ≡ 255
 pub record IsNew (channels : Channels) (style : Style) (p : Pending) : Type 0 where
   pub channels_is : p.channels ≡ channels
   pub style_is : p.style ≡ style
-  pub px_is : p.last.px ≡ start
   pub none : p.last.repeats ≡ 0
   pub state : CoderAfter style [] None p.table p.last
 

@@ -2,7 +2,6 @@
 -- and stored chunks.
 pub mod Block
 pub mod Lanes
-pub mod Marks
 pub mod Planes
 pub mod Positions
 pub mod Storing

@@ -1,18 +1,18 @@
 -- What is unread of an image that is read piece by piece, and what is decoded in place.
-use Rattle.std.specs.Prelude.{◌≡◌, ℕ, ◌+◌, ◌-◌, ◌*◌, ◌%◌, ◌<◌, ◌≤◌, ◌/◌, ⊤, List, [], ◌++◌, length, take, drop, reverse, replicate, Bool, false, Option, None, Result, MatchResult}
+use Rattle.std.specs.Prelude.{◌≡◌, ℕ, ◌+◌, ◌-◌, ◌*◌, ◌%◌, ◌<◌, ◌≤◌, ◌/◌, ⊤, List, [], ◌++◌, length, take, drop, reverse, replicate, Bool, false, Option, None, Result, MatchOption, MatchResult}
 use Rattle.std.specs.Io.KnownBytes.{Consumes}
 use Rattle.qoi.specs.declared.chunk.Chunk.{Chunk}
 use Rattle.qoi.specs.declared.error.Error.{Error}
 use Rattle.qoi.specs.declared.header.Header.{Header}
 use Rattle.qoi.specs.declared.types.Channels.{Channels}
-use Rattle.qoi.specs.declared.decode.in_place.InPlace.{InPlace}
-use Rattle.qoi.specs.declared.decode.conversion.Conversion.{Conversion}
+use Rattle.qoi.specs.declared.decode.reached.Reached.{Reached}
+use Rattle.qoi.specs.declared.decode.reader.Conversion.{Conversion}
 use Rattle.qoi.specs.declared.decode.pixel_reader.unread.Unread.{Unread}
 use Rattle.qoi.specs.declared.decode.pixel_reader.unread.Refused.{Refused}
 use Rattle.qoi.specs.Qoi.{Past, run_max, previous, channels_number, IsValid, AreChunks, chunk_bytes, then_chunks}
 use Rattle.qoi.specs.Raw.{output, byte_count}
 use Rattle.qoi.specs.Decoding.{ReadsImage}
-use Rattle.qoi.specs.inner.Chunks.{RefusesChunks, HasFault}
+use Rattle.qoi.specs.inner.Chunks.{RefusesChunks}
 use Rattle.qoi.specs.inner.Filling.{Filling, DecoderBetween}
 use Rattle.qoi.specs.inner.Hashed.{pixel_of_lanes, HoldsSeen}
 
@@ -92,7 +92,7 @@ pub record GivesMore (file_channels channels : ℕ) (ahead rest : Option (List �
 -- A step was refused: the place for the error has one, and of each image it says why chunks are refused.
 pub record RefusesMore (file_channels channels : ℕ) (in_memory : Bool) (ahead rest : Option (List ℕ)) (old : Unread) (fault : Option Error) : Type 0 where
   pub refused : (n : ℕ) (start : Option (List ℕ)) (given : List ℕ) → IsUnread file_channels channels n start ahead given old
-      → HasFault (RefusesChunks in_memory n start rest) fault
+      → MatchOption fault ⊥ (RefusesChunks in_memory n start rest)
 
 -- so many bytes may be asked of a step: none are kept, and as many are left
 pub record Asks (channels : ℕ) (p : Unread) (size : ℕ) : Type 0 where
@@ -114,19 +114,19 @@ Fills f c in_memory ahead rest old new out result = MatchResult result (λ _. Gi
 
 -- Chunks were taken after those of the pixels that are gone, and the output up to where it stopped has
 -- the bytes of their pixels, but for what is left of a run.
-pub record TakesPiece (file_channels channels : ℕ) (gone : Past) (Taken : List ℕ → Type 0) (table out : List ℕ) (now : InPlace) : Type 0 where
+pub record TakesPiece (file_channels channels : ℕ) (gone : Past) (Taken : List ℕ → Type 0) (table out : List ℕ) (now : Reached) (run : ℕ) : Type 0 where
   pub all : Past
-  pub after : DecoderAfter Taken table now.reached.last (copies channels now.run now.reached.last ++ all)
-  pub bytes_are : output file_channels channels (reverse gone) ++ take now.reached.at out ≡ output file_channels channels (reverse all)
+  pub after : DecoderAfter Taken table now.last (copies channels run now.last ++ all)
+  pub bytes_are : output file_channels channels (reverse gone) ++ take now.at out ≡ output file_channels channels (reverse all)
 
 -- the same of chunks that stood ahead
-abbrev pub TakesInPlace : ℕ → ℕ → Option (List ℕ) → Option (List ℕ) → Filling → List ℕ → List ℕ → InPlace → Type 0
-TakesInPlace f c ahead rest old table out now = (gone : Past) (n : ℕ) (start : Option (List ℕ)) → DecoderBetween f c gone n (Consumes start ahead) old
-    → TakesPiece f c gone (Consumes start rest) table out now
+abbrev pub TakesInPlace : ℕ → ℕ → Option (List ℕ) → Option (List ℕ) → Filling → List ℕ → List ℕ → Reached → ℕ → Type 0
+TakesInPlace f c ahead rest old table out now run = (gone : Past) (n : ℕ) (start : Option (List ℕ)) → DecoderBetween f c gone n (Consumes start ahead) old
+    → TakesPiece f c gone (Consumes start rest) table out now run
 
 -- whole pixels lie in an output of so many bytes, and what is left of a run are whole pixels
-pub record IsInPlace (channels size : ℕ) (p : InPlace) : Type 0 where
-  pub within : p.reached.at ≤ size
-  pub whole : p.reached.at % channels ≡ 0
-  pub run_whole : p.run % channels ≡ 0
-  pub run_short : p.run ≤ channels * run_max
+pub record IsInPlace (channels size : ℕ) (now : Reached) (run : ℕ) : Type 0 where
+  pub within : now.at ≤ size
+  pub whole : now.at % channels ≡ 0
+  pub run_whole : run % channels ≡ 0
+  pub run_short : run ≤ channels * run_max

@@ -7,7 +7,7 @@ ghost use Rattle.qoi.specs.inner.Filling.{upto, IsFillable, filling};
 
 use crate::decode::chunks::Chunks;
 use crate::decode::fast::{OUTPUT_ROOM, Progress};
-use crate::decode::in_place::{InPlace, chunks_in_place};
+use crate::decode::in_place::chunks_in_place;
 use crate::decode::output::RUN_ROOM;
 use crate::decode::reached::Reached;
 use crate::decode::reader::Buffered;
@@ -106,10 +106,10 @@ impl<R: BufRead, const N: usize, const F: usize> Chunks<N, F> for Buffered<R> {
         table: &mut TermTable,
         from: Reached,
         out: &mut [u8],
-    ) -> Result<InPlace> {
+    ) -> Result<(Reached, usize)> {
         let bytes = self.0.fill_buf()?;
-        let placed = chunks_in_place::<N, F>(table, from, bytes, out);
-        self.0.consume(placed.taken);
-        Ok(placed)
+        let (now, run) = chunks_in_place::<N, F>(table, from, bytes, out);
+        self.0.consume(now.taken);
+        Ok((now.reached, run))
     }
 }

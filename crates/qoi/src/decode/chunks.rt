@@ -12,8 +12,7 @@ ghost use Rattle.qoi.specs.declared.decode.chunks.TheConstants.{GROWTH};
 ghost use Rattle.qoi.specs.declared.decode.output.TheConstants.{RUN_ROOM};
 
 use crate::decode::hashed::Hashed;
-use crate::decode::in_place::InPlace;
-use crate::decode::reached::{Decoded, Reached};
+use crate::decode::reached::Reached;
 use crate::decode::table::TermTable;
 use crate::error::Result;
 
@@ -54,25 +53,23 @@ pub(super) trait Chunks<const N: usize, const F: usize>: Sized {
             (ahead self.old) (ahead self.new) (filling table.old from out.old)) };
 
     /// Decodes chunks that stand in memory into a piece of an image, after what others reached, and
-    /// goes on near its end: a run that goes on past it is taken. By default, and so from a stream,
-    /// none are decoded.
+    /// goes on near its end: a run that goes on past it is taken. Returns what it reached, and how
+    /// many bytes of that run are still to be given. By default, and so from a stream, none are
+    /// decoded.
     fn chunks_in_place(
         &mut self,
         table: &mut TermTable,
         from: Reached,
         out: &mut [u8],
-    ) -> Result<InPlace>
+    ) -> Result<(Reached, usize)>
         requires { HasRoom N false (upto out.old from.at) }
         ensures takes { IfOk result (λ now. TakesInPlace F N (ahead self.old) (ahead self.new)
-            (filling table.old from out.old) table.new out.new now) }
-        ensures sizes { IfOk result (IsInPlace N (length out.new)) }
+            (filling table.old from out.old) table.new out.new now.0 now.1) }
+        ensures sizes { IfOk result (λ now. IsInPlace N (length out.new) now.0 now.1) }
         ensures refused { IfErr result (RefusesFilling F N in_memory
             (ahead self.old) (ahead self.new) (filling table.old from out.old)) }
     {
-        Ok(InPlace::after(Decoded {
-            taken: 0,
-            reached: from,
-        }))
+        Ok((from, 0))
     }
 }
 

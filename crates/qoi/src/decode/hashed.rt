@@ -26,9 +26,6 @@ const ALPHA_FACTOR: u64 = 0x2c01;
 pub(super) struct Hashed(u64);
 
 impl Model for Hashed {
-    ghost use Rattle.std.specs.Prelude.{ℕ};
-    ghost use Rattle.qoi.specs.inner.Hashed.{IsHashed};
-
     ghost Value = { ℕ };
 
     ghost view = { λ p. p.0 };

@@ -13,29 +13,6 @@ use crate::decode::output::store_exactly;
 use crate::decode::reached::{Decoded, Reached};
 use crate::decode::table::TermTable;
 
-/// What a piece leaves that was decoded in place: how many bytes were taken, what was reached, and
-/// how many bytes of a run that goes on past its end are still to be given.
-#[derive(Clone, Copy)]
-pub(super) struct InPlace {
-    pub(super) taken: usize,
-    pub(super) reached: Reached,
-    pub(super) run: usize,
-}
-
-impl InPlace {
-    /// After these chunks, with nothing of a run left.
-    #[inline(always)]
-    pub(super) fn after(now: Decoded) -> InPlace
-        ensures { result ≡ record { taken = now.taken; reached = now.reached; run = 0 } }
-    {
-        InPlace {
-            taken: now.taken,
-            reached: now.reached,
-            run: 0,
-        }
-    }
-}
-
 // Whether a chunk with this first byte is a run with at least so many bytes of pixels.
 #[inline(always)]
 fn is_run_to_end<const N: usize>(b1: u8, rest: usize) -> bool
@@ -47,65 +24,66 @@ fn is_run_to_end<const N: usize>(b1: u8, rest: usize) -> bool
 }
 
 // Takes a run that goes on to the end of the output or past it, if one comes next, and fills the
-// output with it.
+// output with it. Returns what was reached, and how many bytes of the run are still to be given.
 #[inline(always)]
 fn last_run<const N: usize, const F: usize>(
     table: &mut TermTable,
     from: Decoded,
     bytes: &[u8],
     out: &mut [u8],
-) -> InPlace
+) -> (Decoded, usize)
     requires ahead { from.taken < length bytes.now }
     requires room { HasRoom N false (upto out.old from.reached.at) }
     ensures takes { (gone : Past) (n : ℕ) (before : List ℕ)
         → DecoderBetween F N gone n (IsFrontAfter before bytes.now from.taken)
         (filling table.old from.reached out.old)
-        → TakesPiece F N gone (IsFrontAfter before bytes.now result.taken)
-        table.new out.new result }
-    ensures sizes { IsInPlace N (length out.new) result }
-    ensures within { result.taken ≤ length bytes.now }
+        → TakesPiece F N gone (IsFrontAfter before bytes.now result.0.taken)
+        table.new out.new result.0.reached result.1 }
+    ensures sizes { IsInPlace N (length out.new) result.0.reached result.1 }
+    ensures within { result.0.taken ≤ length bytes.now }
 {
     let b1 = bytes[from.taken];
     let now = from.reached;
     let rest = out.len() - now.at;
     if !is_run_to_end::<N>(b1, rest) {
-        return InPlace::after(from);
+        return (from, 0);
     }
     table.put(now.last);
     store_exactly::<N, F>(out, now.at, now.last, rest / N);
     let (last, at) = (now.last, out.len());
-    InPlace {
+    let now = Decoded {
         taken: from.taken + 1,
         reached: Reached { last, at },
-        run: advance::<N>(b1 as usize) - rest,
-    }
+    };
+    (now, advance::<N>(b1 as usize) - rest)
 }
 
 /// Decodes chunks from the front of the bytes into a piece of an image, after what others reached,
 /// and goes on near its end: a run that goes on past it is taken. Leaves less than 32 bytes of the
-/// piece, unless a run fills them or the bytes end.
+/// piece, unless a run fills them or the bytes end. Returns what it reached, and how many bytes of
+/// that run are still to be given.
 #[inline(always)]
 pub(super) fn chunks_in_place<const N: usize, const F: usize>(
     table: &mut TermTable,
     from: Reached,
     bytes: &[u8],
     out: &mut [u8],
-) -> InPlace
+) -> (Decoded, usize)
     requires { HasRoom N false (upto out.old from.at) }
     ensures takes { (gone : Past) (n : ℕ) (before : List ℕ)
         → DecoderBetween F N gone n (IsFrontAfter before bytes.now 0)
         (filling table.old from out.old)
-        → TakesPiece F N gone (IsFrontAfter before bytes.now result.taken)
-        table.new out.new result }
-    ensures sizes { IsInPlace N (length out.new) result }
-    ensures within { result.taken ≤ length bytes.now }
+        → TakesPiece F N gone (IsFrontAfter before bytes.now result.0.taken)
+        table.new out.new result.0.reached result.1 }
+    ensures sizes { IsInPlace N (length out.new) result.0.reached result.1 }
+    ensures within { result.0.taken ≤ length bytes.now }
 {
     let none = Decoded {
         taken: 0,
         reached: from,
     };
     if bytes.len() < INPUT_ROOM || out.len() < OUTPUT_ROOM {
-        return InPlace::after(none);
+        return (none, 0);
     }
     let front = Progress::<N, F>::chunks_ahead::<8>(table, none, bytes, out);
     if is_run_to_end::<N>(bytes[front.taken], out.len() - front.reached.at) {

@@ -7,13 +7,13 @@ ghost use Rattle.std.specs.Vec.{vec_len, vec_capacity};
 ghost use Rattle.qoi.specs.Qoi.{channels_number};
 ghost use Rattle.qoi.specs.Raw.{AreChannels};
 ghost use Rattle.qoi.specs.Decoding.{ReadsImage, ReadsHeader, RefusesImage};
-ghost use Rattle.qoi.specs.inner.Conversion.{IsWholeIn, ReadsIn, RefusesIn};
+ghost use Rattle.qoi.specs.inner.Chunks.{conversion_of, IsWholeIn, ReadsIn, RefusesIn};
 ghost use Rattle.qoi.specs.declared.error.Error.{Error};
 ghost use Rattle.qoi.specs.pieces.Unread.{kept_count, Asks, StepsIn};
 
 use crate::consts::QOI_HEADER_SIZE;
+use crate::decode::Decoder;
 use crate::decode::chunks::{image_to_buf, image_to_vec};
-use crate::decode::conversion::Conversion;
 use crate::decode::pixel_reader::unread::{PieceResult, Unread};
 use crate::decode::slice::slice_image;
 use crate::decode::stream::read_exact;
@@ -34,6 +34,26 @@ macro_rules! in_channels {
             (Channels::Rgba, Channels::Rgba) => $($name)::+::<$($reader,)? 4, 4>($($arg),*),
         }
     };
+}
+
+/// The channels of an output, and those of the file's header.
+#[derive(Clone, Copy)]
+pub struct Conversion {
+    pub(super) channels: Channels,
+    pub(super) file_channels: Channels,
+}
+
+impl<R> Decoder<R> {
+    /// The channels of the output and of the file.
+    #[inline(always)]
+    pub(super) fn conversion(&self) -> Conversion
+        ensures { result ≡ conversion_of self.now }
+    {
+        Conversion {
+            channels: self.channels,
+            file_channels: self.header.channels,
+        }
+    }
 }
 
 /// Where a decoder takes its bytes from: `Bytes`, any `R: Read`, or a `Buffered` reader. No other type
@@ -81,8 +101,16 @@ pub trait Reader: Sized {
             → (result ≡ Err (Error.InvalidChannels channels))
             × (self.new ≡ self.old) × (out.new ≡ out.old) }
     {
-        let Some(conversion) = Conversion::of_numbers(channels, file_channels) else {
+        let numbers = (
+            Channels::try_from(channels),
+            Channels::try_from(file_channels),
+        );
+        let (Ok(channels), Ok(file_channels)) = numbers else {
             return Err(Error::InvalidChannels { channels });
+        };
+        let conversion = Conversion {
+            channels,
+            file_channels,
         };
         self.decode_image_in(out, conversion)
     }
@@ -117,7 +145,8 @@ pub trait Reader: Sized {
             (ahead self.old) (ahead self.new)) };
 
     /// Decodes an image's next bytes, while none are kept. Returns how many are in `out`, maybe none;
-    /// what it lacks, and more, goes to `unread`. With the last bytes it takes the end marker. After a refusal the error stands in `unread`.
+    /// what it lacks, and more, goes to `unread`. With the last bytes it takes the end marker. After a
+    /// refusal the error stands in `unread`.
     ///
     /// Only `PixelReader` can call it, and no other type can be a reader, since nobody else has an
     /// `Unread`.
@@ -167,21 +196,6 @@ impl<'a> Bytes<'a> {
     }
 }
 
-// `Unread::decode_more` for a slice, with its channels as constants.
-fn piece_of_bytes(
-    bytes: &mut Bytes,
-    unread: &mut Unread,
-    out: &mut [u8],
-    conversion: Conversion,
-) -> PieceResult<usize>
-    requires { Asks (channels_number conversion.channels) unread.old (length out.old) }
-    ensures step { StepsIn conversion true (Some bytes.old) (Some bytes.new)
-        unread.old unread.new out.new result }
-    ensures enough { IfOk result (λ size. length out.new ≤ size + kept_count unread.new) }
-{
-    in_channels!(conversion, Unread::decode_more[Bytes](unread, bytes, out))
-}
-
 impl<'a> Reader for Bytes<'a> {
     ghost ahead = { Some };
 
@@ -219,17 +233,15 @@ impl<'a> Reader for Bytes<'a> {
         conversion: Conversion,
     ) -> PieceResult<usize> {
         let before = self.0;
-        match piece_of_bytes(self, unread, out, conversion) {
-            Ok(size) => Ok(size),
-            Err(refused) => {
-                // Put back as a part of itself, so that `before` is read as address and length, one by
-                // one, as the last piece stored them. A load of both at once waits for those stores
-                // and all before them.
-                let (_, all) = before.split_at(0);
-                self.0 = all;
-                Err(refused)
-            }
+        let piece = in_channels!(conversion, Unread::decode_more[Bytes](unread, self, out));
+        if piece.is_err() {
+            // Put back as a part of itself, so that `before` is read as address and length, one by
+            // one, as the last piece stored them. A load of both at once waits for those stores and
+            // all before them.
+            let (_, all) = before.split_at(0);
+            self.0 = all;
         }
+        piece
     }
 }
 

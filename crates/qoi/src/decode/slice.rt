@@ -11,7 +11,7 @@ use crate::consts::{QOI_PADDING, QOI_PADDING_SIZE};
 use crate::decode::chunks::{Chunks, image_to_buf};
 use crate::decode::fast::Progress;
 use crate::decode::hashed::Hashed;
-use crate::decode::in_place::{InPlace, chunks_in_place};
+use crate::decode::in_place::chunks_in_place;
 use crate::decode::one_chunk::decode_chunk;
 use crate::decode::output::RUN_ROOM;
 use crate::decode::reached::Reached;
@@ -142,11 +142,11 @@ impl<'a, const N: usize, const F: usize> Chunks<N, F> for Bytes<'a> {
         table: &mut TermTable,
         from: Reached,
         out: &mut [u8],
-    ) -> Result<InPlace> {
-        let placed = chunks_in_place::<N, F>(table, from, self.0, out);
-        let (_, rest) = self.0.split_at(placed.taken);
+    ) -> Result<(Reached, usize)> {
+        let (now, run) = chunks_in_place::<N, F>(table, from, self.0, out);
+        let (_, rest) = self.0.split_at(now.taken);
         self.0 = rest;
-        Ok(placed)
+        Ok((now.reached, run))
     }
 }
 

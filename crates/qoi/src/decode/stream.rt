@@ -26,50 +26,29 @@ fn ended() -> io::Error {
     io::Error::new(ErrorKind::UnexpectedEof, "the stream ended within a file")
 }
 
-// Fills the buffer from a stream by as many reads as it takes, and asks for no byte past it. An
-// interruption is a fault; so is the end of the stream. Inlined, so that the reader isn't lent to a
-// call in the loop over chunks, and the compiler can keep it in registers.
+// Fills the buffer from a stream, and asks for no byte past it. An interruption is a fault, unlike
+// in the standard library's `read_exact`; the end of the stream is one, as it is there. Usually the
+// first read fills it, so that one stands before the loop. Inlined, so that the reader isn't lent to
+// a call in the loop over chunks, and the compiler can keep it in registers.
 #[inline(always)]
-fn read_rest<R: Read>(reader: &mut R, buf: &mut [u8]) -> io::Result<()>
+pub(super) fn read_exact<R: Read>(reader: &mut R, buf: &mut [u8]) -> io::Result<()>
+    requires { 0 < length buf.old }
     ensures read { OnOk result
         (Consumes (R.remaining reader.old) (R.remaining reader.new) buf.new) }
     ensures failed { OnErr result (TakesBytes (R.remaining reader.old) (R.remaining reader.new)
         (λ taken. (length taken < length buf.old) × AreBytes taken)) }
     ensures bytes { AreBytes buf.new }
 {
-    let mut filled = 0;
+    let mut count = reader.read(buf)?;
+    let mut filled = count;
     while filled < buf.len() {
-        let count = reader.read(&mut buf[filled..])?;
         if count == 0 {
             return Err(ended());
         }
+        count = reader.read(&mut buf[filled..])?;
         filled += count;
     }
     Ok(())
-}
-
-// Fills the buffer from a stream, and asks for no byte past it. An interruption is a fault, unlike
-// in the standard library's `read_exact`; the end of the stream is one, as it is there. Usually the
-// first read fills it.
-#[inline(always)]
-pub(super) fn read_exact<R: Read>(reader: &mut R, buf: &mut [u8]) -> io::Result<()>
-    ensures read { OnOk result
-        (Consumes (R.remaining reader.old) (R.remaining reader.new) buf.new) }
-    ensures failed { OnErr result (TakesBytes (R.remaining reader.old) (R.remaining reader.new)
-        (λ taken. (length taken < length buf.old) × AreBytes taken)) }
-    ensures bytes { AreBytes buf.new }
-{
-    if buf.is_empty() {
-        return Ok(());
-    }
-    let count = reader.read(buf)?;
-    if count == buf.len() {
-        return Ok(());
-    }
-    if count == 0 {
-        return Err(ended());
-    }
-    read_rest(reader, &mut buf[count..])
 }
 
 // Reads a byte from a stream.

@@ -12,16 +12,14 @@ use crate::consts::QOI_RUN_MAX;
 use crate::encode::block::planes::Planes;
 use crate::encode::block::{Block, write_block};
 use crate::encode::carry::{Carry, FRONT_CARRIED};
-use crate::encode::coder::{Coder, style_of};
-use crate::encode::full::begin_full;
-use crate::encode::last_pixel::LastPixel;
-use crate::encode::marked::{goes_by_marks, write_marked};
+use crate::encode::coder::{Coder, LastPixel, style_of};
 use crate::encode::pairs::{go_by_pairs, write_pairs};
 use crate::encode::piece::{OpenPiece, Piece, REPEATS_AT_ONCE};
-use crate::encode::pixels::{FrontBlock, Marked, PixelOf, Pixels};
+use crate::encode::pixels::{FrontBlock, PixelOf, Pixels};
 use crate::encode::runs::repeats_of;
-use crate::encode::sparse::{go_by_sparse, write_sparse};
+use crate::encode::sparse::{go_by_sparse, goes_by_marks, write_marked, write_sparse};
 use crate::encode::table::PixelTable;
+use crate::packed::Packed;
 use crate::types::Style::{self, Places, Reference, Tight};
 
 // Whether the front goes by blocks: once a fresh pixel came or, except in style `Tight`, if no repeats
@@ -43,6 +41,26 @@ fn goes_by_blocks<const N: usize>(style: Style, last: LastPixel, raw: Pixels<N>)
         return true;
     }
     (last.begun | may_open) && !raw.begin_with(last.px)
+}
+
+// Whether an RGBA chunk gives this pixel after the one before it: another alpha, and no index position.
+#[inline(always)]
+fn is_full(table: &PixelTable, before: Packed, px: Packed) -> bool {
+    px.a() != before.a() && !table.at(px.hash_index()).is_same(px)
+}
+
+// Whether RGBA chunks give the first three pixels, and so may give most of those that follow, if these
+// are many.
+#[inline(always)]
+fn begin_full<const N: usize>(table: &PixelTable, last: Packed, raw: Pixels<N>) -> bool
+    requires { 3 ≤ length (pixels_in raw) }
+{
+    if N == 3 || !raw.are_many() {
+        return false;
+    }
+    let (second, third) = (raw.skip(1), raw.skip(2));
+    let (one, two) = (raw.first().px, second.first().px);
+    is_full(table, last, one) && is_full(table, one, two) && is_full(table, two, third.first().px)
 }
 
 // What is carried after the coder's last pixel. `begun` isn't: a fresh pixel came, or the block opens
@@ -71,10 +89,7 @@ fn coder_after<const N: usize, const STYLE: u8>(carry: Carry<N>) -> Coder<N>
         placed: carry.placed,
         repeats: usize::from(carry.count),
     };
-    Coder {
-        style: style_of::<STYLE>(),
-        last,
-    }
+    Coder::new(style_of::<STYLE>(), last)
 }
 
 // Writes the full runs of the carried repeats and those at the front; the others are carried.
@@ -125,7 +140,7 @@ fn write_front<'a, 'p, const N: usize, const STYLE: u8, const ROOM: usize, const
     if goes_by_marks(marks, front, carry) {
         let mut piece = piece.piece;
         let mut coder = coder_after::<N, STYLE>(carry);
-        let rest = write_marked(&mut coder, table, &mut piece, Marked { front, marks });
+        let rest = write_marked(&mut coder, table, &mut piece, front, marks);
         return (rest, carried(&coder), piece);
     }
     if block.may_miss_blank(style_of::<STYLE>(), table) {
@@ -139,38 +154,11 @@ fn write_front<'a, 'p, const N: usize, const STYLE: u8, const ROOM: usize, const
 }
 
 // Writes by blocks until the piece is full or fewer pixels than a block has are left, whatever pixels
-// come meanwhile. Returns the rest, and what is carried.
+// come meanwhile. Returns the rest.
 //
 // Each style has a loop of its own, and another if `FULL`: where an RGBA chunk is expected to give
-// each pixel (`encode/full`). The piece is a value, so that the compiler keeps its fields in registers.
-#[inline(always)]
-fn fill<'a, 'p, const N: usize, const STYLE: u8, const ROOM: usize, const FULL: bool>(
-    table: &mut PixelTable,
-    piece: OpenPiece<'p, ROOM>,
-    raw: Pixels<'a, N>,
-    carry: Carry<N>,
-) -> (Pixels<'a, N>, Carry<N>, Piece<'p, ROOM>)
-    requires { 16 ≤ length (pixels_in raw) }
-    ensures { WritesBlocks (style_of STYLE) (length (pixels_in raw.entry))
-        raw.entry table.old carry.entry piece.entry.piece
-        result.0 table.new result.1 result.2 }
-{
-    let mut piece = piece.piece;
-    let mut rest = raw;
-    let mut now = carry;
-    while !piece.is_full() && rest.has_block() {
-        (rest, now, piece) = write_front::<N, STYLE, ROOM, FULL>(
-            table,
-            piece.open(),
-            rest.front_of(raw),
-            now,
-        );
-    }
-    (rest, now, piece)
-}
-
-// Writes blocks (`fill`). Returns the rest. It isn't inlined: where both loops, with `FULL` and
-// without, are one function, they are slower.
+// each pixel (`begin_full`). The piece is a value, so that the compiler keeps its fields in registers.
+// It isn't inlined: where both loops, with `FULL` and without, are one function, they are slower.
 #[inline(never)]
 fn write_by_blocks<'a, 'p, const N: usize, const STYLE: u8, const ROOM: usize, const FULL: bool>(
     last: &mut LastPixel,
@@ -185,9 +173,18 @@ fn write_by_blocks<'a, 'p, const N: usize, const STYLE: u8, const ROOM: usize, c
     ensures { WritesSome (style_of STYLE) raw.entry table.old last.old piece.entry.piece
         result.0 table.new last.new result.1 }
 {
-    let carry = carried(&Coder::<N>::new(style_of::<STYLE>(), *last));
-    let (rest, after, piece) = fill::<N, STYLE, ROOM, FULL>(table, piece, raw, carry);
-    *last = coder_after::<N, STYLE>(after).last;
+    let mut carry = carried(&Coder::<N>::new(style_of::<STYLE>(), *last));
+    let mut piece = piece.piece;
+    let mut rest = raw;
+    while !piece.is_full() && rest.has_block() {
+        (rest, carry, piece) = write_front::<N, STYLE, ROOM, FULL>(
+            table,
+            piece.open(),
+            rest.front_of(raw),
+            carry,
+        );
+    }
+    *last = coder_after::<N, STYLE>(carry).last;
     (rest, piece)
 }
 

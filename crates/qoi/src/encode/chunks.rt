@@ -1,31 +1,55 @@
 //! The chunks of an image, through a piece to a writer (QOI specification 1.0, "Data"): all at once,
 //! or those of some raw bytes.
-ghost use Rattle.std.specs.Prelude.{◌≡◌, ℕ, ◌-◌, ◌*◌, ◌%◌, ◌<◌, ◌≤◌, List, length, take};
-ghost use Rattle.qoi.specs.declared.encode.piece.TheConstants.{SPARE, FULL_ROOM, FEW_ROOM};
-ghost use Rattle.qoi.specs.Qoi.{header_bytes};
+ghost use Rattle.std.specs.Prelude.{◌≡◌, ℕ, ◌-◌, ◌*◌, ◌%◌, ◌<◌, ◌≤◌, List, length};
+ghost use Rattle.qoi.specs.declared.encode.piece.TheConstants.{SPARE, FULL_ROOM};
 ghost use Rattle.qoi.specs.Raw.{pixels_of};
-ghost use Rattle.qoi.specs.Encoded.{image_file, max_file_len};
-ghost use Rattle.qoi.specs.inner.Sending.{pixel_size, EndsOpaque, StaysIn, Between, IsReady, WritesWhole, EndsWith, WritesImage};
+ghost use Rattle.qoi.specs.Encoded.{max_file_len};
+ghost use Rattle.qoi.specs.inner.Sending.{IsNew, pixel_size, EndsOpaque, StaysIn, Between, IsReady, WritesWhole, EndsWith, WritesImage};
 ghost use Rattle.qoi.specs.Styles.{style_of};
 ghost use Rattle.qoi.specs.inner.Coder.{kept_bytes, CoderEnds};
 
 use crate::encode::Encoder;
 use crate::encode::blocks::write_some;
-use crate::encode::coder::Coder;
-use crate::encode::pending::Pending;
+use crate::encode::coder::{Coder, LastPixel};
 use crate::encode::piece::{FEW_ROOM, OpenPiece, Piece};
 use crate::encode::pixels::Pixels;
 use crate::encode::table::PixelTable;
 use crate::error::Result;
-use crate::types::Channels::{Rgb, Rgba};
-use crate::types::Style::{Places, Reference, Tight};
+use crate::types::Channels::{self, Rgb, Rgba};
+use crate::types::Style::{self, Places, Reference, Tight};
 use crate::writers::Writer;
 
-// Writes whole pixels of `N` channels (see `write_whole`), in the style of the number `STYLE`
+/// What is known between two calls: the table, channels and style of the image, and the last pixel
+/// that was written or repeated. Channels and style stand between table and pixel, since the zeros
+/// of both at the start would be cleared by a call.
+#[derive(Drop)]
+pub(super) struct Pending {
+    pub(super) table: PixelTable,
+    pub(super) channels: Channels,
+    pub(super) style: Style,
+    pub(super) last: LastPixel,
+}
+
+impl Pending {
+    /// Before the first pixel of an image.
+    #[inline(always)]
+    pub(super) fn new(channels: Channels, style: Style) -> Pending
+        ensures { IsNew channels style result }
+    {
+        Pending {
+            channels,
+            style,
+            table: PixelTable::new(),
+            last: LastPixel::start(),
+        }
+    }
+}
+
+// Writes whole pixels of `N` channels (see `write_pixels`), in the style of the number `STYLE`
 // (`style_of`). For each pair the compiler makes a loop of its own: one for all would test the style at
 // each pixel.
 #[inline(always)]
-fn write_blocks<'a, 'p, W: Writer, const N: usize, const STYLE: u8, const ROOM: usize>(
+fn write_in_style<'a, 'p, W: Writer, const N: usize, const STYLE: u8, const ROOM: usize>(
     writer: &mut W,
     pending: &mut Pending,
     piece: OpenPiece<'p, ROOM>,
@@ -58,7 +82,7 @@ fn write_blocks<'a, 'p, W: Writer, const N: usize, const STYLE: u8, const ROOM: 
 /// Writes whole pixels through the piece, which the writer is sent each time it is full (and else
 /// not), but for fewer than a block has at their end. Returns those, and the piece.
 #[inline(always)]
-pub(super) fn write_whole<'a, 'p, W: Writer, const ROOM: usize>(
+pub(super) fn write_pixels<'a, 'p, W: Writer, const ROOM: usize>(
     writer: &mut W,
     pending: &mut Pending,
     piece: OpenPiece<'p, ROOM>,
@@ -71,12 +95,12 @@ pub(super) fn write_whole<'a, 'p, W: Writer, const ROOM: usize>(
 {
     // A loop for each pair, in which channels and style are constants.
     match (pending.channels, pending.style) {
-        (Rgb, Reference) => write_blocks::<W, 3, 0, ROOM>(writer, pending, piece, data),
-        (Rgb, Places) => write_blocks::<W, 3, 1, ROOM>(writer, pending, piece, data),
-        (Rgb, Tight) => write_blocks::<W, 3, 2, ROOM>(writer, pending, piece, data),
-        (Rgba, Reference) => write_blocks::<W, 4, 0, ROOM>(writer, pending, piece, data),
-        (Rgba, Places) => write_blocks::<W, 4, 1, ROOM>(writer, pending, piece, data),
-        (Rgba, Tight) => write_blocks::<W, 4, 2, ROOM>(writer, pending, piece, data),
+        (Rgb, Reference) => write_in_style::<W, 3, 0, ROOM>(writer, pending, piece, data),
+        (Rgb, Places) => write_in_style::<W, 3, 1, ROOM>(writer, pending, piece, data),
+        (Rgb, Tight) => write_in_style::<W, 3, 2, ROOM>(writer, pending, piece, data),
+        (Rgba, Reference) => write_in_style::<W, 4, 0, ROOM>(writer, pending, piece, data),
+        (Rgba, Places) => write_in_style::<W, 4, 1, ROOM>(writer, pending, piece, data),
+        (Rgba, Tight) => write_in_style::<W, 4, 2, ROOM>(writer, pending, piece, data),
     }
 }
 
@@ -153,7 +177,7 @@ pub(super) fn encode_file<W: Writer, const ROOM: usize>(
     let piece = Piece::<ROOM>::with_header(&mut bytes, &encoder.header).open();
     let mut pending = Pending::new(encoder.header.channels, encoder.style);
     // A `?` would copy the result.
-    match write_whole(writer, &mut pending, piece, encoder.data) {
+    match write_pixels(writer, &mut pending, piece, encoder.data) {
         Ok((left, piece)) => {
             let mut piece = piece.piece;
             write_end(writer, &mut pending, &mut piece, left)?;
@@ -166,16 +190,18 @@ pub(super) fn encode_file<W: Writer, const ROOM: usize>(
 /// An image of fewer raw bytes has no block: fewer than sixteen pixels, of three channels or four.
 pub(super) const FEW_BYTES: usize = 48;
 
-/// Writes the chunks of an image that has no block behind its header, and the end marker. Returns how
-/// many bytes the file has.
-pub(super) fn fill_few(piece: &mut Piece<FEW_ROOM>, encoder: &Encoder) -> usize
+/// Writes the file of an image of fewer than `FEW_BYTES`, and returns how many bytes it has. It is
+/// apart from `encode_file`, which would clear its room too.
+pub(super) fn encode_few<W: Writer>(writer: &mut W, encoder: &Encoder) -> Result<usize>
     requires few { length encoder.now.raw < FEW_BYTES }
-    requires header { kept_bytes piece.old ≡ header_bytes encoder.now.header }
-    ensures within { result ≤ FEW_ROOM }
-    ensures written { take result piece.new.bytes.now
-        ≡ image_file encoder.now.style encoder.now.header encoder.now.raw }
+    requires room { max_file_len encoder.now.header ≤ W.room writer.old }
+    ensures { WritesImage W.wrote W.IsFault encoder.now writer.old writer.new result }
 {
+    let mut bytes = [0; FEW_ROOM];
+    let mut piece = Piece::<FEW_ROOM>::with_header(&mut bytes, &encoder.header);
     let mut pending = Pending::new(encoder.header.channels, encoder.style);
-    write_left(&mut pending, piece, encoder.data);
-    piece.store_marker()
+    write_left(&mut pending, &mut piece, encoder.data);
+    let end = piece.store_marker();
+    writer.write_many(piece.front(end))?;
+    Ok(end)
 }

@@ -1,6 +1,6 @@
 //! Writes pixels one by one, and groups of repeats, as chunks into a piece (QOI specification 1.0,
 //! "Data" and "Chunks").
-ghost use Rattle.std.specs.Prelude.{◌≡◌, ◌≢◌, ℕ, ◌+◌, ◌-◌, ◌*◌, ◌<◌, ◌≤◌, true, List, [], ◌∷◌, ◌++◌, Option, Some, length, take, drop, replicate, slice_get};
+ghost use Rattle.std.specs.Prelude.{◌≡◌, ◌≢◌, ℕ, ◌+◌, ◌-◌, ◌*◌, ◌<◌, ◌≤◌, true, List, [], ◌∷◌, ◌++◌, Option, None, Some, length, take, drop, replicate, slice_get};
 ghost use Rattle.qoi.specs.declared.chunk.Chunk.{Chunk};
 ghost use Rattle.qoi.specs.declared.encode.piece.TheConstants.{SPARE, RUNS_AT_ONCE};
 ghost use Rattle.qoi.specs.declared.types.Style.{Style};
@@ -10,12 +10,12 @@ ghost use Rattle.qoi.specs.Runs.{runs_by};
 ghost use Rattle.qoi.specs.Written.{IsFirst};
 ghost use Rattle.qoi.specs.Styles.{choice_in, style_of};
 ghost use Rattle.qoi.specs.inner.Table.{Holds};
+ghost use Rattle.qoi.specs.inner.block.Storing.{chunk_of};
 
 use crate::consts::{QOI_OP_RUN, QOI_RUN_MAX};
 use crate::encode::fresh::spell_pixel;
-use crate::encode::last_pixel::LastPixel;
 use crate::encode::piece::{Piece, REPEATS_AT_ONCE};
-use crate::encode::pixels::{Group, PixelOf, Pixels};
+use crate::encode::pixels::{PixelOf, Pixels};
 use crate::encode::runs::repeats_of;
 use crate::encode::table::PixelTable;
 use crate::packed::Packed;
@@ -33,6 +33,39 @@ pub(super) fn style_of<const STYLE: u8>() -> Style
     if STYLE == 1 { Places } else { Tight }
 }
 
+/// The last pixel that was written or repeated, `px`; `repeats`, how many repeats of it came that
+/// aren't written yet: fewer than a full run has; `begun`, whether a fresh pixel came, one that differs
+/// from the pixel before it; and `placed`, in style `Places` whether the chunk before those repeats
+/// names `px`'s index position. The count stands first: else the zeros of the start are stored in
+/// other widths than they are read in, which is slower.
+#[derive(Clone, Copy)]
+pub(super) struct LastPixel {
+    pub(super) repeats: usize,
+    pub(super) px: Packed,
+    pub(super) begun: bool,
+    pub(super) placed: bool,
+    ghost few: { repeats < run_max },
+}
+
+impl LastPixel {
+    ghost use Rattle.qoi.specs.inner.Coder.{CoderAfter};
+
+    /// Before the first pixel, as if opaque black came before.
+    #[tactic(auto, unfolding(crate::specs::Qoi::start))]
+    pub(super) fn start() -> LastPixel
+        ensures none { result.repeats ≡ 0 }
+        ensures state { (style : Style) (table : List RgbaPixel) → Holds table []
+            → CoderAfter style [] None table result }
+    {
+        LastPixel {
+            px: Packed::new(0, 0, 0, 0xff),
+            begun: false,
+            placed: false,
+            repeats: 0,
+        }
+    }
+}
+
 /// Writes pixels of `N` channels one by one, in this style and after this last one. The table is
 /// passed beside it, so that these few stay in registers. Where loops are called, the style is that
 /// of a number (`style_of`), which no register holds.
@@ -45,7 +78,7 @@ pub(super) struct Coder<const N: usize> {
 }
 
 impl<const N: usize> Coder<N> {
-    ghost use Rattle.qoi.specs.inner.Coder.{held_in, last_chunk, pixels_in, kept_bytes, HasBytes, CoderAfter, single, CoderBetween, CoderPasses, CoderEnds};
+    ghost use Rattle.qoi.specs.inner.Coder.{held_in, last_chunk, pixels_in, kept_bytes, CoderAfter, single, CoderBetween, CoderPasses, CoderEnds};
 
     /// The coder in this style, after this pixel.
     #[inline(always)]
@@ -91,12 +124,8 @@ impl<const N: usize> Coder<N> {
             Reference | Places => {}
             Tight => table.put_if(count > 0, self.last.px.hash_index(), self.last.px),
         }
-        self.last = LastPixel {
-            px: self.last.px,
-            begun: self.last.begun,
-            placed: self.last.placed & (count == 0),
-            repeats: left,
-        };
+        self.last.placed &= count == 0;
+        self.last.repeats = left;
     }
 
     // The chunk, as number and size, of a fresh pixel that isn't at its index position: the one
@@ -107,9 +136,9 @@ impl<const N: usize> Coder<N> {
         ensures few { spelled.1 ≤ N + 1 → result.1 ≤ N + 1 }
         ensures choice { (past : Past) (alpha : ℕ) (c : Chunk)
             → Holds table.now (held_in self.now.style past)
-            → IsChunk c → HasBytes alpha spelled.0 spelled.1 c → IsFirst past px c
+            → IsChunk c → chunk_of spelled.1 spelled.0 alpha ≡ bytes_of c → IsFirst past px c
             → seen (held_in self.now.style past) (hash px) ≢ px
-            → (d : Chunk) × IsChunk d × HasBytes alpha result.0 result.1 d
+            → (d : Chunk) × IsChunk d × (chunk_of result.1 result.0 alpha ≡ bytes_of d)
             × choice_in self.now.style past px d }
     {
         match self.style {
@@ -206,7 +235,7 @@ impl<const N: usize> Coder<N> {
         let count = carried + ahead;
         let (runs, left) = (count / QOI_RUN_MAX, count % QOI_RUN_MAX);
         piece.append_full_runs(runs);
-        if raw.ends_after(ahead) {
+        if raw.skip(ahead).is_empty() {
             // Others may follow.
             self.update_after_repeats(table, QOI_RUN_MAX * runs, left);
             return ahead;
@@ -217,34 +246,34 @@ impl<const N: usize> Coder<N> {
         ahead
     }
 
-    /// Writes the repeats that came before these pixels and those ahead, all as one run, and the fresh
-    /// pixel after them. Returns the rest.
+    /// Writes the repeats that came before these pixels and the first `ahead`, which repeat, too, all
+    /// `count` of them as one run, and the fresh pixel after them. Returns the rest.
     #[inline(always)]
     pub(super) fn write_short_group<'a, const ROOM: usize, const JUMP: bool>(
         &mut self,
         table: &mut PixelTable,
         piece: &mut Piece<ROOM>,
-        group: Group<'a, N>,
+        raw: Pixels<'a, N>,
+        ahead: usize,
+        count: usize,
     ) -> Pixels<'a, N>
-        requires count { group.count ≡ self.old.last.repeats + group.ahead }
-        requires few { group.count < run_max }
-        requires repeat { take group.ahead (pixels_in group.raw)
-            ≡ replicate group.ahead self.old.last.px }
-        requires fresh { slice_get (pixels_in group.raw) group.ahead ≢ Some self.old.last.px }
+        requires count { count ≡ self.old.last.repeats + ahead }
+        requires few { count < run_max }
+        requires inside { ahead < length (pixels_in raw) }
+        requires repeat { take ahead (pixels_in raw) ≡ replicate ahead self.old.last.px }
+        requires fresh { slice_get (pixels_in raw) ahead ≢ Some self.old.last.px }
         requires room { piece.old.end + (1 + chunk_max + marker_size) ≤ ROOM }
         ensures end { piece.new.end ≤ piece.old.end + (1 + chunk_max) }
         ensures begun { (self.new.last.begun ≡ true) × (self.new.last.repeats ≡ 0) }
-        ensures px { slice_get (pixels_in group.entry.raw) group.entry.ahead
-            ≡ Some self.new.last.px }
-        ensures rest { pixels_in result
-            ≡ drop (group.entry.ahead + 1) (pixels_in group.entry.raw) }
-        ensures less { length (pixels_in result) < length (pixels_in group.entry.raw) }
-        ensures written { CoderPasses self.old table.old piece.old (pixels_in group.entry.raw)
+        ensures px { slice_get (pixels_in raw.entry) ahead ≡ Some self.new.last.px }
+        ensures rest { pixels_in result ≡ drop (ahead + 1) (pixels_in raw.entry) }
+        ensures less { length (pixels_in result) < length (pixels_in raw.entry) }
+        ensures written { CoderPasses self.old table.old piece.old (pixels_in raw.entry)
             self.new table.new piece.new (pixels_in result) }
     {
-        piece.append_run(group.count, self.single_repeat_byte(group.count));
-        self.update_after_repeats(table, group.count, 0);
-        let after = group.raw.skip(group.ahead);
+        piece.append_run(count, self.single_repeat_byte(count));
+        self.update_after_repeats(table, count, 0);
+        let after = raw.skip(ahead);
         self.write_pixel::<ROOM, JUMP>(table, piece, after.first());
         after.skip(1)
     }

@@ -60,9 +60,9 @@ pub(crate) fn spell_pixel<const N: usize>(last: Packed, px: Packed) -> (u32, u32
     ensures spelled { IsPixel last → (c : Chunk) × SpellsOut last px result.0 result.1 c }
 {
     let steps = steps(last, px);
-    let full = px.number() % 0x100_0000 * 256;
+    let rgb = px.number() % 0x100_0000 * 256;
     if (N == 4) & (px.a() != last.a()) {
-        return (full + u32::from(QOI_OP_RGBA), 5);
+        return (rgb + u32::from(QOI_OP_RGBA), 5);
     }
     let as_diff = diff_steps(steps);
     if (as_diff.r() < 4) & (as_diff.g() < 4) & (as_diff.b() < 4) {
@@ -80,5 +80,5 @@ pub(crate) fn spell_pixel<const N: usize>(last: Packed, px: Packed) -> (u32, u32
             2,
         );
     }
-    (full + u32::from(QOI_OP_RGB), 4)
+    (rgb + u32::from(QOI_OP_RGB), 4)
 }

@@ -3,12 +3,12 @@
 ghost use Rattle.std.specs.Prelude.{◌≡◌, ◌≢◌, ◌≤◌, [], length, take, IsTrue};
 ghost use Rattle.qoi.specs.declared.encode.pairs.TheConstants.{TWO_PAIRS};
 ghost use Rattle.qoi.specs.inner.Coder.{pixels_in, CoderPasses};
-ghost use Rattle.qoi.specs.inner.block.Marks.{fresh_marks};
+ghost use Rattle.qoi.specs.inner.block.Lanes.{fresh_marks};
 
 use crate::encode::block::reading::read_four;
 use crate::encode::coder::Coder;
 use crate::encode::piece::Piece;
-use crate::encode::pixels::{Group, Pixels};
+use crate::encode::pixels::Pixels;
 use crate::encode::sparse::fresh_in_four;
 use crate::encode::table::PixelTable;
 use crate::packed::Packed;
@@ -60,18 +60,8 @@ pub(super) fn write_pairs<'a, const N: usize, const STYLE: u8, const ROOM: usize
 {
     let mut rest = raw;
     while begin_with_pairs(coder.last.px, rest) && !piece.is_full() {
-        let pair = Group {
-            raw: rest,
-            ahead: 1,
-            count: 1,
-        };
-        let half = coder.write_short_group::<ROOM, true>(table, piece, pair);
-        let pair = Group {
-            raw: half,
-            ahead: 1,
-            count: 1,
-        };
-        rest = coder.write_short_group::<ROOM, true>(table, piece, pair);
+        let half = coder.write_short_group::<ROOM, true>(table, piece, rest, 1, 1);
+        rest = coder.write_short_group::<ROOM, true>(table, piece, half, 1, 1);
     }
     rest
 }

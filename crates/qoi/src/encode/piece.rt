@@ -186,18 +186,10 @@ impl<'a, const ROOM: usize> Piece<'a, ROOM> {
         Ok(())
     }
 
-    /// The bytes.
-    #[inline(always)]
-    pub(super) fn kept(&self) -> &[u8]
-        ensures { result.now ≡ kept_bytes self.now }
-    {
-        &self.bytes[..self.end]
-    }
-
     /// Stores the end marker after the bytes, and returns where it ends.
     #[inline(always)]
     pub(super) fn store_marker(&mut self) -> usize
-        ensures within { result ≤ ROOM }
+        ensures end { result ≡ self.old.end + marker_size }
         ensures stored { take result self.new.bytes.now ≡ kept_bytes self.old ++ end_marker }
     {
         copy_after(self.bytes, self.end, &QOI_PADDING)
@@ -222,7 +214,7 @@ impl<'a, const ROOM: usize> Piece<'a, ROOM> {
         ensures refused { IfErr result (λ e. W.IsFault e
             × WroteBeginning W.wrote writer.old (kept_bytes self.old ++ end_marker) writer.new) }
     {
-        let mut end = copy_after(self.bytes, self.end, &QOI_PADDING);
+        let mut end = self.store_marker();
         if end >= ROOM - SPARE {
             send_front::<W, ROOM>(writer, self.bytes)?;
             end -= ROOM - SPARE;

@@ -4,15 +4,21 @@ ghost use Rattle.std.specs.Io.KnownBytes.{Appends};
 ghost use Rattle.qoi.specs.declared.error.Error.{Error};
 ghost use Rattle.qoi.specs.Qoi.{IsValid, tried_header};
 ghost use Rattle.qoi.specs.Raw.{image_byte_count};
+ghost use Rattle.qoi.specs.Encoded.{image_file};
 ghost use Rattle.qoi.specs.EncoderState.{EncoderState};
 ghost use Rattle.qoi.specs.Errors.{IsIoError};
+ghost use Rattle.qoi.specs.Sent.{SendsFile, SendsPart, SendsSomeFile};
+ghost use Rattle.qoi.specs.inner.Sending.{pixel_size, EndsOpaque};
+ghost use Rattle.qoi.specs.pieces.PixelWriter.{WriterState, HasTaken, HasFailed, RefusesRaw, SendsSome, and_raw, raw_left};
 
 mod kept;
 mod pieces;
 
 use crate::consts::QOI_HEADER_SIZE;
-use crate::encode::pixel_writer::kept::Kept;
-use crate::encode::pixel_writer::pieces::{send_bytes, take_any, write_held};
+use crate::encode::chunks::Pending;
+use crate::encode::piece::FULL_ROOM;
+use crate::encode::pixel_writer::kept::{Held, Kept};
+use crate::encode::pixel_writer::pieces::{send_bytes, take_raw, write_held};
 use crate::error::{Error, Result};
 use crate::header::Header;
 use crate::types::Style;
@@ -46,34 +52,24 @@ pub struct PixelWriter<W> {
 }
 
 impl<W> Model for PixelWriter<W> {
-    ghost use Rattle.std.specs.Prelude.{◌≡◌, ◌+◌, ◌%◌, ◌≤◌, length, false};
-    ghost use Rattle.qoi.specs.Qoi.{IsValid};
-    ghost use Rattle.qoi.specs.Raw.{image_byte_count};
-    ghost use Rattle.qoi.specs.inner.Sending.{pixel_size, EndsOpaque};
-    ghost use Rattle.qoi.specs.pieces.PixelWriter.{WriterState};
-
     ghost Value = { WriterState W };
 
     ghost view = { λ p. record {
       writer = p.writer;
       header = p.header;
-      style = p.kept.value.came.pending.style;
+      style = p.kept.value.pending.style;
       left = p.left;
       failed = p.failed;
-      held = p.kept.value.came.held;
-      pending = p.kept.value.came.pending;
+      held = p.kept.value.held;
+      pending = p.kept.value.pending;
     } };
 
     ghost invariant = { λ p. IsValid p.header × (p.left ≤ image_byte_count p.header)
-        × (p.failed ≡ false → EndsOpaque p.kept.value.came.pending
-        × ((length p.kept.value.came.held + p.left) % pixel_size p.kept.value.came.pending ≡ 0)) };
+        × (p.failed ≡ false → EndsOpaque p.kept.value.pending
+        × ((length p.kept.value.held + p.left) % pixel_size p.kept.value.pending ≡ 0)) };
 }
 
 impl<W: Write + Drop> PixelWriter<W> {
-    ghost use Rattle.qoi.specs.Encoded.{image_file};
-    ghost use Rattle.qoi.specs.Sent.{SendsFile, SendsPart, SendsSomeFile};
-    ghost use Rattle.qoi.specs.pieces.PixelWriter.{HasTaken, HasFailed, RefusesRaw, SendsSome, and_raw, raw_left};
-
     /// Sends the header of the image to the writer.
     ///
     /// `InvalidImageDimensions` if width times height is 0 or above 400,000,000; `OutOfMemory` if
@@ -92,7 +88,12 @@ impl<W: Write + Drop> PixelWriter<W> {
             header.channels,
             header.colorspace,
         )?;
-        let kept = Box::new(alloc, Kept::new(header.channels, style))?;
+        let kept = Kept {
+            pending: Pending::new(header.channels, style),
+            held: Held::new(),
+            piece_bytes: [0; FULL_ROOM],
+        };
+        let kept = Box::new(alloc, kept)?;
         let mut writer = writer;
         send_bytes(&mut writer, &header.encode()[..QOI_HEADER_SIZE])?;
         Ok(PixelWriter {
@@ -121,7 +122,7 @@ impl<W: Write + Drop> PixelWriter<W> {
             → HasTaken W.contents e before self.now ⊎ HasFailed W.contents e before self.now
             → result ≡ e.style }
     {
-        self.kept.came.pending.style
+        self.kept.pending.style
     }
 
     /// How many raw bytes of the image haven't come yet.
@@ -173,7 +174,11 @@ impl<W: Write + Drop> PixelWriter<W> {
         // It stays set if a fault ends the call.
         self.failed = true;
         let kept = &mut *self.kept;
-        take_any(&mut self.writer, kept, raw)?;
+        if kept.held.takes(raw.len()) {
+            kept.held.push(raw);
+        } else {
+            take_raw(&mut self.writer, kept, raw)?;
+        }
         self.failed = false;
         self.left -= raw.len();
         Ok(())

@@ -26,16 +26,6 @@ pub(super) struct PixelOf<const N: usize> {
     ghost opaque: { N ≡ 3 → px.a ≡ 255 },
 }
 
-/// Pixels of which the first `ahead` ones are repeats, and another pixel after them; with repeats that
-/// came before there are `count`.
-#[derive(Clone, Copy)]
-pub(super) struct Group<'a, const N: usize> {
-    pub(super) raw: Pixels<'a, N>,
-    pub(super) ahead: usize,
-    pub(super) count: usize,
-    ghost inside: { ahead < length (pixels_of N raw.bytes.now) },
-}
-
 /// Pixels that begin with a block, sixteen or more: what is left of `whole`, a loop's pixels.
 #[derive(Clone, Copy)]
 pub(super) struct FrontBlock<'a, const N: usize> {
@@ -43,13 +33,6 @@ pub(super) struct FrontBlock<'a, const N: usize> {
     pub(super) whole: Pixels<'a, N>,
     ghost enough: { 16 ≤ length (pixels_of N raw.bytes.now) },
     ghost long: { N * 16 ≤ length raw.bytes.now },
-}
-
-/// Such pixels, and a bit for each fresh one of the block.
-#[derive(Clone, Copy)]
-pub(super) struct Marked<'a, const N: usize> {
-    pub(super) front: FrontBlock<'a, N>,
-    pub(super) marks: u64,
 }
 
 impl<'a, const N: usize> Pixels<'a, N> {
@@ -88,15 +71,6 @@ impl<'a, const N: usize> Pixels<'a, N> {
         self.bytes.len() >= MANY_BYTES
     }
 
-    /// Whether there are fewer than others.
-    #[inline(always)]
-    pub(super) fn are_fewer(self, than: Pixels<N>) -> bool
-        ensures { IsTrue result
-            → length (pixels_in self.entry) < length (pixels_in than.entry) }
-    {
-        self.bytes.len() < than.bytes.len()
-    }
-
     /// These pixels, a block or more, which are left of others.
     #[tactic(auto, using(crate::proofs::encoding::coder::PixelsIn::bytes_within))]
     #[inline(always)]
@@ -106,16 +80,6 @@ impl<'a, const N: usize> Pixels<'a, N> {
         ensures whole { result.whole ≡ whole.entry }
     {
         FrontBlock { raw: self, whole }
-    }
-
-    /// Whether there are `count`, and no more.
-    #[tactic(auto, using(crate::proofs::encoding::coder::PixelsIn::bytes_within))]
-    #[inline(always)]
-    pub(super) fn ends_after(self, count: usize) -> bool
-        requires { count ≤ length (pixels_in self) }
-        ensures { IsTrue result ↔ (drop count (pixels_in self.entry) ≡ []) }
-    {
-        N * count == self.bytes.len()
     }
 
     /// The first one.

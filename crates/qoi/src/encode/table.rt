@@ -20,9 +20,6 @@ pub(super) struct PixelTable {
 }
 
 impl Model for PixelTable {
-    ghost use Rattle.std.specs.Prelude.{◌≡◌, List, length};
-    ghost use Rattle.qoi.specs.Qoi.{RgbaPixel};
-
     ghost Value = { List RgbaPixel };
 
     ghost view = { λ t. t.pixels };

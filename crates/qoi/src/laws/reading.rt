@@ -139,14 +139,14 @@ pub fn images_are_functions()
 
 /// Raw bytes of a valid header's image, as decoding gives them, are accepted by an encoder with its
 /// width and height, and get its header, in sRGB.
-#[tactic(auto, using(crate::proofs::format::ImageHeader::encoded_again))]
+#[tactic(auto, using(crate::proofs::format::HeaderBytes::encoded_again))]
 pub fn images_are_accepted()
     ensures { (h : Header) (raw : List ℕ) → IsValid h → length raw ≡ image_byte_count h
         → image_header raw h.width h.height ≡ Ok (record h { colorspace = ColorSpace.Srgb }) }
 {}
 
 /// Raw bytes of the right number are accepted by an encoder, and get the header of their size.
-#[tactic(auto, using(crate::proofs::format::ImageHeader::size_accepted))]
+#[tactic(auto, using(crate::proofs::format::HeaderBytes::size_accepted))]
 pub fn sizes_are_accepted()
     ensures { (raw : List ℕ) (width height : ℕ) (channels : Channels) → 1 ≤ width * height
         → width * height ≤ pixels_max

@@ -1,6 +1,6 @@
 //! Laws of the chunk list that is written for an image. They compute whole images and files, so
 //! they import types and variants besides the definitions.
-ghost use Rattle.std.specs.Prelude.{◌≡◌, ◌≢◌, ◌↔◌, ℕ, ◌+◌, ◌-◌, ◌*◌, ◌/◌, ◌<◌, ◌≤◌, List, [], ◌∷◌, ◌++◌, length, replicate};
+ghost use Rattle.std.specs.Prelude.{◌≡◌, ◌↔◌, ℕ, ◌+◌, ◌*◌, ◌<◌, ◌≤◌, List, [], ◌∷◌, ◌++◌, length, replicate};
 ghost use Rattle.std.specs.List.{AllByRecursion};
 ghost use Rattle.qoi.specs.declared.chunk.Chunk.{Chunk};
 ghost use Rattle.qoi.specs.declared.header.Header.{Header};
@@ -8,12 +8,12 @@ ghost use Rattle.qoi.specs.declared.types.Channels.{Channels};
 ghost use Rattle.qoi.specs.declared.types.Style.{Style};
 ghost use Rattle.qoi.specs.declared.types.Style.TheVariants.{Reference, Places, Tight};
 ghost use Rattle.qoi.specs.declared.chunk.Chunk.TheVariants.{Place, Run, Rgb, Rgba};
-ghost use Rattle.qoi.specs.Qoi.{RgbaPixel, IsPixel, Past, run_max, blank, default_header, pixel, previous, seen, start, AreBytes, IsValid, chunk_bytes, file, Reaches, meaning};
+ghost use Rattle.qoi.specs.Qoi.{RgbaPixel, IsPixel, Past, default_header, pixel, seen, start, AreBytes, IsValid, chunk_bytes, file, meaning};
 ghost use Rattle.qoi.specs.WrittenList.{written_list};
 ghost use Rattle.qoi.specs.Encoded.{max_len, image_file, IsFileLength, IsFileOf};
 ghost use Rattle.qoi.specs.Raw.{IsChannels, image_byte_count, output, pixels_of, HasChannels};
-ghost use Rattle.qoi.specs.Regular.{Begins, Covers, Regular};
-ghost use Rattle.qoi.specs.Shortest.{floor, trailing_repeats, slack, total_cost};
+ghost use Rattle.qoi.specs.Regular.{Covers, Regular};
+ghost use Rattle.qoi.specs.Shortest.{floor, slack};
 ghost use Rattle.qoi.specs.Tight.{first_and_fresh, IsTightChoice, floor0};
 ghost use Rattle.qoi.specs.Written.{WrittenBy, Written};
 ghost use Rattle.qoi.specs.Styles.{in_style, WrittenIn};
@@ -39,12 +39,6 @@ pub fn styles_are_written()
         ↔ WrittenIn Tight image cs }
 {}
 
-/// Two neighbouring chunks of a written list never name the same index position.
-pub fn written_is_apart()
-    ensures { (style : Style) (image : List RgbaPixel) (cs front rest : List Chunk) (i : ℕ)
-        → WrittenIn style image cs → cs ≢ front ++ Place i ∷ Place i ∷ rest }
-{}
-
 /// The pixels of raw bytes, three or four bytes each, meet `IsPixel`. They are opaque if three
 /// bytes make one, and they give the bytes back.
 pub fn bytes_are_pixels()
@@ -66,23 +60,6 @@ pub fn images_have_files()
     ensures { (style : Style) (h : Header) (raw : List ℕ) → IsValid h
         → length raw ≡ image_byte_count h → AreBytes raw
         → IsFileOf style h raw (image_file style h raw) }
-{}
-
-/// A list is regular if each index position that it names holds a pixel of that position; of empty
-/// positions only 0 does. The written list is regular in each style but `Tight`.
-pub fn written_is_regular()
-    ensures { (style : Style) (image : List RgbaPixel) (cs : List Chunk) → style ≢ Tight
-        → WrittenIn style image cs → Regular cs }
-{}
-
-/// If no pixel of an image is transparent black, as in an image of three channels, each list that
-/// reaches its pixels and begins with them is regular.
-#[tactic(auto, using(crate::proofs::shortness::RegularLists::no_blank_regular, crate::proofs::shortness::RegularLists::opaque_regular))]
-pub fn no_blank_is_regular()
-    ensures no_blank { (image : List RgbaPixel) (cs : List Chunk) → Reaches (length image) cs
-        → Begins (meaning cs) image → AllByRecursion (λ p. p ≢ blank) image → Regular cs }
-    ensures three_channels { (image : List RgbaPixel) (cs : List Chunk) → Reaches (length image) cs
-        → Begins (meaning cs) image → HasChannels image 3 → Regular cs }
 {}
 
 /// No regular list whose pixels begin with those of an image has fewer bytes than the image's
@@ -116,14 +93,6 @@ pub fn tight_is_shortest()
     ensures shortest { (image : List RgbaPixel) (cs others : List Chunk) → WrittenIn Tight image cs
         → Covers image others → length (chunk_bytes cs) ≤ length (chunk_bytes others) }
     ensures floors { (image : List RgbaPixel) → floor0 image ≤ floor image }
-{}
-
-/// In a floor a group of repeats costs a byte for each 62 of them, rounded up.
-#[tactic(auto, using(crate::proofs::shortness::Costs::cost_run))]
-pub fn group_cost()
-    ensures { (shortest : Past → RgbaPixel → ℕ) (past : Past) (n : ℕ) → trailing_repeats past ≡ 0
-        → total_cost shortest (replicate n (previous past) ++ past)
-        ≡ total_cost shortest past + (n + (run_max - 1)) / run_max }
 {}
 
 /// The slack is reached. Opaque black, a color and opaque black again are written in 9 bytes in

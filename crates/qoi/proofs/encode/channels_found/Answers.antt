@@ -2,7 +2,7 @@
 use Rattle.std.proofs.Common.{length, sym, arith}
 use Rattle.qoi.specs.declared.types.Channels.TheVariants.{Rgb, Rgba}
 use Rattle.qoi.specs.Qoi.{pixel_count}
-use Rattle.qoi.proofs.format.ImageHeader.{found_by}
+use Rattle.qoi.proofs.format.HeaderBytes.{found_by}
 use Rattle.qoi.proofs.encode.channels_found.Goals as goal
 
 pub returns-then-size-n_pixels : goal.returns-then-size-n_pixels

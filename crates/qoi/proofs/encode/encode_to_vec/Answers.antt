@@ -1,5 +1,5 @@
 -- Raw bytes of the right number aren't refused by the encoder.
-use Rattle.qoi.proofs.format.ImageHeader.{size_not_refused, header_not_refused}
+use Rattle.qoi.proofs.format.HeaderBytes.{size_not_refused, header_not_refused}
 use Rattle.qoi.proofs.encode.encode_to_vec.Goals as goal
 
 pub returns-in_err-new-clause-accepts : goal.returns-in_err-new-clause-accepts

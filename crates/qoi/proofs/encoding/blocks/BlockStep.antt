@@ -10,9 +10,8 @@ use Rattle.qoi.specs.declared.types.Style.{Style}
 use Rattle.qoi.specs.declared.types.Style.TheVariants.{Reference, Places, Tight}
 use Rattle.qoi.specs.Qoi.{RgbaPixel, pixel_eq, seen, hash}
 use Rattle.qoi.specs.Styles.{names}
-use Rattle.qoi.specs.inner.block.Lanes.{mask, State, lanes_of, is_rep, group_bytes, next_state, more_of, block_bytes, NoneBlank, next_by}
+use Rattle.qoi.specs.inner.block.Lanes.{fresh_marks, mask, State, lanes_of, is_rep, group_bytes, next_state, more_of, block_bytes, NoneBlank, next_by}
 use Rattle.qoi.specs.inner.block.Block.{last_pixel}
-use Rattle.qoi.specs.inner.block.Marks.{fresh_marks}
 use Rattle.qoi.specs.inner.BlockLoop.{InBlocks}
 use Rattle.qoi.specs.inner.block.Vectors.{counts, HasSpelled}
 use Rattle.qoi.specs.inner.Coder.{Ahead}

@@ -87,9 +87,8 @@ fresh_first (p ∷ past) b = go (fresh_first past) (cases_pixel p (previous past
 
 -- so in each style the last pixel stands at its position
 stands_there : (style : Style) (past : Past) → some_fresh past ≡ true → seen (held_in style past) (hash (previous past)) ≡ previous past
-stands_there Reference past b = fresh_first past b
-stands_there Places past b = fresh_first past b
 stands_there Tight past b = seen_last past b
+stands_there style past b = fresh_first past b
 
 -- repeats leave it so that a fresh pixel came
 pub still_begun : (n : ℕ) (past : Past) → some_fresh past ≡ true → some_fresh (replicate n (previous past) ++ past) ≡ true

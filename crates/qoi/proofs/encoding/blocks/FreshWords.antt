@@ -5,8 +5,8 @@ use lib.Lanes.{mask_l, pick_l, top, zip2}
 use Rattle.qoi.specs.declared.encode.block.planes.Words.{Words}
 use Rattle.qoi.specs.Qoi.{RgbaPixel, pixel_eq}
 use Rattle.qoi.specs.inner.Packed.{pixel_of_word}
-use Rattle.qoi.specs.inner.block.Marks.{fresh_marks}
-use Rattle.qoi.specs.inner.block.Planes.{AreFour, ArePacked, pixels_of_words, block_pixels}
+use Rattle.qoi.specs.inner.block.Lanes.{fresh_marks}
+use Rattle.qoi.specs.inner.block.Planes.{AreFour, ArePacked, block_pixels}
 use Rattle.qoi.proofs.encoding.blocks.PackedBlock.{number_pixel, repacked}
 use Rattle.qoi.proofs.encoding.lanes.StandMasks.{same_words}
 
@@ -37,19 +37,17 @@ same_numbers v w lv lw =
 
 -- the bits of four are those of their fresh pixels
 pub fresh_four : (before four : List ℕ) → AreFour before → AreFour four
-    → differing before four ≡ fresh_marks (pixel_of_word (slice_index before 3)) (pixels_of_words four)
+    → differing before four ≡ fresh_marks (pixel_of_word (slice_index before 3)) (map pixel_of_word four)
 fresh_four (x ∷ y ∷ z ∷ q ∷ []) (a ∷ b ∷ c ∷ d ∷ []) f g =
     (λ i. mask_l (map (λ s. top 31 (cond (not s) 4294967295 0))
     (same_numbers a q (g.1 0) (f.1 3) i ∷ same_numbers b a (g.1 1) (g.1 0) i ∷ same_numbers c b (g.1 2) (g.1 1) i ∷ same_numbers d c (g.1 3) (g.1 2) i ∷ [])) % 2 ^ 64)
     ∙ four_bits _ _ _ _
-fresh_four (x ∷ y ∷ z ∷ q ∷ []) four f g = absurd (let l = g.0 in omega arith)
-fresh_four before four f g = absurd (let l = f.0 in omega arith)
+fresh_four before four f g = absurd (omega (arith, f.0, g.0))
 
 -- the bits of four that differ from other four are four bits
 pub few_four : (xs ys : List ℕ) → length xs ≡ 4 → length ys ≡ 4 → mask_l (map (top 31) (zip2 differs xs ys)) % 2 ^ 64 < 2 ^ 4
 few_four (a ∷ b ∷ c ∷ d ∷ []) (e ∷ f ∷ g ∷ h ∷ []) l m = omega (arith, mask_l-lt (map (top 31) (zip2 differs (a ∷ b ∷ c ∷ d ∷ []) (e ∷ f ∷ g ∷ h ∷ []))))
-few_four (a ∷ b ∷ c ∷ d ∷ []) ys l m = absurd (omega (arith, m))
-few_four xs ys l m = absurd (omega (arith, l))
+few_four xs ys l m = absurd (omega (arith, l, m))
 
 -- the bits of those that follow stand above them
 behind : (a b c d m : ℕ) → a + 2 * (b + 2 * (c + 2 * (d + 2 * m))) ≡ a + 2 * (b + 2 * (c + 2 * (d + 2 * 0))) + 2 ^ 4 * m
@@ -57,18 +55,18 @@ behind a b c d m = omega arith
 
 -- the bits of four pixels and of others after them
 four_more : (q : RgbaPixel) (four : List ℕ) (ps : List RgbaPixel) → AreFour four
-    → fresh_marks q (pixels_of_words four ++ ps) ≡ fresh_marks q (pixels_of_words four) + 2 ^ 4 * fresh_marks (pixel_of_word (slice_index four 3)) ps
+    → fresh_marks q (map pixel_of_word four ++ ps) ≡ fresh_marks q (map pixel_of_word four) + 2 ^ 4 * fresh_marks (pixel_of_word (slice_index four 3)) ps
 four_more q (a ∷ b ∷ c ∷ d ∷ []) ps f = behind _ _ _ _ (fresh_marks (pixel_of_word d) ps)
 four_more q four ps f = absurd (let l = f.0 in omega arith)
 
 -- the bits of a block's pixels, four by four
 pub fresh_sixteen : (q : RgbaPixel) (w : Words) → ArePacked w
-    → fresh_marks q (block_pixels w) ≡ fresh_marks q (pixels_of_words w.one) + 2 ^ 4 * fresh_marks (pixel_of_word (slice_index w.one 3)) (pixels_of_words w.two)
-    + 2 ^ 8 * fresh_marks (pixel_of_word (slice_index w.two 3)) (pixels_of_words w.three) + 2 ^ 12 * fresh_marks (pixel_of_word (slice_index w.three 3)) (pixels_of_words w.four)
+    → fresh_marks q (block_pixels w) ≡ fresh_marks q (map pixel_of_word w.one) + 2 ^ 4 * fresh_marks (pixel_of_word (slice_index w.one 3)) (map pixel_of_word w.two)
+    + 2 ^ 8 * fresh_marks (pixel_of_word (slice_index w.two 3)) (map pixel_of_word w.three) + 2 ^ 12 * fresh_marks (pixel_of_word (slice_index w.three 3)) (map pixel_of_word w.four)
 fresh_sixteen q w p =
     omega (
       arith,
-      four_more q w.one (pixels_of_words w.two ++ (pixels_of_words w.three ++ pixels_of_words w.four)) p.0,
-      four_more (pixel_of_word (slice_index w.one 3)) w.two (pixels_of_words w.three ++ pixels_of_words w.four) p.1.0,
-      four_more (pixel_of_word (slice_index w.two 3)) w.three (pixels_of_words w.four) p.1.1.0,
+      four_more q w.one (map pixel_of_word w.two ++ (map pixel_of_word w.three ++ map pixel_of_word w.four)) p.0,
+      four_more (pixel_of_word (slice_index w.one 3)) w.two (map pixel_of_word w.three ++ map pixel_of_word w.four) p.1.0,
+      four_more (pixel_of_word (slice_index w.two 3)) w.three (map pixel_of_word w.four) p.1.1.0,
     )

@@ -8,7 +8,7 @@ use Rattle.qoi.specs.declared.types.Style.{Style}
 use Rattle.qoi.specs.Qoi.{RgbaPixel, pixel_eq, hash}
 use Rattle.qoi.specs.inner.block.Vectors.{named_in, firsts_in, sizes, all_true, counts, is_full, AreFull}
 use Rattle.qoi.specs.inner.block.Storing.{full_bytes}
-use Rattle.qoi.specs.inner.block.Lanes.{Lane, IsLane, AreLanes, mask, as_diff, as_luma, fits_in_diff, fits_in_luma, same_alpha, fits_diff, fits_luma, first_of, first_by, second_of, second_by, size_of, size_by, State, lanes_of, is_rep, goes_on, step_by, next_state, more_of, block_bytes}
+use Rattle.qoi.specs.inner.block.Lanes.{Lane, IsLane, mask, as_diff, as_luma, fits_in_diff, fits_in_luma, same_alpha, fits_diff, fits_luma, first_of, first_by, second_of, second_by, size_of, size_by, State, lanes_of, is_rep, goes_on, step_by, next_state, more_of, block_bytes}
 use Rattle.qoi.proofs.format.SamePixels.{hash_below}
 use Rattle.qoi.proofs.encoding.blocks.LaneBytes.{repeat_fits, none_and}
 use Rattle.qoi.proofs.encoding.blocks.StyledBytes.{fresh_stays}
@@ -48,7 +48,7 @@ full_lane l is full =
     go k false e = e
 
 -- each of these has
-pub full_lanes : (ls : List Lane) → AreLanes ls → AreFull ls → AllByRecursion FullLane ls
+pub full_lanes : (ls : List Lane) → AllByRecursion IsLane ls → AreFull ls → AllByRecursion FullLane ls
 full_lanes [] are full = tt
 full_lanes (l ∷ ls) are full = let p = and_parts (is_full l) (all_true (map is_full ls)) full in (full_lane l are.0 p.0, full_lanes ls are.1 p.1)
 

@@ -4,8 +4,8 @@ use Rattle.std.specs.List.{AllByRecursion}
 use Rattle.qoi.specs.declared.encode.block.planes.Words.{Words}
 use Rattle.qoi.specs.Qoi.{IsPixel}
 use Rattle.qoi.specs.inner.Packed.{word, pixel_of_word}
-use Rattle.qoi.proofs.format.Appended.{all_append}
-use Rattle.qoi.specs.inner.block.Planes.{AreFour, AreSixteen, AreBlockWords, ArePacked, pixels_of_words, block_pixels}
+use Rattle.qoi.proofs.format.ChunkSteps.{all_append}
+use Rattle.qoi.specs.inner.block.Planes.{AreFour, AreSixteen, AreBlockWords, ArePacked, block_pixels}
 
 -- a number of 32 bits is a pixel
 pub number_pixel : (w : ℕ) → w < 2 ^ 32 → IsPixel (pixel_of_word w)
@@ -17,9 +17,9 @@ repacked w l = omega arith
 
 -- the pixels of four numbers
 pub record FourNumbers (xs : List ℕ) : Type 0 where
-  pub long : length (pixels_of_words xs) ≡ 4
-  pub are : AllByRecursion IsPixel (pixels_of_words xs)
-  pub packed : xs ≡ map word (pixels_of_words xs)
+  pub long : length (map pixel_of_word xs) ≡ 4
+  pub are : AllByRecursion IsPixel (map pixel_of_word xs)
+  pub packed : xs ≡ map word (map pixel_of_word xs)
 
 -- four numbers of 32 bits are four pixels
 pub four_numbers : (xs : List ℕ) → AreFour xs → FourNumbers xs
@@ -38,11 +38,11 @@ packed_block w (a0 ∷ a1 ∷ a2 ∷ a3 ∷ []) (b0 ∷ b1 ∷ b2 ∷ b3 ∷ [])
     let two = four_numbers (b0 ∷ b1 ∷ b2 ∷ b3 ∷ []) fb in
     let three = four_numbers (c0 ∷ c1 ∷ c2 ∷ c3 ∷ []) fc in
     let four = four_numbers (d0 ∷ d1 ∷ d2 ∷ d3 ∷ []) fd in
-    let a = pixels_of_words (a0 ∷ a1 ∷ a2 ∷ a3 ∷ []) in
-    let b = pixels_of_words (b0 ∷ b1 ∷ b2 ∷ b3 ∷ []) in
-    let c = pixels_of_words (c0 ∷ c1 ∷ c2 ∷ c3 ∷ []) in
-    let d = pixels_of_words (d0 ∷ d1 ∷ d2 ∷ d3 ∷ []) in
-    let ps = sym (λ i. pixels_of_words (ea i) ++ (pixels_of_words (eb i) ++ (pixels_of_words (ec i) ++ pixels_of_words (ed i)))) in (
+    let a = map pixel_of_word (a0 ∷ a1 ∷ a2 ∷ a3 ∷ []) in
+    let b = map pixel_of_word (b0 ∷ b1 ∷ b2 ∷ b3 ∷ []) in
+    let c = map pixel_of_word (c0 ∷ c1 ∷ c2 ∷ c3 ∷ []) in
+    let d = map pixel_of_word (d0 ∷ d1 ∷ d2 ∷ d3 ∷ []) in
+    let ps = sym (λ i. map pixel_of_word (ea i) ++ (map pixel_of_word (eb i) ++ (map pixel_of_word (ec i) ++ map pixel_of_word (ed i)))) in (
       subst AreSixteen ps (record { long = refl; are = all_append IsPixel a (b ++ (c ++ d)) one.are (all_append IsPixel b (c ++ d) two.are (all_append IsPixel c d three.are four.are)) }),
       record {
         one_are = ea ∙ one.packed ∙ ap (λ qs. map word (take 4 qs)) ps;
@@ -51,10 +51,7 @@ packed_block w (a0 ∷ a1 ∷ a2 ∷ a3 ∷ []) (b0 ∷ b1 ∷ b2 ∷ b3 ∷ [])
         four_are = ed ∙ four.packed ∙ ap (λ qs. map word (take 4 (drop 12 qs))) ps;
       },
     )
-packed_block w (a0 ∷ a1 ∷ a2 ∷ a3 ∷ []) (b0 ∷ b1 ∷ b2 ∷ b3 ∷ []) (c0 ∷ c1 ∷ c2 ∷ c3 ∷ []) d ea eb ec ed fa fb fc fd = absurd (let l = fd.0 in omega arith)
-packed_block w (a0 ∷ a1 ∷ a2 ∷ a3 ∷ []) (b0 ∷ b1 ∷ b2 ∷ b3 ∷ []) c d ea eb ec ed fa fb fc fd = absurd (let l = fc.0 in omega arith)
-packed_block w (a0 ∷ a1 ∷ a2 ∷ a3 ∷ []) b c d ea eb ec ed fa fb fc fd = absurd (let l = fb.0 in omega arith)
-packed_block w a b c d ea eb ec ed fa fb fc fd = absurd (let l = fa.0 in omega arith)
+packed_block w a b c d ea eb ec ed fa fb fc fd = absurd (omega (arith, fa.0, fb.0, fc.0, fd.0))
 
 -- sixteen numbers of 32 bits are sixteen pixels
 pub block_sixteen : (w : Words) → ArePacked w → AreSixteen (block_pixels w)

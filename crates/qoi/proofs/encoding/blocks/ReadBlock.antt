@@ -5,8 +5,7 @@ use Rattle.std.proofs.Math.Nat.{mul_comm}
 use Rattle.std.proofs.lemmas.List.{take-append-drop, length-take-le}
 use Rattle.qoi.specs.Qoi.{RgbaPixel, IsPixel, AreBytes}
 use Rattle.qoi.specs.Raw.{IsChannels, pixels_of, pixels_of_3, pixels_of_4, AreOpaque}
-use Rattle.qoi.specs.inner.Packed.{word}
-use Rattle.qoi.specs.inner.block.Planes.{pixels_of_words}
+use Rattle.qoi.specs.inner.Packed.{word, pixel_of_word}
 use Rattle.qoi.proofs.format.RawPixels.{pixels_of_are, opaque_3}
 use Rattle.qoi.proofs.format.WholePixels.{by_channels}
 use Rattle.qoi.proofs.encoding.coder.CoderSteps.{all_bytes}
@@ -15,18 +14,17 @@ use Rattle.qoi.proofs.encoding.lists.GroupRuns.{pixels_drop}
 use Rattle.qoi.proofs.format.PackedPixels.{unpacked}
 
 -- packed pixels are these pixels
-pub unpacked_all : (ps : List RgbaPixel) → AllByRecursion IsPixel ps → pixels_of_words (map word ps) ≡ ps
+pub unpacked_all : (ps : List RgbaPixel) → AllByRecursion IsPixel ps → map pixel_of_word (map word ps) ≡ ps
 unpacked_all [] a = refl
 unpacked_all (p ∷ ps) a = λ i. unpacked p a.0 i ∷ unpacked_all ps a.1 i
 
 -- the first of pixels
 pub all_first : (P : RgbaPixel → Type 0) (n : ℕ) (ps : List RgbaPixel) → AllByRecursion P ps → AllByRecursion P (take n ps)
-all_first P zero ps a = tt
-all_first P (suc n) [] a = tt
 all_first P (suc n) (p ∷ ps) a = (a.0, all_first P n ps a.1)
+all_first P n ps a = tt
 
 -- the first four pixels of bytes, packed, are these pixels
-pub four_unpacked : (n : ℕ) (bytes : List ℕ) → IsChannels n → AreBytes bytes → pixels_of_words (map word (take 4 (pixels_of n bytes))) ≡ take 4 (pixels_of n bytes)
+pub four_unpacked : (n : ℕ) (bytes : List ℕ) → IsChannels n → AreBytes bytes → map pixel_of_word (map word (take 4 (pixels_of n bytes))) ≡ take 4 (pixels_of n bytes)
 four_unpacked n bytes is are = unpacked_all _ (all_first IsPixel 4 (pixels_of n bytes) (pixels_of_are n bytes is (all_bytes bytes are)))
 
 -- in three channels the first sixteen are opaque
@@ -71,7 +69,7 @@ four_on n k bytes qs is inside e =
 pub sixteen_read : (n : ℕ) (bytes one two three four : List ℕ) → IsChannels n → AreBytes bytes → 16 * n ≤ length bytes
     → one ≡ map word (take 4 (pixels_of n bytes)) → two ≡ map word (take 4 (pixels_of n (drop (4 * n) bytes)))
     → three ≡ map word (take 4 (pixels_of n (drop (8 * n) bytes))) → four ≡ map word (take 4 (pixels_of n (drop (12 * n) bytes)))
-    → pixels_of_words one ++ (pixels_of_words two ++ (pixels_of_words three ++ pixels_of_words four)) ≡ take 16 (pixels_of n bytes)
+    → map pixel_of_word one ++ (map pixel_of_word two ++ (map pixel_of_word three ++ map pixel_of_word four)) ≡ take 16 (pixels_of n bytes)
 sixteen_read n bytes one two three four is are long e1 e2 e3 e4 =
     let ps = pixels_of n bytes in
     let qs = take 16 ps in
@@ -80,8 +78,8 @@ sixteen_read n bytes one two three four is are long e1 e2 e3 e4 =
     let all : AllByRecursion IsPixel qs = all_first IsPixel 16 ps (pixels_of_are n bytes is (all_bytes bytes are)) in
     let f = four_fours qs (record { long = size; are = all }) in
     let w = subst (Within qs) (take-append-drop 16 ps) (within qs (drop 16 ps) size) in
-    let a = ap pixels_of_words (e1 ∙ ap (map word) w.one) ∙ unpacked_all (take 4 qs) f.one.are in
-    let b = ap pixels_of_words (e2 ∙ ap (map word) (four_on n 4 bytes qs is (omega arith) w.two)) ∙ unpacked_all (take 4 (drop 4 qs)) f.two.are in
-    let c = ap pixels_of_words (e3 ∙ ap (map word) (four_on n 8 bytes qs is (omega arith) w.three)) ∙ unpacked_all (take 4 (drop 8 qs)) f.three.are in
-    let d = ap pixels_of_words (e4 ∙ ap (map word) (four_on n 12 bytes qs is (omega arith) w.four)) ∙ unpacked_all (take 4 (drop 12 qs)) f.four.are in
+    let a = ap (map pixel_of_word) (e1 ∙ ap (map word) w.one) ∙ unpacked_all (take 4 qs) f.one.are in
+    let b = ap (map pixel_of_word) (e2 ∙ ap (map word) (four_on n 4 bytes qs is (omega arith) w.two)) ∙ unpacked_all (take 4 (drop 4 qs)) f.two.are in
+    let c = ap (map pixel_of_word) (e3 ∙ ap (map word) (four_on n 8 bytes qs is (omega arith) w.three)) ∙ unpacked_all (take 4 (drop 8 qs)) f.three.are in
+    let d = ap (map pixel_of_word) (e4 ∙ ap (map word) (four_on n 12 bytes qs is (omega arith) w.four)) ∙ unpacked_all (take 4 (drop 12 qs)) f.four.are in
     (λ i. a i ++ (b i ++ (c i ++ d i))) ∙ f.whole

@@ -2,7 +2,7 @@
 use Rattle.std.proofs.Common.{◌≡◌, ℕ, suc, false, List, [], ◌∷◌, length, map, take, refl, sym, ap, ◌∙◌, arith}
 use Rattle.std.specs.List.{AllByRecursion}
 use Rattle.qoi.specs.Qoi.{RgbaPixel, IsPixel, Past, pixel, hash, seen, pixel_eq}
-use Rattle.qoi.specs.inner.block.Lanes.{Lane, AreLanes, mask, State, lanes_of}
+use Rattle.qoi.specs.inner.block.Lanes.{Lane, mask, State, lanes_of, IsLane}
 use Rattle.qoi.specs.declared.encode.block.planes.Planes.{Planes}
 use Rattle.qoi.specs.inner.block.Vectors.{AreBy, AreMasks, ArePlanesBy}
 use Rattle.qoi.specs.inner.block.Planes.{AreSixteen, ArePlanes}
@@ -15,12 +15,12 @@ lanes_long held q [] = refl
 lanes_long held q (p ∷ ps) = ap (λ n. suc n) (lanes_long (p ∷ held) p ps)
 
 -- lanes of pixels
-pub lanes_are : (held : Past) (q : RgbaPixel) (ps : List RgbaPixel) → IsPixel q → AllByRecursion IsPixel ps → AreLanes (lanes_of held q ps)
+pub lanes_are : (held : Past) (q : RgbaPixel) (ps : List RgbaPixel) → IsPixel q → AllByRecursion IsPixel ps → AllByRecursion IsLane (lanes_of held q ps)
 lanes_are held q [] iq a = tt
 lanes_are held q (p ∷ ps) iq a = (record { px_is = a.0; before_is = iq }, lanes_are (p ∷ held) p ps a.0 a.1)
 
 -- before them stands a pixel
-pub last_is_pixel : (held : Past) (q : RgbaPixel) (ps : List RgbaPixel) → AreSixteen ps → AreLanes (lanes_of held q ps) → IsPixel q
+pub last_is_pixel : (held : Past) (q : RgbaPixel) (ps : List RgbaPixel) → AreSixteen ps → AllByRecursion IsLane (lanes_of held q ps) → IsPixel q
 last_is_pixel held q [] sixteen are = absurd (let l = sixteen.long in omega arith)
 last_is_pixel held q (p ∷ ps) sixteen are = are.0.before_is
 

@@ -10,7 +10,7 @@ use Rattle.qoi.specs.declared.types.Style.TheVariants.{Reference, Places, Tight}
 use Rattle.qoi.specs.Qoi.{RgbaPixel, IsPixel, pixel_eq, hash, seen, bytes_of}
 use Rattle.qoi.proofs.format.SamePixels.{hash_below}
 use Rattle.qoi.proofs.encoding.lists.GroupRuns.{not_one}
-use Rattle.qoi.specs.inner.block.Lanes.{Lane, AreLanes, mask, same_alpha, as_diff, as_luma, fits_diff, fits_luma, first_of, size_of, State, lane_of, lanes_of, is_rep, goes_on, group_bytes, next_by, step_by, next_state, more_of, block_bytes}
+use Rattle.qoi.specs.inner.block.Lanes.{Lane, mask, same_alpha, as_diff, as_luma, fits_diff, fits_luma, first_of, size_of, State, lane_of, lanes_of, is_rep, goes_on, group_bytes, next_by, step_by, next_state, more_of, block_bytes, IsLane}
 use Rattle.qoi.specs.inner.block.Vectors.{named_in, first_in, firsts_in, sizes}
 use Rattle.qoi.specs.inner.Coder.{single_chunk}
 use Rattle.qoi.proofs.encoding.lanes.LaneBits.{or_mask}
@@ -147,7 +147,7 @@ first_below Places b q l n = omega (arith, over_byte l (mask b) (n + 191))
 first_below Tight b q l n = over_byte l (mask b) (n + 191)
 
 -- so first bytes and lanes make pixels
-pub pixels_in : (style : Style) (q : Bool) (c : ℕ) (ls : List Lane) → AreLanes ls → AllByRecursion IsPixel (chunk_pixels ls (firsts_in style q c ls))
+pub pixels_in : (style : Style) (q : Bool) (c : ℕ) (ls : List Lane) → AllByRecursion IsLane ls → AllByRecursion IsPixel (chunk_pixels ls (firsts_in style q c ls))
 pixels_in style q c [] a = tt
 pixels_in style q c (l ∷ ls) a =
     let n = if is_rep l then suc c else 0 in

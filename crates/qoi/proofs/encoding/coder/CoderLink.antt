@@ -4,7 +4,7 @@ use Rattle.std.proofs.lemmas.Bool.{true≢false, true_from_ne_false}
 use Rattle.std.specs.List.{slice_get}
 use Rattle.qoi.specs.declared.encode.carry.Carry.{Carry}
 use Rattle.qoi.specs.declared.encode.coder.Coder.{Coder}
-use Rattle.qoi.specs.declared.encode.last_pixel.LastPixel.{LastPixel}
+use Rattle.qoi.specs.declared.encode.coder.LastPixel.{LastPixel}
 use Rattle.qoi.specs.declared.encode.piece.Piece.{Piece}
 use Rattle.qoi.specs.declared.types.Style.{Style}
 use Rattle.qoi.specs.declared.types.Style.TheVariants.{Tight}

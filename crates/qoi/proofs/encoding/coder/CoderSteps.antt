@@ -5,7 +5,7 @@ use Rattle.std.specs.List.{AllByRecursion, slice_get}
 use Rattle.std.proofs.lemmas.Grind.{flat_map-append}
 use Rattle.qoi.specs.declared.chunk.Chunk.{Chunk}
 use Rattle.qoi.specs.declared.chunk.Chunk.TheVariants.{Run}
-use Rattle.qoi.specs.declared.encode.last_pixel.LastPixel.{LastPixel}
+use Rattle.qoi.specs.declared.encode.coder.LastPixel.{LastPixel}
 use Rattle.qoi.specs.declared.types.Style.{Style}
 use Rattle.qoi.specs.declared.types.Style.TheVariants.{Reference, Places, Tight}
 use Rattle.qoi.specs.Qoi.{AreBytes, RgbaPixel, IsPixel, Past, previous, hash, IsChunk, bytes_of, chunk_bytes}
@@ -13,12 +13,11 @@ use Rattle.qoi.specs.Runs.{runs_by}
 use Rattle.qoi.specs.Styles.{fresh_next, some_fresh, names, choice_in, styled}
 use Rattle.qoi.specs.WrittenList.{chosen, list_after, written_list}
 use Rattle.qoi.specs.inner.Coder.{single_chunk, last_chunk, Ahead, CoderAfter, single, CoderBetween}
-use Rattle.qoi.proofs.format.ChunkSteps.{previous_repeats}
+use Rattle.qoi.proofs.format.ChunkSteps.{previous_repeats, all_back}
 use Rattle.qoi.proofs.encoding.lists.ListAhead.{runs_full, none_ahead, repeat_ahead, repeats_ahead, chunk_ahead, fulls_ahead, runs_ahead}
 use Rattle.qoi.proofs.encoding.styles.StyleLists.{chooses_in}
 use Rattle.qoi.proofs.encoding.styles.StyledGroup.{WritesOne, styled_runs, styled_chunk}
 use Rattle.qoi.proofs.encoding.lists.WrittenExists.{gives_pixel, no_run, is_pixel_start}
-use Rattle.qoi.proofs.format.Appended.{all_back}
 
 -- `AreBytes` by recursion
 pub all_bytes : (bytes : List ℕ) → AreBytes bytes → AllByRecursion (λ b. b < 256) bytes
@@ -44,8 +43,7 @@ fresh_starts style past p rest before is differs =
 -- nothing is styled if there is nothing
 styled_none : (style : Style) (past : Past) (before : Option Chunk) → styled style past before [] ≡ []
 styled_none Reference past before = refl
-styled_none Places past before = refl
-styled_none Tight past before = refl
+styled_none style past before = refl
 
 module _ {style : Style} {ahead : List ℕ} {past : Past} {before : Option Chunk} {kept : List ℕ} where
   -- the first pixel repeats, and joins those that came

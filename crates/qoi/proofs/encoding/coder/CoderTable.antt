@@ -6,11 +6,12 @@ use Rattle.qoi.specs.declared.chunk.Chunk.{Chunk}
 use Rattle.qoi.specs.declared.chunk.Chunk.TheVariants.{Place}
 use Rattle.qoi.specs.declared.types.Style.{Style}
 use Rattle.qoi.specs.declared.types.Style.TheVariants.{Reference, Places, Tight}
-use Rattle.qoi.specs.Qoi.{RgbaPixel, Past, previous, hash, IsChunk, seen}
+use Rattle.qoi.specs.Qoi.{RgbaPixel, Past, previous, hash, IsChunk, bytes_of, seen}
 use Rattle.qoi.specs.inner.Table.{Holds}
 use Rattle.qoi.specs.Written.{fresh, IsFirst}
 use Rattle.qoi.specs.Styles.{names, choice_in}
-use Rattle.qoi.specs.inner.Coder.{held_in, HasBytes}
+use Rattle.qoi.specs.inner.Coder.{held_in}
+use Rattle.qoi.specs.inner.block.Storing.{chunk_of}
 use Rattle.qoi.proofs.format.ChunkSteps.{previous_repeats}
 use Rattle.qoi.proofs.format.SamePixels.{hash_below}
 use Rattle.qoi.proofs.format.SeenTable.{holds_copies}
@@ -27,9 +28,8 @@ place_bytes i alpha l = λ j. small i l j ∷ []
 
 -- a fresh pixel that stands at its index position is given by it
 pub place_chosen : (style : Style) (past : Past) (p : RgbaPixel) → seen (held_in style past) (hash p) ≡ p → choice_in style past p (Place (hash p))
-place_chosen Reference past p is = record { place = λ _. refl; spelled = λ other. absurd (other is) }
-place_chosen Places past p is = record { place = λ _. refl; spelled = λ other. absurd (other is) }
 place_chosen Tight past p is = record { place = λ _. refl; unseen = λ other. absurd (other is); spelled = λ other. absurd (other is) }
+place_chosen style past p is = record { place = λ _. refl; spelled = λ other. absurd (other is) }
 
 -- in styles Reference and Places any other is spelled out
 pub spelled_out : (style : Style) (past : Past) (p : RgbaPixel) (c : Chunk) → (style ≡ Reference) ⊎ (style ≡ Places) → IsFirst past p c
@@ -40,9 +40,8 @@ spelled_out style past p c (inr is) first differs = let d = rw is at differs in 
 -- any other isn't given by its index position
 other_place : (style : Style) (past : Past) (p : RgbaPixel) (c : Chunk) → seen (held_in style past) (hash p) ≢ p → choice_in style past p c
     → names (Some c) (hash p) ≡ false
-other_place Reference past p c differs w = spells_no_place c (hash p) (w.spelled differs).spells
-other_place Places past p c differs w = spells_no_place c (hash p) (w.spelled differs).spells
 other_place Tight past p c differs w = tight_no_place past p c differs w
+other_place style past p c differs w = spells_no_place c (hash p) (w.spelled differs).spells
 
 module _ (style : Style) (past : Past) (px at : RgbaPixel) (i : ℕ) (place : i ≡ hash px) (is : at ≡ seen (held_in style past) i) where
   -- what stands there
@@ -54,10 +53,10 @@ module _ (style : Style) (past : Past) (px at : RgbaPixel) (i : ℕ) (place : i 
   not_there test e = absurd (let no : false ≡ true = test.1 (there ∙ e) in cc)
 
   -- The chosen chunk is the index position or another one, as the test says; it names the position
-  -- exactly if the pixel stands there. Its bytes are as in `HasBytes`.
+  -- exactly if the pixel stands there.
   pub fresh_chosen : (same : Bool) (alpha number size : ℕ) → (IsTrue same ↔ (at ≡ px))
-      → (seen (held_in style past) (hash px) ≢ px → (d : Chunk) × IsChunk d × HasBytes alpha number size d × choice_in style past px d)
-      → (d : Chunk) × IsChunk d × HasBytes alpha (if same then i else number) (if same then 1 else size) d × choice_in style past px d
+      → (seen (held_in style past) (hash px) ≢ px → (d : Chunk) × IsChunk d × (chunk_of size number alpha ≡ bytes_of d) × choice_in style past px d)
+      → (d : Chunk) × IsChunk d × (chunk_of (if same then 1 else size) (if same then i else number) alpha ≡ bytes_of d) × choice_in style past px d
       × (same ≡ names (Some d) (hash px))
   fresh_chosen true alpha number size test other =
       let below : i < 64 = omega (arith, place, hash_below px) in
@@ -66,17 +65,10 @@ module _ (style : Style) (past : Past) (px at : RgbaPixel) (i : ℕ) (place : i 
       let o = other (not_there test) in
       (o.0, o.1, o.2, o.3, sym (other_place style past px o.0 (not_there test) o.3))
 
--- before the first pixel none is put
-pub none_held : (style : Style) (table : List RgbaPixel) → Holds table [] → Holds table (held_in style [])
-none_held Reference table holds = holds
-none_held Places table holds = holds
-none_held Tight table holds = holds
-
 -- a fresh pixel is put in each style
 pub fresh_held_in : (style : Style) (past : Past) (p : RgbaPixel) → p ≢ previous past → held_in style (p ∷ past) ≡ p ∷ held_in style past
-fresh_held_in Reference past p n = fresh_more past p n
-fresh_held_in Places past p n = fresh_more past p n
 fresh_held_in Tight past p n = refl
+fresh_held_in style past p n = fresh_more past p n
 
 -- at its index position
 pub fresh_held : (style : Style) (past : Past) (old table : List RgbaPixel) (px : RgbaPixel) → px ≢ previous past → Holds old (held_in style past)

@@ -8,8 +8,7 @@ use Rattle.std.specs.List.{slice_get}
 use lib.Count.{count_trailing_zeros, under}
 use lib.Lanes.{mask_l}
 use Rattle.qoi.specs.Qoi.{RgbaPixel, Past, pixel_eq}
-use Rattle.qoi.specs.inner.block.Marks.{fresh_marks}
-use Rattle.qoi.specs.inner.block.Lanes.{lanes_of, is_rep}
+use Rattle.qoi.specs.inner.block.Lanes.{fresh_marks, lanes_of, is_rep}
 use Rattle.qoi.proofs.format.LaneRuns.{even_under, odd_under}
 use Rattle.qoi.proofs.format.SamePixels.{pixel_eq-true, pixel_eq-from}
 
@@ -88,9 +87,8 @@ first_marked (suc k) q (p ∷ ps) bits few is some =
 
 -- what stands after n pixels
 pub get_drop : (n : ℕ) (ps : List RgbaPixel) → slice_get (drop n ps) 0 ≡ slice_get ps n
-get_drop zero ps = refl
-get_drop (suc n) [] = refl
 get_drop (suc n) (p ∷ ps) = get_drop n ps
+get_drop n ps = refl
 
 pub get_further : (n m : ℕ) (ps : List RgbaPixel) → slice_get (drop m ps) n ≡ slice_get ps (m + n)
 get_further n m ps = sym (get_drop n (drop m ps)) ∙ ap (λ z. slice_get z 0) (drop-drop n m ps) ∙ get_drop (m + n) ps

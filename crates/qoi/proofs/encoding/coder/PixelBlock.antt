@@ -123,9 +123,8 @@ front_4 (suc m) _ p l = absurd (omega arith)
 
 -- no more bits than bytes of the second list
 few_bits : (xs ys : List ℕ) → length (zip2 eqb xs ys) ≤ length ys
-few_bits [] ys = omega arith
-few_bits (x ∷ xs) [] = omega arith
 few_bits (x ∷ xs) (y ∷ ys) = omega (arith, few_bits xs ys)
+few_bits xs ys = omega arith
 
 -- of sixteen pixels as many are p as the bits say
 pub front_of : (n : ℕ) (bytes : List ℕ) (p : RgbaPixel) (bits : ℕ) → IsChannels n → (n ≡ 3 → p.a ≡ 255) → n * 16 ≤ length bytes

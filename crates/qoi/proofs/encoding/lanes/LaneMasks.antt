@@ -21,9 +21,8 @@ picked false x y = refl
 pub lanes_are : (y n : ℕ) (xs : List ℕ) → length xs ≡ n
     → sel_l (map (top 7) (zip2 same xs (replicate n y))) (replicate n 255) (replicate n 0) ≡ map (λ x. mask (x == y)) xs
 lanes_are y zero [] e = refl
-lanes_are y zero (x ∷ xs) e = absurd (omega arith)
-lanes_are y (suc n) [] e = absurd (omega arith)
 lanes_are y (suc n) (x ∷ xs) e = λ i. picked (eqb x y) 255 0 i ∷ lanes_are y n xs (omega arith) i
+lanes_are y n xs e = absurd (omega arith)
 
 -- the lesser of two
 less : (a b : ℕ) → cond (top 7 (cond (ltb a b) 255 0)) a b ≡ min a b
@@ -35,12 +34,10 @@ more a b = picked (ltb a b) b a ∙ grind arith
 
 -- the lesser, lane by lane
 pub lesser_lanes : (xs ys : List ℕ) → sel_l (map (top 7) (zip2 below xs ys)) xs ys ≡ zip2 min xs ys
-lesser_lanes [] ys = refl
-lesser_lanes (x ∷ xs) [] = refl
 lesser_lanes (x ∷ xs) (y ∷ ys) = λ i. less x y i ∷ lesser_lanes xs ys i
+lesser_lanes xs ys = refl
 
 -- the greater, lane by lane
 pub greater_lanes : (xs ys : List ℕ) → sel_l (map (top 7) (zip2 below xs ys)) ys xs ≡ zip2 max xs ys
-greater_lanes [] ys = refl
-greater_lanes (x ∷ xs) [] = refl
 greater_lanes (x ∷ xs) (y ∷ ys) = λ i. more x y i ∷ greater_lanes xs ys i
+greater_lanes xs ys = refl

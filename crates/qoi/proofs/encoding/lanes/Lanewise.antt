@@ -2,7 +2,8 @@
 use Rattle.std.proofs.Common.{◌≡◌, ℕ, ◌+◌, ◌-◌, ◌%◌, ◌^◌, List, [], ◌∷◌, map, replicate, refl, ap, ◌∙◌}
 use Rattle.std.proofs.lemmas.Simd.{zip2_of_maps, splat_is_map, map-map}
 use lib.Lanes.{zip2}
-use Rattle.qoi.specs.inner.block.Lanes.{Lane, IsLane, AreLanes}
+use Rattle.std.specs.List.{AllByRecursion}
+use Rattle.qoi.specs.inner.block.Lanes.{Lane, IsLane}
 use Rattle.qoi.specs.inner.block.Vectors.{AreBy}
 
 -- an operator on two
@@ -21,7 +22,7 @@ flat {ls} y p = record { long = p.long; are = p.are; is = splat_is_map ls 16 y p
 pub each : {ls : List Lane} {xs : List ℕ} {f : Lane → ℕ} (g : Lane → ℕ) → AreBy ls f xs → ((l : Lane) → IsLane l → f l ≡ g l) → AreBy ls g xs
 each {ls} {xs} {f} g p same = record { long = p.long; are = p.are; is = p.is ∙ go ls p.are }
   where
-    go : (ls : List Lane) → AreLanes ls → map f ls ≡ map g ls
+    go : (ls : List Lane) → AllByRecursion IsLane ls → map f ls ≡ map g ls
     go [] are = refl
     go (l ∷ ls) are = λ i. same l are.0 i ∷ go ls are.1 i
 

@@ -3,7 +3,8 @@ use Rattle.std.proofs.Common.{◌≡◌, ℕ, zero, suc, ◌+◌, ◌%◌, Bool,
 use Rattle.std.specs.Prelude.{max, min}
 use lib.Lanes.{zip2}
 use Rattle.std.proofs.lemmas.Nat.{and_comm, and_mask}
-use Rattle.qoi.specs.inner.block.Lanes.{Lane, AreLanes, mask, same_alpha, fits_diff, fits_luma, first_of, size_of, is_rep, goes_on}
+use Rattle.std.specs.List.{AllByRecursion}
+use Rattle.qoi.specs.inner.block.Lanes.{Lane, mask, same_alpha, fits_diff, fits_luma, first_of, size_of, is_rep, goes_on, IsLane}
 use Rattle.qoi.specs.inner.block.Vectors.{AreBy, counts, firsts_in, sizes}
 use Rattle.qoi.specs.declared.types.Style.TheVariants.{Reference}
 use Rattle.qoi.proofs.encoding.blocks.LaneBytes.{repeat_size, size_small}
@@ -30,12 +31,11 @@ laid fs rs cs n = zip2 max fs (zip2 min rs (zip2 sum_8 cs (replicate n 191)))
 -- lane by lane
 firsts_laid : (n c : ℕ) (q : Bool) (ls : List Lane) → length ls ≡ n → laid (map first_of ls) (map rep_mask ls) (counts c (map is_rep ls)) n ≡ firsts_in Reference q c ls
 firsts_laid zero c q [] e = refl
-firsts_laid zero c q (l ∷ ls) e = absurd (omega arith)
-firsts_laid (suc n) c q [] e = absurd (omega arith)
 firsts_laid (suc n) c q (l ∷ ls) e =
     let k = if is_rep l then suc c else 0 in
     ap (λ cs. laid (first_of l ∷ map first_of ls) (rep_mask l ∷ map rep_mask ls) cs (suc n)) (one_count c (is_rep l) (map is_rep ls))
     ∙ (λ i. max (first_of l) (least_masked (is_rep l) ((k + 191) % 256) (omega arith) i) ∷ firsts_laid n k l.stands ls (omega arith) i)
+firsts_laid n c q ls e = absurd (omega arith)
 
 -- first bytes with those of runs
 pub firsts_are : (ls : List Lane) (c : ℕ) (q : Bool) (fs rs cs : List ℕ) → AreBy ls first_of fs → AreBy ls rep_mask rs → cs ≡ counts c (map is_rep ls)
@@ -57,7 +57,7 @@ none_if : (r m : Bool) (s : ℕ) → s ≤ 5 → (r ≡ true → s ≡ 1) → mi
 none_if r m s few one = grind arith
 
 -- lane by lane
-sizes_laid : (ls : List Lane) → AreLanes ls → zip2 min (map size_of ls) (map not_8 (zip2 min (map rep_mask ls) (mores ls))) ≡ sizes ls
+sizes_laid : (ls : List Lane) → AllByRecursion IsLane ls → zip2 min (map size_of ls) (map not_8 (zip2 min (map rep_mask ls) (mores ls))) ≡ sizes ls
 sizes_laid [] are = refl
 sizes_laid (l ∷ ls) are = λ i.
     none_if (is_rep l) (goes_on ls) (size_of l) (size_small l.stands (fits_diff l) (fits_luma l) (same_alpha l)) (repeat_size l are.0.px_is) i ∷ sizes_laid ls are.1 i

@@ -5,7 +5,7 @@ use Rattle.std.proofs.lemmas.Bool.{cases_lt}
 use Rattle.std.proofs.lemmas.List.{get_or-take, get_or-append_right, length-append, length-take-le}
 use Rattle.std.proofs.lemmas.Simd.{get_or-zip2, length-replicate, length-zip2}
 use lib.Lanes.{zip2}
-use Rattle.qoi.specs.inner.block.Vectors.{IsMost, AreMost, counts}
+use Rattle.qoi.specs.inner.block.Vectors.{IsMost, counts}
 use Rattle.qoi.proofs.encoding.lanes.OverlaidRuns.{one_count}
 
 -- 0 at a repeat, else 64 and the index
@@ -31,11 +31,11 @@ long_shifted : (s : ℕ) (xs : List ℕ) → s ≤ 16 → length xs ≡ 16 → l
 long_shifted s xs le e = let z : ℕ = 0 in omega (arith, length-append (replicate s z) (take (16 - s) xs), length-replicate s z, length-take-le (16 - s) xs (omega arith))
 
 -- members that one lane has
-pub one_most : (xs : List ℕ) → AreMost xs 1 xs
+pub one_most : (xs : List ℕ) → ((k : ℕ) → k < 16 → IsMost xs 1 k (slice_index xs k))
 one_most xs k lt = record { above = λ j le l. (let e : j ≡ k = omega arith in subst (λ z. slice_index xs z ≤ slice_index xs k) (sym e) (omega arith)); one_of = inr (k, omega arith, refl) }
 
 -- twice as many
-pub twice_most : (xs ms ns : List ℕ) (s t : ℕ) → s ≤ 16 → t ≡ s + s → length ms ≡ 16 → AreMost xs s ms → ns ≡ zip2 max ms (shifted s ms) → AreMost xs t ns
+pub twice_most : (xs ms ns : List ℕ) (s t : ℕ) → s ≤ 16 → t ≡ s + s → length ms ≡ 16 → ((k : ℕ) → k < 16 → IsMost xs s k (slice_index ms k)) → ns ≡ zip2 max ms (shifted s ms) → ((k : ℕ) → k < 16 → IsMost xs t k (slice_index ns k))
 twice_most xs ms ns s t le te long are is k lt = go (cases_lt k s)
   where
     at : slice_index ns k ≡ max (slice_index ms k) (slice_index (shifted s ms) k)
@@ -83,8 +83,6 @@ long_next ms ns s le long is = ap length is ∙ length-zip2 max ms (shifted s ms
 counts_by : (c : ℕ) (rs : List Bool) (ys : List ℕ) → length ys ≡ length rs
     → ((k : ℕ) → k < length rs → slice_index ys k ≡ (if get_or rs k true then suc (slice_index (c ∷ ys) k) else 0)) → ys ≡ counts c rs
 counts_by c [] [] e step = refl
-counts_by c [] (y ∷ ys) e step = absurd (omega arith)
-counts_by c (r ∷ rs) [] e step = absurd (omega arith)
 counts_by c (r ∷ rs) (y ∷ ys) e step =
     let n = if r then suc c else 0 in
     let first : y ≡ n = step 0 (omega arith) in
@@ -93,12 +91,13 @@ counts_by c (r ∷ rs) (y ∷ ys) e step =
     rest : (k : ℕ) → k < length rs → slice_index ys k ≡ (if get_or rs k true then suc (slice_index ((if r then suc c else 0) ∷ ys) k) else 0)
     rest zero l = step 1 (omega arith) ∙ ap (λ z. if get_or rs 0 true then suc z else 0) (step 0 (omega arith))
     rest (suc k) l = step (suc (suc k)) (omega arith)
+counts_by c rs ys e step = absurd (omega arith)
 
 -- the difference of two bytes
 abbrev pub less : ℕ → ℕ → ℕ
 less a b = (a + (256 - b)) % 256
 
-module _ (rs : List Bool) (c : ℕ) (xs ms ys : List ℕ) (few : c < 62) (stamped : AreStamps rs xs) (most : AreMost xs 16 ms)
+module _ (rs : List Bool) (c : ℕ) (xs ms ys : List ℕ) (few : c < 62) (stamped : AreStamps rs xs) (most : ((k : ℕ) → k < 16 → IsMost xs 16 k (slice_index ms k)))
     (is : (k : ℕ) → k < 16 → slice_index ys k ≡ less (64 + k) (max (slice_index ms k) (63 - c))) where
   -- a member that was stamped is its index, or 0
   stamp_below : (k : ℕ) → k < 16 → slice_index xs k ≤ 64 + k

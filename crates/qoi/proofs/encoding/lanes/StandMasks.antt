@@ -10,7 +10,7 @@ use Rattle.qoi.proofs.format.PackedPixels.{unpacked}
 use Rattle.qoi.proofs.encoding.stores.Shuffles.{four_bytes}
 use Rattle.qoi.specs.inner.block.Lanes.{mask}
 use Rattle.qoi.specs.inner.block.Planes.{AreFourWords}
-use Rattle.qoi.specs.inner.block.Positions.{all_same, four_times}
+use Rattle.qoi.specs.inner.block.Positions.{four_times}
 
 -- equal words are equal pixels
 pub same_words : (p q : RgbaPixel) → IsPixel p → IsPixel q → eqb (word p) (word q) ≡ pixel_eq p q
@@ -53,7 +53,7 @@ abbrev compared : List ℕ → List ℕ → List ℕ
 compared xs ys = digits_l 256 16 (number_l 4294967296 (sel_l (map (top 31) (zip2 same xs ys)) (replicate 4 4294967295) (replicate 4 0)))
 
 -- which of four packed pixels are the same
-pub equal_is : (qs ps : List RgbaPixel) (a b : List ℕ) → AreFourWords qs a → AreFourWords ps b → compared a b ≡ four_times (all_same qs ps)
+pub equal_is : (qs ps : List RgbaPixel) (a b : List ℕ) → AreFourWords qs a → AreFourWords ps b → compared a b ≡ four_times (zip2 pixel_eq qs ps)
 equal_is (q0 ∷ q1 ∷ q2 ∷ q3 ∷ []) (p0 ∷ p1 ∷ p2 ∷ p3 ∷ []) a b found are =
     let i = are.are in
     let h = found.are in
@@ -61,8 +61,7 @@ equal_is (q0 ∷ q1 ∷ q2 ∷ q3 ∷ []) (p0 ∷ p1 ∷ p2 ∷ p3 ∷ []) a b f
     (λ j. compared (found.words_are j) (are.words_are j))
     ∙ (λ j. digits_l 256 16 (number_l 4294967296 (test q0 p0 h.0 i.0 j ∷ test q1 p1 h.1.0 i.1.0 j ∷ test q2 p2 h.1.1.0 i.1.1.0 j ∷ test q3 p3 h.1.1.1.0 i.1.1.1.0 j ∷ [])))
     ∙ wide_bytes _ _ _ _
-equal_is (q0 ∷ q1 ∷ q2 ∷ q3 ∷ []) ps a b found are = absurd (let f = are.four in omega arith)
-equal_is qs ps a b found are = absurd (let f = found.four in omega arith)
+equal_is qs ps a b found are = absurd (omega (arith, found.four, are.four))
 
 -- the first byte of each four of two vectors
 abbrev pub one_of_eight : List ℕ → List ℕ → List ℕ
@@ -77,7 +76,4 @@ pub one_of_same : (p q r s : List Bool) (a b c d : List ℕ) → length p ≡ 4 
     → a ≡ four_times p → b ≡ four_times q → c ≡ four_times r → d ≡ four_times s → one_of_sixteen a b c d ≡ map mask (p ++ (q ++ (r ++ s)))
 one_of_same (p0 ∷ p1 ∷ p2 ∷ p3 ∷ []) (q0 ∷ q1 ∷ q2 ∷ q3 ∷ []) (r0 ∷ r1 ∷ r2 ∷ r3 ∷ []) (s0 ∷ s1 ∷ s2 ∷ s3 ∷ []) a b c d lp lq lr ls ea eb ec ed =
     λ i. one_of_sixteen (ea i) (eb i) (ec i) (ed i)
-one_of_same (p0 ∷ p1 ∷ p2 ∷ p3 ∷ []) (q0 ∷ q1 ∷ q2 ∷ q3 ∷ []) (r0 ∷ r1 ∷ r2 ∷ r3 ∷ []) s a b c d lp lq lr ls ea eb ec ed = absurd (omega arith)
-one_of_same (p0 ∷ p1 ∷ p2 ∷ p3 ∷ []) (q0 ∷ q1 ∷ q2 ∷ q3 ∷ []) r s a b c d lp lq lr ls ea eb ec ed = absurd (omega arith)
-one_of_same (p0 ∷ p1 ∷ p2 ∷ p3 ∷ []) q r s a b c d lp lq lr ls ea eb ec ed = absurd (omega arith)
 one_of_same p q r s a b c d lp lq lr ls ea eb ec ed = absurd (omega arith)

@@ -70,10 +70,7 @@ all_words (p0 ∷ p1 ∷ p2 ∷ p3 ∷ []) (q0 ∷ q1 ∷ q2 ∷ q3 ∷ []) (s0 
   words_are (s0 ∷ s1 ∷ s2 ∷ s3 ∷ []) _ fr s0 s1 s2 s3 refl (λ i. low_fours (high_pairs (e.r_is i) (e.g_is i)) (high_pairs (e.b_is i) (e.a_is i))),
   words_are (t0 ∷ t1 ∷ t2 ∷ t3 ∷ []) _ ft t0 t1 t2 t3 refl (λ i. high_fours (high_pairs (e.r_is i) (e.g_is i)) (high_pairs (e.b_is i) (e.a_is i))),
 )
-all_words (p0 ∷ p1 ∷ p2 ∷ p3 ∷ []) (q0 ∷ q1 ∷ q2 ∷ q3 ∷ []) (s0 ∷ s1 ∷ s2 ∷ s3 ∷ []) ts x fp fq fr ft e = absurd (let l = ft.four in omega arith)
-all_words (p0 ∷ p1 ∷ p2 ∷ p3 ∷ []) (q0 ∷ q1 ∷ q2 ∷ q3 ∷ []) rs ts x fp fq fr ft e = absurd (let l = fr.four in omega arith)
-all_words (p0 ∷ p1 ∷ p2 ∷ p3 ∷ []) qs rs ts x fp fq fr ft e = absurd (let l = fq.four in omega arith)
-all_words ps qs rs ts x fp fq fr ft e = absurd (let l = fp.four in omega arith)
+all_words ps qs rs ts x fp fq fr ft e = absurd (omega (arith, fp.four, fq.four, fr.four, ft.four))
 
 -- a packed pixel has 32 bits
 word_below : (p : RgbaPixel) → IsPixel p → word p < 4294967296
@@ -137,7 +134,6 @@ pub halves_are : (v w : List ℕ) → length v ≡ 4 → length w ≡ 4
     → (digits_l 256 16 (number_l 4294967296 (pick_l 0 (v ++ w) (0 ∷ 1 ∷ 4 ∷ 5 ∷ []))) ≡ lows v w)
     × (digits_l 256 16 (number_l 4294967296 (pick_l 0 (v ++ w) (2 ∷ 3 ∷ 6 ∷ 7 ∷ []))) ≡ highs v w)
 halves_are (a ∷ b ∷ c ∷ d ∷ []) (e ∷ f ∷ g ∷ h ∷ []) l m = (refl, refl)
-halves_are (a ∷ b ∷ c ∷ d ∷ []) w l m = absurd (omega arith)
 halves_are v w l m = absurd (omega arith)
 
 -- the planes from the channels of four times four pixels
@@ -164,10 +160,7 @@ sixteen_bytes f small (p0 ∷ p1 ∷ p2 ∷ p3 ∷ []) (q0 ∷ q1 ∷ q2 ∷ q3 
     (record { r = small q0 iq.0; g = small q1 iq.1.0; b = small q2 iq.1.1.0; a = small q3 iq.1.1.1.0 })
     (record { r = small s0 is.0; g = small s1 is.1.0; b = small s2 is.1.1.0; a = small s3 is.1.1.1.0 })
     (record { r = small t0 it.0; g = small t1 it.1.0; b = small t2 it.1.1.0; a = small t3 it.1.1.1.0 })
-sixteen_bytes f small (p0 ∷ p1 ∷ p2 ∷ p3 ∷ []) (q0 ∷ q1 ∷ q2 ∷ q3 ∷ []) (s0 ∷ s1 ∷ s2 ∷ s3 ∷ []) ts fp fq fs ft = absurd (let l = ft.four in omega arith)
-sixteen_bytes f small (p0 ∷ p1 ∷ p2 ∷ p3 ∷ []) (q0 ∷ q1 ∷ q2 ∷ q3 ∷ []) rs ts fp fq fs ft = absurd (let l = fs.four in omega arith)
-sixteen_bytes f small (p0 ∷ p1 ∷ p2 ∷ p3 ∷ []) qs rs ts fp fq fs ft = absurd (let l = fq.four in omega arith)
-sixteen_bytes f small ps qs rs ts fp fq fs ft = absurd (let l = fp.four in omega arith)
+sixteen_bytes f small ps qs rs ts fp fq fs ft = absurd (omega (arith, fp.four, fq.four, fs.four, ft.four))
 
 -- the planes of sixteen pixels
 pub sixteen_planes : (ps : List RgbaPixel) (p q s t : List ℕ) → AreSixteen ps → p ≡ channel_words (take 4 ps) → q ≡ channel_words (take 4 (drop 4 ps))

@@ -1,16 +1,16 @@
 -- The bytes of a group's runs, after those written before.
 use Rattle.std.proofs.Common.{nat_lt, lt-ltb, if◌then◌else◌, ◌==◌, append-nil, set, ◌≡◌, ℕ, zero, suc, ◌+◌, ◌-◌, ◌/◌, ◌%◌, ◌<◌, ◌≤◌, List, [], ◌∷◌, ◌++◌, length, take, drop, replicate, refl, sym, ap, ◌∙◌, arith, append_assoc}
 use Rattle.std.proofs.lemmas.Grind.{flat_map-append}
-use Rattle.std.proofs.lemmas.List.{take-set, take-append-le, take-replicate, length-take-le, length-drop}
-use Rattle.std.proofs.lemmas.Simd.{put_chunk_whole}
-use Rattle.std.proofs.Math.Seq.{take-suc-set, take-append-add}
-use borrow.Rule.Slice.PartMut.{put_mid, post_of}
+use Rattle.std.proofs.lemmas.List.{take-set, take-replicate}
+use Rattle.std.proofs.Math.Seq.{take-suc-set}
+use borrow.Rule.Slice.PartMut.{put_mid}
 use lib.Lanes.{put_chunk}
 use mir.Val.{bool_byte}
 use Rattle.qoi.specs.declared.chunk.Chunk.{Chunk}
 use Rattle.qoi.specs.declared.chunk.Chunk.TheVariants.{Run}
 use Rattle.qoi.specs.Qoi.{bytes_of, chunk_bytes}
 use Rattle.qoi.specs.Runs.{last_by, runs_by}
+use Rattle.qoi.proofs.format.LaneBytes.{bytes_put}
 use Rattle.qoi.proofs.encoding.lists.GroupRuns.{not_one}
 
 -- a group of fewer than 62 repeats has no full run
@@ -62,14 +62,7 @@ filled at out = put_mid at (at + 16 - at) out (put_chunk 0 (take (at + 16 - at) 
 -- the first of them
 pub filled_front : (at k : ℕ) (out : List ℕ) → at + 17 ≤ length out → k ≤ 16 → take (at + k) (filled at out) ≡ take at out ++ replicate k 253
 filled_front at k out room few =
-    let size : at + 16 - at ≡ 16 = omega arith in
-    let held : length (take 16 (drop at out)) ≡ 16 = length-take-le 16 (drop at out) (omega (arith, length-drop at out)) in
-    let post = post_of at 16 out in
-    (λ i. take (at + k) (put_mid at (size i) out (put_chunk 0 (take (size i) (drop at out)) (replicate 16 253))))
-    ∙ ap (λ z. take (at + k) (take at out ++ (z ++ post))) (put_chunk_whole (take 16 (drop at out)) (replicate 16 253) held)
-    ∙ ap (λ z. take (z + k) (take at out ++ (replicate 16 253 ++ post))) (sym (length-take-le at out (omega arith)))
-    ∙ take-append-add (take at out) (replicate 16 253 ++ post) k
-    ∙ ap (λ z. take at out ++ z) (take-append-le k (replicate 16 253) post few ∙ take-replicate k 16 253 few)
+    bytes_put 16 at k out (replicate 16 253) (omega arith) refl few ∙ ap (λ z. take at out ++ z) (take-replicate k 16 253 few)
 
 -- full runs and the rest of a group, after the bytes before
 pub runs_written : (c : Chunk) (count : ℕ) (old full new : List ℕ) → full ≡ old ++ chunk_bytes (replicate (count / 62) (Run 62))

@@ -9,8 +9,7 @@ use Rattle.qoi.specs.Qoi.{RgbaPixel, Past, previous, start, seen, hash, IsChunk,
 use Rattle.qoi.specs.Raw.{AreOpaque, HasChannels}
 use Rattle.qoi.specs.Written.{IsAllowedAfter, WrittenBy}
 use Rattle.qoi.proofs.format.SamePixels.{same_pixel}
-use Rattle.qoi.proofs.format.ChunkSteps.{times_some, then_chunks_given, length-then_chunks, given, meaning_given, each_back}
-use Rattle.qoi.proofs.format.Appended.{all_back, all_reverse}
+use Rattle.qoi.proofs.format.ChunkSteps.{times_some, then_chunks_given, length-then_chunks, given, meaning_given, each_back, all_back, all_reverse}
 use Rattle.qoi.proofs.encoding.lists.WrittenExists.{SeenOrFirst}
 
 -- an index position holds the same after being named

@@ -4,7 +4,7 @@ use Rattle.std.proofs.Math.Nat.{mul-mod_left}
 use Rattle.qoi.specs.declared.header.Header.{Header}
 use Rattle.qoi.specs.declared.types.Channels.{Channels}
 use Rattle.qoi.specs.declared.types.Style.{Style}
-use Rattle.qoi.specs.declared.encode.pending.Pending.{Pending}
+use Rattle.qoi.specs.declared.encode.chunks.Pending.{Pending}
 use Rattle.qoi.specs.declared.encode.pixels.Pixels.{Pixels}
 use Rattle.qoi.specs.declared.encode.piece.TheConstants.{SPARE}
 use Rattle.qoi.specs.Qoi.{AreBytes, start, channels_number, pixel_count, header_bytes, chunk_bytes, end_marker}
@@ -79,7 +79,7 @@ new_whole h new is = (λ i. is i % channels_number (new.channels_is i)) ∙ mul-
 -- the pixel before the first one is opaque
 pub new_opaque : {k : Channels} {style : Style} {p : Pending} → IsNew k style p → EndsOpaque p
 unfolding start
-new_opaque new three = ap (λ x. x.a) new.px_is
+new_opaque new three = ap (λ x. x.a) new.state.last_is
 
 -- a beginning of bytes was appended
 pub begins_appended : {a b : Option (List ℕ)} {bytes : List ℕ} → WroteBeginning appended a bytes b → AppendsBeginning a b bytes

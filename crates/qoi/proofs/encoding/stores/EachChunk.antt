@@ -7,7 +7,7 @@ use Rattle.qoi.specs.declared.encode.block.planes.Words.{Words}
 use Rattle.qoi.specs.Qoi.{RgbaPixel, IsPixel, pixel}
 use Rattle.qoi.specs.inner.Packed.{word}
 use Rattle.qoi.specs.inner.block.Planes.{AreSixteen, ArePlanes, AreBlockWords}
-use Rattle.qoi.specs.inner.block.Storing.{HoldChunks, four_parts, eight_parts, chunk_of, four_chunks, sixteen_chunks}
+use Rattle.qoi.specs.inner.block.Storing.{HoldChunks, four_parts, chunk_of, four_chunks, sixteen_chunks}
 use Rattle.qoi.proofs.encoding.stores.Shuffles.{number_bytes, four_bytes}
 
 -- a byte as the red of a pixel that is 0 otherwise
@@ -85,7 +85,6 @@ chunks_held (n0 ∷ n1 ∷ n2 ∷ n3 ∷ []) (a0 ∷ a1 ∷ a2 ∷ a3 ∷ []) lo
     let l = el ∙ halved n0 a0 n1 a1 fn.0.fits fa.0.fits fn.1.0.fits fa.1.0.fits in
     let h = eh ∙ halved n2 a2 n3 a3 fn.1.1.0.fits fa.1.1.0.fits fn.1.1.1.0.fits fa.1.1.1.0.fits in
     record { parts = λ s k few lt small. kth_held n0 n1 n2 n3 a0 a1 a2 a3 low high fn l h s k few lt small }
-chunks_held (n0 ∷ n1 ∷ n2 ∷ n3 ∷ []) xs low high ln fn la fa el eh = absurd (omega arith)
 chunks_held ns xs low high ln fn la fa el eh = absurd (omega arith)
 
 -- four of them
@@ -102,7 +101,7 @@ four_held s t u v ms ns a b c d ls lt lu lv held la lb lc ld =
 pub twice_eight : (ss alphas : List ℕ) (w : Words) (m1 m2 m3 m4 : List ℕ) → length ss ≡ 16 → ((k : ℕ) → slice_index ss k ≤ 5) → length alphas ≡ 16 → Each1 (Fits w8) alphas
     → HoldChunks m1 w.one (take 4 alphas) → HoldChunks m2 w.two (take 4 (drop 4 alphas))
     → HoldChunks m3 w.three (take 4 (drop 8 alphas)) → HoldChunks m4 w.four (take 4 (drop 12 alphas))
-    → eight_parts (take 8 ss) m1 m2 ++ eight_parts (drop 8 ss) m3 m4 ≡ sixteen_chunks ss w alphas
+    → (four_parts (take 8 ss) 0 m1 ++ four_parts (take 8 ss) 4 m2) ++ (four_parts (drop 8 ss) 0 m3 ++ four_parts (drop 8 ss) 4 m4) ≡ sixteen_chunks ss w alphas
 twice_eight (s0 ∷ s1 ∷ s2 ∷ s3 ∷ s4 ∷ s5 ∷ s6 ∷ s7 ∷ s8 ∷ s9 ∷ s10 ∷ s11 ∷ s12 ∷ s13 ∷ s14 ∷ s15 ∷ []) (x0 ∷ x1 ∷ x2 ∷ x3 ∷ x4 ∷ x5 ∷ x6 ∷ x7 ∷ x8 ∷ x9 ∷ x10 ∷ x11 ∷ x12 ∷ x13 ∷ x14 ∷ x15 ∷ []) w m1 m2 m3 m4 long few e f h1 h2 h3 h4 =
     let ss : List ℕ = s0 ∷ s1 ∷ s2 ∷ s3 ∷ s4 ∷ s5 ∷ s6 ∷ s7 ∷ s8 ∷ s9 ∷ s10 ∷ s11 ∷ s12 ∷ s13 ∷ s14 ∷ s15 ∷ [] in
     let xs : List ℕ = x0 ∷ x1 ∷ x2 ∷ x3 ∷ x4 ∷ x5 ∷ x6 ∷ x7 ∷ x8 ∷ x9 ∷ x10 ∷ x11 ∷ x12 ∷ x13 ∷ x14 ∷ x15 ∷ [] in
@@ -115,5 +114,4 @@ twice_eight (s0 ∷ s1 ∷ s2 ∷ s3 ∷ s4 ∷ s5 ∷ s6 ∷ s7 ∷ s8 ∷ s9 �
     let four = four_held s12 s13 s14 s15 m4 w.four x12 x13 x14 x15 (few 12) (few 13) (few 14) (few 15) h4 j.0.fits j.1.0.fits j.1.1.0.fits j.1.1.1.0.fits in
     (λ i. (one i ++ two i) ++ (three i ++ four i))
     ∙ append_assoc (four_chunks ss w.one xs 0) (four_chunks ss w.two xs 4) (four_chunks ss w.three xs 8 ++ four_chunks ss w.four xs 12)
-twice_eight (s0 ∷ s1 ∷ s2 ∷ s3 ∷ s4 ∷ s5 ∷ s6 ∷ s7 ∷ s8 ∷ s9 ∷ s10 ∷ s11 ∷ s12 ∷ s13 ∷ s14 ∷ s15 ∷ []) alphas w m1 m2 m3 m4 long few e f h1 h2 h3 h4 = absurd (omega arith)
 twice_eight ss alphas w m1 m2 m3 m4 long few e f h1 h2 h3 h4 = absurd (omega arith)

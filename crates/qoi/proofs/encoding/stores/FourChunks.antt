@@ -4,7 +4,7 @@ use Rattle.std.specs.Prelude.{min}
 use Rattle.std.proofs.lemmas.List.{take-append-le}
 use lib.Lanes.{digits_l, zip2}
 use Rattle.qoi.specs.declared.encode.block.planes.Words.{Words}
-use Rattle.qoi.specs.inner.block.Storing.{HaveCodes, AreCodes, joined, size_of_code, size_at, total, lowest, close_bytes, chunk_of, sixteen_chunks}
+use Rattle.qoi.specs.inner.block.Storing.{HaveCodes, AreEight, joined, size_of_code, size_at, total, lowest, close_bytes, chunk_of, sixteen_chunks}
 use Rattle.qoi.proofs.encoding.stores.PrefixSums.{packed, reduced}
 
 -- a size is at most 4
@@ -38,11 +38,11 @@ module _ (a b c d e f g h : ℕ) (la : a < 4) (lb : b < 4) (lc : c < 4) (ld : d 
   second_joined = omega arith
 
 -- codes joined by a product
-pub codes_joined : (cs : List ℕ) (codes : ℕ) → AreCodes cs codes
+pub codes_joined : (cs : List ℕ) (codes : ℕ) → AreEight 3 cs codes
     → codes * 0x01041040 % 18446744073709551616 / 16777216 % 256 ∷ codes * 0x01041040 % 18446744073709551616 / 72057594037927936 ∷ []
     ≡ joined cs 0 ∷ joined cs 4 ∷ []
 codes_joined (a ∷ b ∷ c ∷ d ∷ e ∷ f ∷ g ∷ h ∷ []) codes are =
-    let n = are.few in
+    let n : (k : ℕ) → slice_index (a ∷ b ∷ c ∷ d ∷ e ∷ f ∷ g ∷ h ∷ []) k < 4 = λ k. omega (arith, are.few k) in
     let is : codes ≡ packed a b c d e f g h = (let i = are.is in omega arith) in
     let product = ap (λ m. m * 0x01041040 % 18446744073709551616) is ∙ product_is a b c d e f g h (n 0) (n 1) (n 2) (n 3) (n 4) (n 5) (n 6) (n 7) in
     let first = ap (λ m. m / 16777216 % 256) product ∙ first_joined a b c d e f g h (n 0) (n 1) (n 2) (n 3) (n 4) (n 5) (n 6) (n 7) in

@@ -1,6 +1,7 @@
 -- Prefix sums by one product.
-use Rattle.std.proofs.Common.{◌≡◌, ℕ, zero, suc, ◌+◌, ◌*◌, ◌/◌, ◌%◌, ◌^◌, ◌<◌, List, [], ◌∷◌, ap, ◌∙◌, arith}
-use Rattle.qoi.specs.inner.block.Storing.{first_sum, AreSizes}
+use Rattle.std.proofs.Common.{◌≡◌, ℕ, suc, ◌+◌, ◌*◌, ◌/◌, ◌%◌, ◌^◌, ◌<◌, List, [], ◌∷◌, ap, ◌∙◌, arith, take}
+use lib.Lanes.{sum_l}
+use Rattle.qoi.specs.inner.block.Storing.{AreEight}
 
 -- eight numbers as the digits of one
 abbrev pub packed : ℕ → ℕ → ℕ → ℕ → ℕ → ℕ → ℕ → ℕ → ℕ
@@ -19,20 +20,13 @@ summed a b c d e f g h l = reduced _ _ (packed (b + c + d + e + f + g + h) (c + 
 -- each digit of such a number is the sum of the first ones
 digit : (a b c d e f g h : ℕ) → a + b + c + d + e + f + g + h < 256 → (k : ℕ) → k < 8
     → packed a (a + b) (a + b + c) (a + b + c + d) (a + b + c + d + e) (a + b + c + d + e + f) (a + b + c + d + e + f + g) (a + b + c + d + e + f + g + h) / 2 ^ (8 * k) % 256
-    ≡ first_sum (k + 1) (a ∷ b ∷ c ∷ d ∷ e ∷ f ∷ g ∷ h ∷ [])
-digit a b c d e f g h few zero lt = omega arith
-digit a b c d e f g h few (suc zero) lt = omega arith
-digit a b c d e f g h few (suc (suc zero)) lt = omega arith
-digit a b c d e f g h few (suc (suc (suc zero))) lt = omega arith
-digit a b c d e f g h few (suc (suc (suc (suc zero)))) lt = omega arith
-digit a b c d e f g h few (suc (suc (suc (suc (suc zero))))) lt = omega arith
-digit a b c d e f g h few (suc (suc (suc (suc (suc (suc zero)))))) lt = omega arith
-digit a b c d e f g h few (suc (suc (suc (suc (suc (suc (suc zero))))))) lt = omega arith
+    ≡ sum_l (take (k + 1) (a ∷ b ∷ c ∷ d ∷ e ∷ f ∷ g ∷ h ∷ []))
 digit a b c d e f g h few (suc (suc (suc (suc (suc (suc (suc (suc k)))))))) lt = absurd (omega arith)
+digit a b c d e f g h few k lt = omega arith
 
 -- a digit of the product is the sum of the first sizes
-pub prefix_sums : (ss : List ℕ) (sizes : ℕ) → AreSizes ss sizes → (k : ℕ) → k < 8
-    → sizes * 0x0101010101010101 % 18446744073709551616 / 2 ^ (8 * k) % 256 ≡ first_sum (k + 1) ss
+pub prefix_sums : (ss : List ℕ) (sizes : ℕ) → AreEight 5 ss sizes → (k : ℕ) → k < 8
+    → sizes * 0x0101010101010101 % 18446744073709551616 / 2 ^ (8 * k) % 256 ≡ sum_l (take (k + 1) ss)
 prefix_sums (a ∷ b ∷ c ∷ d ∷ e ∷ f ∷ g ∷ h ∷ []) sizes are k lt =
     let few : a + b + c + d + e + f + g + h < 256 = omega (arith, are.few 0, are.few 1, are.few 2, are.few 3, are.few 4, are.few 5, are.few 6, are.few 7) in
     let is : sizes ≡ packed a b c d e f g h = (let e = are.is in omega arith) in

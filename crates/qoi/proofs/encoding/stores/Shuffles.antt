@@ -1,11 +1,9 @@
--- A shuffle of sixteen bytes by positions, the bytes of four numbers, and bytes stored.
-use Rattle.std.proofs.Common.{◌≡◌, ℕ, suc, ◌+◌, ◌-◌, ◌*◌, ◌/◌, ◌%◌, ◌<◌, ◌≤◌, ◌&&◌, Bool, true, false, cond, eqb, ltb, List, [], ◌∷◌, ◌++◌, length, take, drop, map, get_or, w8, refl, sym, ap, ◌∙◌, arith}
+-- A shuffle of sixteen bytes by positions, and the bytes of four numbers.
+use Rattle.std.proofs.Common.{◌≡◌, ℕ, suc, ◌+◌, ◌*◌, ◌/◌, ◌%◌, ◌<◌, ◌≤◌, ◌&&◌, Bool, true, false, cond, eqb, ltb, List, [], ◌∷◌, ◌++◌, length, take, map, get_or, w8, refl, sym, ap, ◌∙◌, arith}
 use Rattle.std.proofs.lemmas.Bool.{and_parts, ltb-true}
-use Rattle.std.proofs.lemmas.List.{take-map, map-append, length-take-le, length-drop, take-append-le}
-use Rattle.std.proofs.lemmas.Simd.{swz_l, SwzOk, put_chunk_whole}
-use Rattle.std.proofs.Math.Seq.{take-append-add}
-use borrow.Rule.Slice.PartMut.{put_mid, post_of}
-use lib.Lanes.{all_below, digits_l, number_l, put_chunk}
+use Rattle.std.proofs.lemmas.List.{take-map, map-append}
+use Rattle.std.proofs.lemmas.Simd.{swz_l, SwzOk}
+use lib.Lanes.{all_below, digits_l, number_l}
 use mir.Val.{zeroes}
 
 -- sixteen positions in a vector
@@ -56,16 +54,3 @@ four_bytes a b c d la lb lc ld =
 -- what stands at some of the positions, and at others
 pub part_of : (v : List ℕ) (n : ℕ) (js rest xs ys : List ℕ) → map (at v) js ≡ xs → map (at v) rest ≡ ys → map (at v) (take n js ++ rest) ≡ take n xs ++ ys
 part_of v n js rest xs ys first others = map-append (at v) (take n js) rest ∙ (λ j. sym (take-map (at v) n js) j ++ others j) ∙ ap (λ z. take n z ++ ys) first
-
--- n bytes stored, of which some count
-pub bytes_put : (n at count : ℕ) (out bytes : List ℕ) → at + n ≤ length out → length bytes ≡ n → count ≤ n
-    → take (at + count) (put_mid at (at + n - at) out (put_chunk 0 (take (at + n - at) (drop at out)) bytes)) ≡ take at out ++ take count bytes
-bytes_put n at count out bytes room long few =
-    let size : at + n - at ≡ n = omega arith in
-    let held : length (take n (drop at out)) ≡ n = length-take-le n (drop at out) (omega (arith, length-drop at out)) in
-    let rest = post_of at n out in
-    (λ i. take (at + count) (put_mid at (size i) out (put_chunk 0 (take (size i) (drop at out)) bytes)))
-    ∙ ap (λ z. take (at + count) (take at out ++ (z ++ rest))) (put_chunk_whole (take n (drop at out)) bytes (held ∙ sym long))
-    ∙ ap (λ z. take (z + count) (take at out ++ (bytes ++ rest))) (sym (length-take-le at out (omega arith)))
-    ∙ take-append-add (take at out) (bytes ++ rest) count
-    ∙ ap (λ z. take at out ++ z) (take-append-le count bytes rest (omega arith))

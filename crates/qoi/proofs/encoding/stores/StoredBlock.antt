@@ -34,11 +34,10 @@ pixels_long (l ∷ ls) (f ∷ fs) e = ap (λ n. suc n) (pixels_long ls fs (omega
 pub chunk_planes : (ls : List Lane) (fs : List ℕ) → length fs ≡ length ls
     → ArePlanes (chunk_pixels ls fs) (record { r = fs; g = map second_of ls; b = map (λ l. l.px.g) ls; a = map (λ l. l.px.b) ls })
 chunk_planes [] [] e = record { r_is = refl; g_is = refl; b_is = refl; a_is = refl }
-chunk_planes [] (f ∷ fs) e = absurd (omega arith)
-chunk_planes (l ∷ ls) [] e = absurd (omega arith)
 chunk_planes (l ∷ ls) (f ∷ fs) e =
     let rest = chunk_planes ls fs (omega arith) in
     record { r_is = ap (λ z. f ∷ z) rest.r_is; g_is = ap (λ z. second_of l ∷ z) rest.g_is; b_is = ap (λ z. l.px.g ∷ z) rest.b_is; a_is = ap (λ z. l.px.b ∷ z) rest.a_is }
+chunk_planes ls fs e = absurd (omega arith)
 
 -- a second byte is one
 pub second_small : (b : Bool) (w p : RgbaPixel) → IsPixel p → second_by b w p < 256
@@ -70,10 +69,9 @@ sizes_few (l ∷ ls) (suc k) = sizes_few ls k
 
 -- the first of few
 pub take_few : (n m : ℕ) (ss : List ℕ) → ((k : ℕ) → slice_index ss k ≤ m) → (k : ℕ) → slice_index (take n ss) k ≤ m
-take_few zero m ss few k = omega arith
-take_few (suc n) m [] few k = omega arith
 take_few (suc n) m (s ∷ ss) few zero = few 0
 take_few (suc n) m (s ∷ ss) few (suc k) = take_few n m ss (λ j. few (suc j)) k
+take_few n m ss few k = omega arith
 
 -- the others
 pub drop_few : (n m : ℕ) (ss : List ℕ) → ((k : ℕ) → slice_index ss k ≤ m) → (k : ℕ) → slice_index (drop n ss) k ≤ m
@@ -83,18 +81,16 @@ drop_few (suc n) m (s ∷ ss) few k = drop_few n m ss (λ j. few (suc j)) k
 
 -- the sum of the first n
 pub first_few : (n : ℕ) (ss : List ℕ) → ((k : ℕ) → slice_index ss k ≤ 5) → sum_l (take n ss) ≤ 5 * n
-first_few zero ss few = omega arith
-first_few (suc n) [] few = omega arith
 first_few (suc n) (s ∷ ss) few = omega (arith, few 0, first_few n ss (λ k. few (suc k)))
+first_few n ss few = omega arith
 
 -- the lesser of each size and a number that none is more than
 pub lesser_few : (n m : ℕ) (ss : List ℕ) → length ss ≡ n → ((k : ℕ) → slice_index ss k ≤ m) → zip2 min ss (replicate n m) ≡ ss
 lesser_few zero m [] long few = refl
-lesser_few zero m (s ∷ ss) long few = absurd (omega arith)
-lesser_few (suc n) m [] long few = absurd (omega arith)
 lesser_few (suc n) m (s ∷ ss) long few =
     let same : min s m ≡ s = omega (arith, few 0) in
     λ i. same i ∷ lesser_few n m ss (omega arith) (λ k. few (suc k)) i
+lesser_few n m ss long few = absurd (omega arith)
 
 -- it is at most that number, whatever the sizes are
 pub lesser_most : (n m : ℕ) (ss : List ℕ) (k : ℕ) → slice_index (zip2 min ss (replicate n m)) k ≤ m
@@ -135,6 +131,4 @@ sixteen_parts (l0 ∷ l1 ∷ l2 ∷ l3 ∷ l4 ∷ l5 ∷ l6 ∷ l7 ∷ l8 ∷ l9
     ++ (four_chunks all (are.three_are j) (ea j) 8 ++ four_chunks all (are.four_are j) (ea j) 12)))
     ∙ ap (λ z. c0 ++ (c1 ++ (c2 ++ z))) (sym (append-nil c3) ∙ rest3)
     ∙ ap (λ z. c0 ++ (c1 ++ z)) rest2 ∙ ap (λ z. c0 ++ z) rest1 ∙ rest0
-sixteen_parts (l0 ∷ l1 ∷ l2 ∷ l3 ∷ l4 ∷ l5 ∷ l6 ∷ l7 ∷ l8 ∷ l9 ∷ l10 ∷ l11 ∷ l12 ∷ l13 ∷ l14 ∷ l15 ∷ []) (f0 ∷ f1 ∷ f2 ∷ f3 ∷ f4 ∷ f5 ∷ f6 ∷ f7 ∷ f8 ∷ f9 ∷ f10 ∷ f11 ∷ f12 ∷ f13 ∷ f14 ∷ f15 ∷ []) ss bs words ll lf ls ea i are = absurd (omega arith)
-sixteen_parts (l0 ∷ l1 ∷ l2 ∷ l3 ∷ l4 ∷ l5 ∷ l6 ∷ l7 ∷ l8 ∷ l9 ∷ l10 ∷ l11 ∷ l12 ∷ l13 ∷ l14 ∷ l15 ∷ []) fs ss bs words ll lf ls ea i are = absurd (omega arith)
 sixteen_parts ls fs ss bs words ll lf ls2 ea i are = absurd (omega arith)

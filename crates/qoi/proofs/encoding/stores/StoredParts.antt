@@ -1,5 +1,6 @@
 -- Parts that are stored one after the other.
-use Rattle.qoi.specs.inner.block.Storing.{AreStarts, first_sum}
+use lib.Lanes.{sum_l}
+use Rattle.qoi.specs.inner.block.Storing.{AreStarts}
 use Rattle.std.proofs.Common.{◌≡◌, ℕ, zero, suc, ◌+◌, List, [], ◌∷◌, ◌++◌, take, slice_index, append_assoc, ap, ◌∙◌, arith}
 
 -- four parts
@@ -12,17 +13,17 @@ four_stored at e0 e1 e2 e3 b0 b1 b2 b3 b4 c0 c1 c2 c3 first second third fourth 
     ∙ append_assoc ((t ++ c0) ++ c1) c2 c3 ∙ append_assoc (t ++ c0) c1 (c2 ++ c3) ∙ append_assoc t c0 (c1 ++ (c2 ++ c3))
 
 -- one more of the first sums
-sum_next : (n : ℕ) (ss : List ℕ) → first_sum (suc n) ss ≡ first_sum n ss + slice_index ss n
+sum_next : (n : ℕ) (ss : List ℕ) → sum_l (take (suc n) ss) ≡ sum_l (take n ss) + slice_index ss n
 sum_next zero [] = omega arith
 sum_next (suc n) [] = omega arith
 sum_next zero (s ∷ ss) = omega arith
 sum_next (suc n) (s ∷ ss) = omega (arith, sum_next n ss)
 
 -- one part after others, from the start of the n-th on
-next : (at n m start : ℕ) (ss old new part : List ℕ) → start ≡ first_sum n ss → m ≡ suc n → take (at + start + slice_index ss n) new ≡ take (at + start) old ++ part
-    → take (at + first_sum m ss) new ≡ take (at + first_sum n ss) old ++ part
+next : (at n m start : ℕ) (ss old new part : List ℕ) → start ≡ sum_l (take n ss) → m ≡ suc n → take (at + start + slice_index ss n) new ≡ take (at + start) old ++ part
+    → take (at + sum_l (take m ss)) new ≡ take (at + sum_l (take n ss)) old ++ part
 next at n m start ss old new part is more e =
-    ap (λ z. take z new) (omega (arith, sum_next n ss, is, ap (λ j. first_sum j ss) more)) ∙ e ∙ ap (λ z. take (at + z) old ++ part) is
+    ap (λ z. take z new) (omega (arith, sum_next n ss, is, ap (λ j. sum_l (take j ss)) more)) ∙ e ∙ ap (λ z. take (at + z) old ++ part) is
 
 -- four parts, each from its start on
 pub chained : (at n : ℕ) (ss starts b0 b1 b2 b3 b4 c0 c1 c2 c3 : List ℕ) → AreStarts starts n ss
@@ -30,9 +31,9 @@ pub chained : (at n : ℕ) (ss starts b0 b1 b2 b3 b4 c0 c1 c2 c3 : List ℕ) →
     → take (at + slice_index starts 1 + slice_index ss (n + 1)) b2 ≡ take (at + slice_index starts 1) b1 ++ c1
     → take (at + slice_index starts 2 + slice_index ss (n + 2)) b3 ≡ take (at + slice_index starts 2) b2 ++ c2
     → take (at + slice_index starts 3 + slice_index ss (n + 3)) b4 ≡ take (at + slice_index starts 3) b3 ++ c3
-    → take (at + first_sum (n + 4) ss) b4 ≡ take (at + first_sum n ss) b0 ++ (c0 ++ (c1 ++ (c2 ++ c3)))
+    → take (at + sum_l (take (n + 4) ss)) b4 ≡ take (at + sum_l (take n ss)) b0 ++ (c0 ++ (c1 ++ (c2 ++ c3)))
 chained at n ss starts b0 b1 b2 b3 b4 c0 c1 c2 c3 are e0 e1 e2 e3 =
-    four_stored (at + first_sum n ss) (at + first_sum (n + 1) ss) (at + first_sum (n + 2) ss) (at + first_sum (n + 3) ss) (at + first_sum (n + 4) ss)
+    four_stored (at + sum_l (take n ss)) (at + sum_l (take (n + 1) ss)) (at + sum_l (take (n + 2) ss)) (at + sum_l (take (n + 3) ss)) (at + sum_l (take (n + 4) ss))
     b0 b1 b2 b3 b4 c0 c1 c2 c3 (next at n (n + 1) _ ss b0 b1 c0 are.first (omega arith) e0) (next at (n + 1) (n + 2) _ ss b1 b2 c1 are.second (omega arith) e1)
     (next at (n + 2) (n + 3) _ ss b2 b3 c2 are.third (omega arith) e2) (next at (n + 3) (n + 4) _ ss b3 b4 c3 are.fourth (omega arith) e3)
 

@@ -20,7 +20,7 @@ use Rattle.qoi.proofs.encoding.lists.WrittenOnce.{unique_by}
 use Rattle.qoi.proofs.encoding.lists.WrittenShape.{stay_below, apart_by, fits_by}
 use Rattle.qoi.proofs.encoding.lists.WrittenExists.{Chooses, chooses, image_written}
 use Rattle.qoi.proofs.shortness.Upper.{upper}
-use Rattle.qoi.proofs.shortness.TightLists.{tight_exact, floor0_high}
+use Rattle.qoi.proofs.shortness.Lower.{tight_exact, floor0_high}
 use Rattle.qoi.proofs.shortness.RegularLists.{written_regular}
 
 -- each style's choice has what a choice has to offer

@@ -133,11 +133,10 @@ styled_runs Places past before n left one is =
 pub styled_chunk : (style : Style) (past : Past) (before : Option Chunk) (p : RgbaPixel) (c : Chunk) (left : List Chunk) → is_run c ≡ false
     → pixel_after past c ≡ p
     → styled style past before (c ∷ left) ≡ c ∷ styled style (p ∷ past) (Some c) left
-styled_chunk Reference past before p c left other gives = refl
-styled_chunk Tight past before p c left other gives = refl
 styled_chunk Places past before p c left other gives =
     ap (λ x. x ∷ placed_after (then_chunk past c) (Some c) left) (other_stays past before c left other)
     ∙ ap (λ x. c ∷ placed_after x (Some c) left) (then_other past c other ∙ ap (λ x. x ∷ past) gives)
+styled_chunk style past before p c left other gives = refl
 
 -- after repeats the last chunk is a run, and names no index position
 rest_names_none : (k r : ℕ) (before : Option Chunk) (i : ℕ) → 0 < k + r → names (last_chunk (before_rest before k) (last_by (Run 1) r)) i ≡ false

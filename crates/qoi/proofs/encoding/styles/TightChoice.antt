@@ -24,9 +24,8 @@ seen_next p q past i before = grind (arith, before, pixel_eq-true p q)
 
 -- repeats after the first pixel, if put, change no index position
 pub seen_first_and_fresh : (past : Past) (i : ℕ) → seen (first_and_fresh past) i ≡ seen past i
-seen_first_and_fresh [] i = refl
-seen_first_and_fresh (p ∷ []) i = refl
 seen_first_and_fresh (p ∷ q ∷ past) i = seen_next p q past i (seen_first_and_fresh (q ∷ past) i)
+seen_first_and_fresh past i = refl
 
 -- where no pixel was put, transparent black is seen
 pub unseen_blank : (past : Past) (i : ℕ) → is_unseen past i ≡ true → seen past i ≡ blank

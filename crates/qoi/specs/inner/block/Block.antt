@@ -5,8 +5,7 @@ use Rattle.qoi.specs.declared.encode.block.planes.Planes.{Planes}
 use Rattle.qoi.specs.declared.types.Style.{Style}
 use Rattle.qoi.specs.declared.types.Style.TheVariants.{Tight}
 use Rattle.qoi.specs.Qoi.{RgbaPixel, pixel}
-use Rattle.qoi.specs.inner.block.Marks.{fresh_marks}
-use Rattle.qoi.specs.inner.block.Lanes.{State, NoneBlank, lanes_of}
+use Rattle.qoi.specs.inner.block.Lanes.{fresh_marks, State, NoneBlank, lanes_of}
 use Rattle.qoi.specs.inner.block.Vectors.{AreChanges}
 use Rattle.qoi.specs.inner.Table.{Holds}
 

@@ -1,7 +1,6 @@
 -- Sixteen pixels, a block, in lanes: the bytes of the chunk that gives each after the one before it,
 -- and the state between two pixels with repeats that are still to be written.
 use Rattle.std.specs.Prelude.{ℕ, Bool, ◌+◌, ◌*◌, ◌%◌, ◌&&◌, ◌||◌, ◌==◌, nat_lt, List, [], ◌∷◌, take, if◌then◌else◌, ◌≢◌, suc, true, false, ◌++◌}
-use Rattle.std.specs.List.{AllByRecursion}
 use Rattle.qoi.specs.Qoi.{RgbaPixel, IsPixel, hash, Past, pixel_eq, blank, seen, bytes_of}
 use Rattle.qoi.specs.declared.chunk.Chunk.TheVariants.{Run}
 use Rattle.qoi.specs.declared.types.Style.{Style}
@@ -18,10 +17,6 @@ pub record Lane : Type 0 where
 pub record IsLane (l : Lane) : Type 0 where
   pub px_is : IsPixel l.px
   pub before_is : IsPixel l.before
-
--- in each of these
-abbrev pub AreLanes : List Lane → Type 0
-AreLanes ls = AllByRecursion IsLane ls
 
 -- 255 or 0
 abbrev pub mask : Bool → ℕ
@@ -154,3 +149,8 @@ block_bytes style s (p ∷ ps) = step_by (pixel_eq p s.last) (more_of p ps) styl
 abbrev pub NoneBlank : State → List RgbaPixel → Type 0
 NoneBlank s [] = Unit {0}
 NoneBlank s (p ∷ ps) = (p ≢ s.last → seen s.held (hash p) ≢ p → p ≢ blank) × NoneBlank (next_state s p (more_of p ps)) ps
+
+-- a bit for each pixel that differs from the one before it, the lowest for the first
+abbrev pub fresh_marks : RgbaPixel → List RgbaPixel → ℕ
+fresh_marks q [] = 0
+fresh_marks q (p ∷ ps) = (if pixel_eq p q then 0 else 1) + 2 * fresh_marks p ps

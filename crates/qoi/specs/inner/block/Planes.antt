@@ -24,13 +24,9 @@ pub record AreBlockWords (ps : List RgbaPixel) (w : Words) : Type 0 where
   pub three_are : w.three ≡ map word (take 4 (drop 8 ps))
   pub four_are : w.four ≡ map word (take 4 (drop 12 ps))
 
--- the pixels of packed ones
-abbrev pub pixels_of_words : List ℕ → List RgbaPixel
-pixels_of_words words = map pixel_of_word words
-
--- of sixteen
+-- the pixels of sixteen packed ones
 abbrev pub block_pixels : Words → List RgbaPixel
-block_pixels w = pixels_of_words w.one ++ (pixels_of_words w.two ++ (pixels_of_words w.three ++ pixels_of_words w.four))
+block_pixels w = map pixel_of_word w.one ++ (map pixel_of_word w.two ++ (map pixel_of_word w.three ++ map pixel_of_word w.four))
 
 -- four numbers of 32 bits
 abbrev pub AreFour : List ℕ → Type 0
@@ -40,33 +36,19 @@ AreFour words = (length words ≡ 4) × ((k : ℕ) → slice_index words k < 2 ^
 abbrev pub ArePacked : Words → Type 0
 ArePacked w = AreFour w.one × (AreFour w.two × (AreFour w.three × AreFour w.four))
 
--- red of each pixel
-abbrev pub reds : List RgbaPixel → List ℕ
-reds ps = map (λ (p : RgbaPixel). p.r) ps
-
--- green of each pixel
-abbrev pub greens : List RgbaPixel → List ℕ
-greens ps = map (λ (p : RgbaPixel). p.g) ps
-
--- blue of each pixel
-abbrev pub blues : List RgbaPixel → List ℕ
-blues ps = map (λ (p : RgbaPixel). p.b) ps
-
--- alpha of each pixel
-abbrev pub alphas : List RgbaPixel → List ℕ
-alphas ps = map (λ (p : RgbaPixel). p.a) ps
-
 -- four bytes as a number
 abbrev pub four_packed : List ℕ → ℕ
 four_packed bs = word (pixel (slice_index bs 0) (slice_index bs 1) (slice_index bs 2) (slice_index bs 3))
 
 -- the channels of four pixels, each as a number
 abbrev pub channel_words : List RgbaPixel → List ℕ
-channel_words ps = four_packed (reds ps) ∷ four_packed (greens ps) ∷ four_packed (blues ps) ∷ four_packed (alphas ps) ∷ []
+channel_words ps =
+    four_packed (map (λ (p : RgbaPixel). p.r) ps) ∷ four_packed (map (λ (p : RgbaPixel). p.g) ps)
+    ∷ four_packed (map (λ (p : RgbaPixel). p.b) ps) ∷ four_packed (map (λ (p : RgbaPixel). p.a) ps) ∷ []
 
 -- the planes are the channels of these pixels
 pub record ArePlanes (ps : List RgbaPixel) (p : Planes) : Type 0 where
-  pub r_is : p.r ≡ reds ps
-  pub g_is : p.g ≡ greens ps
-  pub b_is : p.b ≡ blues ps
-  pub a_is : p.a ≡ alphas ps
+  pub r_is : p.r ≡ map (λ (q : RgbaPixel). q.r) ps
+  pub g_is : p.g ≡ map (λ (q : RgbaPixel). q.g) ps
+  pub b_is : p.b ≡ map (λ (q : RgbaPixel). q.b) ps
+  pub a_is : p.a ≡ map (λ (q : RgbaPixel). q.a) ps

@@ -1,5 +1,6 @@
 -- Pixels that are put at their index positions, one after the other, and which of them stood there.
 use Rattle.std.specs.Prelude.{◌≡◌, ℕ, Bool, List, [], ◌∷◌, map}
+use lib.Lanes.{zip2}
 use Rattle.qoi.specs.Qoi.{RgbaPixel, IsPixel, Past, seen, hash, pixel_eq}
 use Rattle.qoi.specs.inner.Packed.{word}
 use Rattle.qoi.specs.inner.block.Lanes.{mask}
@@ -16,15 +17,9 @@ abbrev pub put_all : Past → List RgbaPixel → Past
 put_all held [] = held
 put_all held (p ∷ ps) = put_all (p ∷ held) ps
 
--- whether each is the same as the one beside it
-abbrev pub all_same : List RgbaPixel → List RgbaPixel → List Bool
-all_same [] ps = []
-all_same (q ∷ qs) [] = []
-all_same (q ∷ qs) (p ∷ ps) = pixel_eq q p ∷ all_same qs ps
-
 -- whether each stands at its index position when it is put
 abbrev pub stand_tests : Past → List RgbaPixel → List Bool
-stand_tests held ps = all_same (seen_before held ps) ps
+stand_tests held ps = zip2 pixel_eq (seen_before held ps) ps
 
 -- each four times, as a byte
 abbrev pub four_times : List Bool → List ℕ

@@ -5,15 +5,11 @@ use lib.Lanes.{digits_l, number_l, sum_l}
 use Rattle.qoi.specs.declared.encode.block.planes.Words.{Words}
 use Rattle.qoi.specs.Qoi.{RgbaPixel}
 
--- the sum of the first n
-abbrev pub first_sum : ℕ → List ℕ → ℕ
-first_sum n ss = sum_l (take n ss)
-
--- sizes of eight chunks, as bytes of a number
-pub record AreSizes (ss : List ℕ) (sizes : ℕ) : Type 0 where
-  pub eight : length ss ≡ 8
-  pub few : (k : ℕ) → slice_index ss k ≤ 5
-  pub is : sizes ≡ number_l 256 ss
+-- eight numbers, none above `most`, as bytes of one: sizes of chunks, or codes of such
+pub record AreEight (most : ℕ) (xs : List ℕ) (all : ℕ) : Type 0 where
+  pub eight : length xs ≡ 8
+  pub few : (k : ℕ) → slice_index xs k ≤ most
+  pub is : all ≡ number_l 256 xs
 
 -- the bytes of a chunk: the lowest of a number and perhaps alpha
 abbrev pub chunk_of : ℕ → ℕ → ℕ → List ℕ
@@ -40,10 +36,10 @@ full_bytes (p ∷ ps) = 255 ∷ p.r ∷ p.g ∷ p.b ∷ p.a ∷ full_bytes ps
 
 -- where four chunks of these sizes start, from the n-th on
 pub record AreStarts (starts : List ℕ) (n : ℕ) (ss : List ℕ) : Type 0 where
-  pub first : slice_index starts 0 ≡ first_sum n ss
-  pub second : slice_index starts 1 ≡ first_sum (n + 1) ss
-  pub third : slice_index starts 2 ≡ first_sum (n + 2) ss
-  pub fourth : slice_index starts 3 ≡ first_sum (n + 3) ss
+  pub first : slice_index starts 0 ≡ sum_l (take n ss)
+  pub second : slice_index starts 1 ≡ sum_l (take (n + 1) ss)
+  pub third : slice_index starts 2 ≡ sum_l (take (n + 2) ss)
+  pub fourth : slice_index starts 3 ≡ sum_l (take (n + 3) ss)
 
 -- four numbers whose lowest bytes are those of chunks
 pub record HoldChunks (ns numbers alphas : List ℕ) : Type 0 where
@@ -56,10 +52,6 @@ four_parts ss n numbers =
     take (slice_index ss n) (digits_l 256 8 (slice_index numbers 0)) ++ (take (slice_index ss (n + 1)) (digits_l 256 8 (slice_index numbers 1))
     ++ (take (slice_index ss (n + 2)) (digits_l 256 8 (slice_index numbers 2)) ++ take (slice_index ss (n + 3)) (digits_l 256 8 (slice_index numbers 3))))
 
--- of twice four
-abbrev pub eight_parts : List ℕ → List ℕ → List ℕ → List ℕ
-eight_parts ss one two = four_parts ss 0 one ++ four_parts ss 4 two
-
 -- the size that a code means
 abbrev pub size_of_code : ℕ → ℕ
 size_of_code c = if c == 3 then 4 else c
@@ -71,12 +63,6 @@ HasCode s = size_of_code (min s 3) ≡ s
 -- each of these is
 abbrev pub HaveCodes : List ℕ → Type 0
 HaveCodes ss = (k : ℕ) → HasCode (slice_index ss k)
-
--- eight codes, as bytes of a number
-pub record AreCodes (cs : List ℕ) (codes : ℕ) : Type 0 where
-  pub eight : length cs ≡ 8
-  pub few : (k : ℕ) → slice_index cs k < 4
-  pub is : codes ≡ number_l 256 cs
 
 -- four codes from the k-th on, as a number below 256
 abbrev pub joined : List ℕ → ℕ → ℕ

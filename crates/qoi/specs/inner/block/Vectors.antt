@@ -2,6 +2,7 @@
 -- sizes and the counted repeats.
 use Rattle.std.specs.Prelude.{◌≡◌, ℕ, Bool, List, map, length, suc, ◌+◌, ◌-◌, ◌%◌, ◌==◌, min, [], ◌∷◌, max, if◌then◌else◌, ◌<◌, ◌≤◌, ◌⊎◌, true, false, slice_index, ◌&&◌, not, ◌||◌, IsTrue}
 use Rattle.std.specs.Int.Bits.{bit_and, bit_or}
+use Rattle.std.specs.List.{AllByRecursion}
 use Rattle.qoi.specs.declared.encode.block.planes.Planes.{Planes}
 use Rattle.qoi.specs.declared.encode.block.steps.Changes.{Changes}
 use Rattle.qoi.specs.declared.encode.block.spelling.Fits.{Fits}
@@ -9,14 +10,14 @@ use Rattle.qoi.specs.declared.encode.block.spelling.Spelled.{Spelled}
 use Rattle.qoi.specs.declared.types.Style.{Style}
 use Rattle.qoi.specs.declared.types.Style.TheVariants.{Reference, Places, Tight}
 use Rattle.qoi.specs.Qoi.{RgbaPixel, hash, IsPixel}
-use Rattle.qoi.specs.inner.block.Lanes.{Lane, mask, AreLanes, step_of, same_alpha, fits_diff, fits_luma, is_rep, first_of, size_of, goes_on, second_of, State, lanes_of}
-use Rattle.qoi.specs.inner.block.Planes.{AreSixteen, reds}
+use Rattle.qoi.specs.inner.block.Lanes.{Lane, mask, step_of, same_alpha, fits_diff, fits_luma, is_rep, first_of, size_of, goes_on, second_of, State, lanes_of, IsLane}
+use Rattle.qoi.specs.inner.block.Planes.{AreSixteen}
 use Rattle.qoi.specs.inner.block.Positions.{stand_tests}
 
 -- The numbers are what `f` gives for these lanes, of which there are sixteen.
 pub record AreBy (ls : List Lane) (f : Lane → ℕ) (xs : List ℕ) : Type 0 where
   pub long : length ls ≡ 16
-  pub are : AreLanes ls
+  pub are : AllByRecursion IsLane ls
   pub is : xs ≡ map f ls
 
 -- They are 255 in the lanes of which `b` holds, else 0.
@@ -76,10 +77,6 @@ pub record IsMost (xs : List ℕ) (w k m : ℕ) : Type 0 where
   pub above : (j : ℕ) → j ≤ k → k < j + w → slice_index xs j ≤ m
   pub one_of : (m ≡ 0) ⊎ ((j : ℕ) × (j ≤ k) × (m ≡ slice_index xs j))
 
--- of each of sixteen
-abbrev pub AreMost : List ℕ → ℕ → List ℕ → Type 0
-AreMost xs w ms = (k : ℕ) → k < 16 → IsMost xs w k (slice_index ms k)
-
 -- all hold
 abbrev pub all_true : List Bool → Bool
 all_true [] = true
@@ -98,7 +95,7 @@ AreFull ls = all_true (map is_full ls) ≡ true
 pub record IsBlock (s : State) (ps : List RgbaPixel) (red stands places : List ℕ) : Type 0 where
   pub sixteen : AreSixteen ps
   pub last_is : IsPixel s.last
-  pub red_is : red ≡ reds ps
+  pub red_is : red ≡ map (λ (p : RgbaPixel). p.r) ps
   pub stands_are : stands ≡ map mask (stand_tests s.held ps)
   pub places_are : places ≡ map hash ps
 

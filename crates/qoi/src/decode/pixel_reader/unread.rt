@@ -196,13 +196,12 @@ impl Unread {
         store_run::<N, F>(out, 0, self.last, self.run / N);
         let (last, at) = (self.last, self.run);
         let from = Reached { last, at };
-        let placed = match reader.chunks_in_place(&mut self.table, from, &mut out[..size]) {
+        let (now, run) = match reader.chunks_in_place(&mut self.table, from, &mut out[..size]) {
             Ok(placed) => placed,
             Err(e) => return Err(self.fail(e)),
         };
-        let now = placed.reached;
         self.last = now.last;
-        self.run = placed.run;
+        self.run = run;
         self.undecoded -= now.at;
         if now.at == out.len() {
             return Ok(now.at);

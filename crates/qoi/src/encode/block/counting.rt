@@ -1,10 +1,10 @@
 //! Repeats of sixteen pixels, counted lane by lane.
-ghost use Rattle.std.specs.Prelude.{◌≡◌, ◌<◌, Bool, List, length, map};
+ghost use Rattle.std.specs.Prelude.{◌≡◌, ◌<◌, Bool, List, length, map, ℕ, slice_index};
 ghost use Rattle.qoi.specs.Qoi.{run_max};
-ghost use Rattle.qoi.specs.inner.block.Vectors.{counts, AreMost};
+ghost use Rattle.qoi.specs.inner.block.Vectors.{counts, IsMost};
 ghost use Rattle.qoi.specs.inner.block.Lanes.{mask};
 
-use crate::encode::block::lanes::{greater, later};
+use crate::encode::block::lanes::{greater, shift_in};
 use std::simd::prelude::*;
 
 // The lanes two, four and eight further on, after lanes of another vector.
@@ -21,11 +21,11 @@ const EIGHT_ON: [usize; 16] = [8, 9, 10, 11, 12, 13, 14, 15, 16, 17, 18, 19, 20,
 // In each lane the greatest up to it.
 #[inline(always)]
 fn running_most(v: u8x16) -> u8x16
-    ensures most { AreMost v 16 result }
+    ensures most { (k : ℕ) → k < 16 → IsMost v 16 k (slice_index result k) }
     ensures long { length result ≡ 16 }
 {
     let zero = u8x16::splat(0);
-    let two = greater(v, later(zero, v));
+    let two = greater(v, shift_in(zero, v));
     let four = greater(two, zero.shuffle(two, TWO_ON));
     let eight = greater(four, zero.shuffle(four, FOUR_ON));
     greater(eight, zero.shuffle(eight, EIGHT_ON))

@@ -1,11 +1,12 @@
 //! The index positions of sixteen pixels, and which of these pixels the table held there already
 //! (QOI specification 1.0, "Chunks").
+ghost use lib.Lanes.{zip2};
 ghost use Rattle.std.specs.Prelude.{◌≡◌, ◌<◌, ◌≤◌, ◌-◌, ℕ, false, List, ◌++◌, map, length, take, drop, slice_index, Bool};
-ghost use Rattle.qoi.specs.Qoi.{RgbaPixel, hash, Past};
+ghost use Rattle.qoi.specs.Qoi.{RgbaPixel, pixel_eq, hash, Past};
 ghost use Rattle.qoi.specs.inner.Table.{Holds};
 ghost use Rattle.qoi.specs.inner.block.Lanes.{mask};
 ghost use Rattle.qoi.specs.inner.block.Planes.{AreSixteen, ArePlanes, AreFourWords, AreBlockWords};
-ghost use Rattle.qoi.specs.inner.block.Positions.{all_same, four_times, HasPutBlock};
+ghost use Rattle.qoi.specs.inner.block.Positions.{four_times, HasPutBlock};
 
 use crate::encode::block::planes::{Planes, Words};
 use crate::encode::table::PixelTable;
@@ -62,7 +63,7 @@ pub(in crate::encode) fn read_places<'a, const ROOM: usize, const FULL: bool>(
 #[inline(always)]
 fn equal(found: u32x4, pixels: u32x4) -> u8x16
     ensures { (qs ps : List RgbaPixel) → AreFourWords qs found → AreFourWords ps pixels
-        → result ≡ four_times (all_same qs ps) }
+        → result ≡ four_times (zip2 pixel_eq qs ps) }
 {
     found
         .simd_eq(pixels)

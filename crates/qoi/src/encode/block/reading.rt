@@ -1,8 +1,8 @@
 //! The first sixteen pixels of raw bytes, packed.
 ghost use Rattle.std.specs.Prelude.{◌≡◌, ◌*◌, ◌≤◌, length, take, drop, map};
 ghost use Rattle.qoi.specs.Raw.{IsChannels, pixels_of, AreOpaque};
-ghost use Rattle.qoi.specs.inner.Packed.{word};
-ghost use Rattle.qoi.specs.inner.block.Planes.{block_pixels, pixels_of_words};
+ghost use Rattle.qoi.specs.inner.Packed.{word, pixel_of_word};
+ghost use Rattle.qoi.specs.inner.block.Planes.{block_pixels};
 
 use crate::encode::block::planes::Words;
 use crate::utils::skip;
@@ -31,7 +31,7 @@ pub(in crate::encode) fn read_four<const N: usize>(bytes: &[u8]) -> u32x4
     requires channels { IsChannels N }
     requires enough { 16 ≤ length bytes.now }
     ensures lanes { result ≡ map word (take 4 (pixels_of N bytes.now)) }
-    ensures pixels { pixels_of_words result ≡ take 4 (pixels_of N bytes.now) }
+    ensures pixels { map pixel_of_word result ≡ take 4 (pixels_of N bytes.now) }
 {
     let v = u8x16::from_slice(bytes);
     if N == 4 {

@@ -7,7 +7,7 @@ ghost use Rattle.qoi.specs.inner.block.Planes.{AreSixteen};
 ghost use Rattle.qoi.specs.inner.block.Positions.{stand_tests};
 ghost use Rattle.qoi.specs.inner.block.Vectors.{HasSpelled};
 
-use crate::encode::block::lanes::{later, lesser, where_is};
+use crate::encode::block::lanes::{lesser, shift_in, where_is};
 use crate::encode::block::spelling::Spelled;
 use crate::utils::pick;
 use std::simd::prelude::*;
@@ -18,7 +18,7 @@ use std::simd::prelude::*;
 fn stood(placed: bool, stands: u8x16) -> u8x16
     ensures { result ≡ mask placed ∷ take 15 stands }
 {
-    later(u8x16::splat(pick(placed, 255, 0)), stands)
+    shift_in(u8x16::splat(pick(placed, 255, 0)), stands)
 }
 
 /// Gives each single repeat before a fresh pixel by its index position, if the chunk before it

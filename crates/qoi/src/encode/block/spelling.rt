@@ -6,7 +6,7 @@ ghost use Rattle.qoi.specs.declared.types.Style.{Style};
 ghost use Rattle.qoi.specs.declared.types.Style.TheVariants.{Reference};
 ghost use Rattle.qoi.specs.inner.block.Vectors.{firsts_in, sizes, counts, AreFull, AreBy, AreMasks, ArePlanesBy, AreFits, AreChanges, IsBlock, HasSpelled};
 ghost use Rattle.qoi.specs.inner.block.Lanes.{Lane, mask, step_of, diff_of, as_diff, as_luma, same_alpha, fits_luma, first_of, second_of, size_of, State, lanes_of, is_rep};
-ghost use Rattle.qoi.specs.inner.block.Planes.{AreSixteen, reds};
+ghost use Rattle.qoi.specs.inner.block.Planes.{AreSixteen};
 
 use crate::encode::block::counting::count_repeats;
 use crate::encode::block::lanes::{all_set, greater, lesser, where_is};
@@ -97,8 +97,8 @@ fn first_bytes(diff: Planes, luma: Planes, fits: Fits, places: u8x16, stands: u8
         → AreFits ls fits → AreBy ls (λ l. hash l.px) places
         → AreMasks ls (λ l. l.stands) stands → AreBy ls first_of result }
 {
-    let full = u8x16::splat(0xff) + fits.same_alpha;
-    let first = lesser((luma.g + u8x16::splat(0x80)) | !fits.luma, full);
+    let rgb_or_rgba = u8x16::splat(0xff) + fits.same_alpha;
+    let first = lesser((luma.g + u8x16::splat(0x80)) | !fits.luma, rgb_or_rgba);
     lesser(lesser(first, diffs(diff) | !fits.diff), places | !stands)
 }
 
@@ -199,8 +199,9 @@ pub(in crate::encode) fn are_full(alpha: u8x16, stands: u8x16) -> bool
 #[inline(always)]
 pub(in crate::encode) fn spell_full(rep: u8x16, red: u8x16) -> Spelled
     ensures { (style : Style) (s : State) (ps : List RgbaPixel) → AreSixteen ps → IsPixel s.last
-        → rep ≡ map (λ l. mask (is_rep l)) (lanes_of s.held s.last ps) → red ≡ reds ps
-        → AreFull (lanes_of s.held s.last ps) → HasSpelled style s ps result }
+        → rep ≡ map (λ l. mask (is_rep l)) (lanes_of s.held s.last ps)
+        → red ≡ map (λ (p : RgbaPixel). p.r) ps → AreFull (lanes_of s.held s.last ps)
+        → HasSpelled style s ps result }
 {
     Spelled {
         rep,

@@ -6,7 +6,7 @@ ghost use Rattle.qoi.specs.inner.block.Vectors.{AreBy};
 ghost use Rattle.qoi.specs.inner.block.Lanes.{Lane};
 ghost use Rattle.qoi.specs.inner.block.Planes.{AreSixteen, ArePlanes};
 
-use crate::encode::block::lanes::later;
+use crate::encode::block::lanes::shift_in;
 use crate::encode::block::planes::{Planes, blanks, known_alpha};
 use std::simd::prelude::*;
 
@@ -18,7 +18,7 @@ pub(in crate::encode) fn channel_steps(before: u8x16, v: u8x16) -> u8x16
         → AreBy ls (λ l. f l.before) (slice_index before 15 ∷ take 15 v)
         → AreBy ls (λ l. (f l.px + (256 - f l.before)) % 256) result }
 {
-    v - later(before, v)
+    v - shift_in(before, v)
 }
 
 /// The steps to sixteen pixels: what is added to each channel of the pixel before, where it wraps at

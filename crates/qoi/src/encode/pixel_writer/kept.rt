@@ -1,44 +1,22 @@
 //! What is kept of an image between two calls that take raw bytes of it.
-ghost use Rattle.std.specs.Prelude.{◌≡◌, ◌⊎◌, ◌+◌, ◌*◌, ◌<◌, ◌≤◌, [], ◌++◌, length, IsTrue, IsFalse};
-ghost use Rattle.qoi.specs.inner.Sending.{IsNew};
+ghost use Rattle.std.specs.Prelude.{◌≡◌, ◌⊎◌, ℕ, ◌+◌, ◌*◌, ◌<◌, ◌≤◌, List, [], ◌++◌, length, take, IsTrue, IsFalse};
+ghost use Rattle.qoi.specs.declared.encode.pixel_writer.kept.TheConstants.{HELD_MOST};
 
-use crate::encode::pending::Pending;
+use crate::encode::chunks::Pending;
 use crate::encode::piece::FULL_ROOM;
-use crate::types::{Channels, Style};
 use crate::utils::copy_after;
 use std::marker::Model;
 
 /// How many raw bytes are held at most: whole blocks of three channels, and of four.
 pub(super) const HELD_MOST: usize = 8256;
 
-/// What is kept between two calls, and the bytes of a piece, which mean nothing then.
+/// What is kept between two calls: the coder's state after the raw bytes that are encoded, the raw
+/// bytes that came after those, and the bytes of a piece, which mean nothing then.
 #[derive(Drop)]
 pub(super) struct Kept {
-    pub(super) came: Came,
-    pub(super) piece_bytes: [u8; FULL_ROOM],
-}
-
-impl Kept {
-    /// What is kept before the first raw byte.
-    pub(super) fn new(channels: Channels, style: Style) -> Kept
-        ensures held { result.came.held ≡ [] }
-        ensures pending { IsNew channels style result.came.pending }
-    {
-        Kept {
-            came: Came {
-                pending: Pending::new(channels, style),
-                held: Held::new(),
-            },
-            piece_bytes: [0; FULL_ROOM],
-        }
-    }
-}
-
-/// The coder's state after the raw bytes that are encoded, and the raw bytes that came after those.
-#[derive(Drop)]
-pub(super) struct Came {
     pub(super) pending: Pending,
     pub(super) held: Held,
+    pub(super) piece_bytes: [u8; FULL_ROOM],
 }
 
 /// Raw bytes that came and aren't encoded yet.
@@ -51,9 +29,6 @@ pub(super) struct Held {
 }
 
 impl Model for Held {
-    ghost use Rattle.std.specs.Prelude.{ℕ, ◌≤◌, List, take};
-    ghost use Rattle.qoi.specs.declared.encode.pixel_writer.kept.TheConstants.{HELD_MOST};
-
     ghost Value = { List ℕ };
 
     ghost view = { λ s. take s.len s.bytes };
@@ -62,8 +37,6 @@ impl Model for Held {
 }
 
 impl Held {
-    ghost use Rattle.qoi.specs.declared.encode.pixel_writer.kept.TheConstants.{HELD_MOST};
-
     /// None.
     pub(super) fn new() -> Held
         ensures { result ≡ [] }

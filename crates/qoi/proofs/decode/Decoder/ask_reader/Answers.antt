@@ -1,6 +1,6 @@
 -- What the reader gave, and what is kept then.
 use Rattle.std.proofs.Common.{◌≡◌, ap, arith}
-use Rattle.qoi.specs.inner.Conversion.{conversion_of}
+use Rattle.qoi.specs.inner.Chunks.{conversion_of}
 use Rattle.qoi.proofs.decoding.GivenMore.{fills_two}
 use Rattle.qoi.proofs.decode.Decoder.ask_reader.Goals as goal
 

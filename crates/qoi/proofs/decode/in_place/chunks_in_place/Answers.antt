@@ -4,7 +4,7 @@ use Rattle.qoi.proofs.decode.in_place.chunks_in_place.Goals as goal
 
 pub returns-then-bytes-lt-INPUT_ROOM-clause-takes : goal.returns-then-bytes-lt-INPUT_ROOM-clause-takes
 returns-then-bytes-lt-INPUT_ROOM-clause-takes g c gone n before h =
-    rw c.after.ensures (piece_stops c.args.out.now 0 c.requires.fillable.three_or_four c.requires.inside h)
+    piece_stops c.args.out.now c.requires.fillable.three_or_four c.requires.inside h
 
 pub returns-then-is_run_to_end-clause-takes : goal.returns-then-is_run_to_end-clause-takes
 returns-then-is_run_to_end-clause-takes g c gone n before h = c.last_run.ensures.takes gone n before (c.chunks_ahead-front.ensures.takes.between gone n before h)

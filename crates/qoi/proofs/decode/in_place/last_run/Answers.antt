@@ -8,7 +8,7 @@ use Rattle.qoi.proofs.decode.in_place.last_run.Goals as goal
 
 pub returns-then-not-is_run_to_end-clause-takes : goal.returns-then-not-is_run_to_end-clause-takes
 returns-then-not-is_run_to_end-clause-takes g c gone n before h =
-    rw c.after.ensures (piece_stops c.args.out.now c.args.from.taken c.requires.room.fillable.three_or_four c.requires.room.inside h)
+    piece_stops c.args.out.now c.requires.room.fillable.three_or_four c.requires.room.inside h
 
 pub returns-clause-takes : goal.returns-clause-takes
 returns-clause-takes g c gone n before h =
@@ -18,6 +18,6 @@ returns-clause-takes g c gone n before h =
     let b1 = slice_index bytes from.taken in
     let run = c.is_run_to_end.ensures.0 c.if-not-is_run_to_end.false in
     let rest = times_rest g.row.N (length c.args.out.now) from.reached.at is c.requires.room.fillable.whole.0 c.requires.room.fillable.whole.1 in
-    piece_ends _ (b1 - 191) c.args.out.now c.store_exactly.new.out _ is c.requires.room.inside h (omega (arith, run)) (omega (arith, run)) c.put.ensures
+    piece_ends _ (b1 - 191) c.args.out.now c.store_exactly.new.out _ _ is c.requires.room.inside h (omega (arith, run)) (omega (arith, run)) c.put.ensures
     (λ taken is_front. ap (λ z. z ++ bytes_of (Run (b1 - 191))) is_front ∙ next_taken before bytes from.taken (b1 - 191) c.requires.ahead (omega (arith, run)))
     c.store_exactly.ensures (omega (arith, rest, c.requires.room.inside, c.store_exactly.auto.out)) refl _ rest run.2 (omega (arith, c.advance.ensures.run run.0 run.1))

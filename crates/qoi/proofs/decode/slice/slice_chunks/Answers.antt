@@ -1,6 +1,6 @@
 -- The fast loop's chunks are taken, and then others.
-use Rattle.std.proofs.Common.{Some, true}
-use Rattle.qoi.proofs.Results.{if_some_of, if_none_of}
+use Rattle.std.proofs.Common.{Option, Some, None, IfNone, true}
+use Rattle.std.proofs.lemmas.Option.{IfSome_then}
 use Rattle.qoi.specs.inner.Filling.{filling}
 use Rattle.qoi.specs.inner.Chunks.{TakesMore}
 use Rattle.qoi.proofs.decoding.Progress.{front_taken, split_taken, chunks_after}
@@ -17,7 +17,12 @@ after g c =
 
 pub returns-clause-read : goal.returns-clause-read
 returns-clause-read g c =
-    if_some_of c.careful_chunks.result (λ left r. chunks_after (after g (goal.at.returns-clause-read g c).After-split_at) r) c.careful_chunks.ensures.read
+    IfSome_then c.careful_chunks.result c.careful_chunks.ensures.read (λ left r. chunks_after (after g (goal.at.returns-clause-read g c).After-split_at) r)
+
+-- what holds if an option has nothing can be weakened
+if_none_of : {T P Q : Type 0} (o : Option T) → (P → Q) → IfNone o P → IfNone o Q
+if_none_of (Some x) f p = tt
+if_none_of None f p = f p
 
 pub returns-clause-refused : goal.returns-clause-refused
 returns-clause-refused g c =

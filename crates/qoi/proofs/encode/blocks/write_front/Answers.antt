@@ -8,7 +8,7 @@ use Rattle.qoi.specs.inner.BlockLoop.{InBlocks}
 use Rattle.qoi.specs.Styles.{style_of}
 use Rattle.qoi.specs.inner.Coder.{pixels_in, kept_bytes}
 use Rattle.qoi.specs.inner.block.Planes.{block_pixels}
-use Rattle.qoi.specs.inner.block.Marks.{fresh_marks}
+use Rattle.qoi.specs.inner.block.Lanes.{fresh_marks}
 use Rattle.qoi.proofs.encoding.coder.CoderLink.{in_style, still_between, goes_on}
 use Rattle.qoi.proofs.encoding.coder.MarkedPixels.{none_group, repeat_even}
 use Rattle.qoi.proofs.encode.blocks.write_front.Goals as goal

@@ -40,9 +40,9 @@ breaks : (g : Over) (c : After-new-pending g) {b : _} {e : _} → g.W.Writer.IsF
 breaks g c {b} {e} fault began =
     subst (λ s. WritesImage g.W.Writer.wrote g.W.Writer.IsFault s c.args.writer.now b (Err e)) c.encoder.view_is (fault, _, file g c, began)
 
-pub write_whole-requires : goal.write_whole-requires
-write_whole-requires g c =
-    let here = (goal.at.write_whole-requires g c).After-new-pending in
+pub write_pixels-requires : goal.write_pixels-requires
+write_pixels-requires g c =
+    let here = (goal.at.write_pixels-requires g c).After-new-pending in
     let new = c.new-pending.ensures in
     let fits : length (made g here) ≤ g.W.Writer.room c.args.writer.now = omega (arith, (file g here).is_file.fits, c.requires.room, ap (λ (s : EncoderState). max_file_len s.header) c.encoder.view_is) in
     (omega arith, image_ready (starts g here) (new_whole c.encoder.inside.header new c.encoder.invariant.1) (new_opaque new) c.requires.piece.0 fits)

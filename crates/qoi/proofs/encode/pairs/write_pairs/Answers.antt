@@ -10,7 +10,7 @@ write_short_group-half-requires g c =
     let two = c.begin_with_pairs.ensures in
     let pair = two_pairs c.loop-piece.coder.last.px (pixels_in c.loop-piece.rest) (two.four c.loop-piece-test.true) (two.marks c.loop-piece-test.true) in
     let few = i.none (λ none. omega (arith, ap length none, two.four c.loop-piece-test.true)) in
-    (omega arith, (omega arith, (omega arith, (omega arith, (omega (arith, few), (omega arith, (pair.0.repeats, (pair.0.other, omega (arith, c.is_full.ensures.room c.if-not-is_full.true)))))))))
+    (omega arith, (omega arith, (omega arith, (omega (arith, few), (omega arith, (omega (arith, two.four c.loop-piece-test.true), (pair.0.repeats, (pair.0.other, omega (arith, c.is_full.ensures.room c.if-not-is_full.true)))))))))
 
 pub write_short_group-rest-requires : goal.write_short_group-rest-requires
 write_short_group-rest-requires g c =
@@ -18,7 +18,7 @@ write_short_group-rest-requires g c =
     let two = c.begin_with_pairs.ensures in
     let pair = two_pairs c.loop-piece.coder.last.px (pixels_in c.loop-piece.rest) (two.four c.loop-piece-test.true) (two.marks c.loop-piece-test.true) in
     let next = subst (IsPair c.write_short_group-half.new.self.last.px) (sym step.rest) (pair.1 _ step.px) in
-    (omega arith, (omega arith, (omega arith, (omega arith, (omega (arith, step.begun.1), (omega arith, (next.repeats, (next.other, omega (arith, step.end, c.is_full.ensures.room c.if-not-is_full.true)))))))))
+    (omega arith, (omega arith, (omega arith, (omega (arith, step.begun.1), (omega arith, (omega (arith, ap length step.rest, length-drop 2 (pixels_in c.loop-piece.rest), two.four c.loop-piece-test.true), (next.repeats, (next.other, omega (arith, step.end, c.is_full.ensures.room c.if-not-is_full.true)))))))))
 
 pub loop-piece-smaller : goal.loop-piece-smaller
 loop-piece-smaller g c =

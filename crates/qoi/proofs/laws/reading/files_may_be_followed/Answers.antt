@@ -1,7 +1,6 @@
 -- A file that is followed is decoded as before.
 use Rattle.std.proofs.Common.{◌++◌, sym}
-use Rattle.qoi.proofs.decoding.FrontImage.{file_image_is, file_rest_then}
-use Rattle.qoi.proofs.decoding.OneFile.{decodes_more}
+use Rattle.qoi.proofs.decoding.FrontImage.{file_image_is, file_rest_then, decodes_more}
 use Rattle.qoi.proofs.laws.reading.files_may_be_followed.Goals as goal
 
 pub returns : goal.returns

@@ -1,7 +1,7 @@
 -- By the bounds on all lists, and on that of the tight choices.
 use Rattle.std.proofs.Common.{arith}
 use Rattle.qoi.proofs.encoding.styles.StyleLists.{style_exact}
-use Rattle.qoi.proofs.shortness.TightLists.{lower0, floor0_high}
+use Rattle.qoi.proofs.shortness.Lower.{lower0, floor0_high}
 use Rattle.qoi.proofs.laws.writing.tight_is_shortest.Goals as goal
 
 pub returns : goal.returns

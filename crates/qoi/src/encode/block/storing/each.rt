@@ -1,7 +1,7 @@
 //! Chunks of at most five bytes, each stored on its own: where the sizes of those before it say.
-ghost use lib.Lanes.{digits_l};
+ghost use lib.Lanes.{digits_l, sum_l};
 ghost use Rattle.std.specs.Prelude.{◌≡◌, ◌+◌, ◌*◌, ◌/◌, ◌%◌, ◌^◌, ◌≤◌, ◌<◌, ℕ, List, ◌++◌, length, take, slice_index};
-ghost use Rattle.qoi.specs.inner.block.Storing.{AreStarts, HoldChunks, four_parts, eight_parts, AreSizes, first_sum, sixteen_chunks};
+ghost use Rattle.qoi.specs.inner.block.Storing.{AreStarts, HoldChunks, four_parts, AreEight, sixteen_chunks};
 
 use crate::encode::block::lanes::{halves, lesser};
 use crate::encode::block::planes::{Planes, Words, make_words};
@@ -21,8 +21,8 @@ fn with_alphas(numbers: u32x4, alphas: u32x4) -> [u64; 4]
 // Where each of eight chunks ends: a byte for each.
 #[inline(always)]
 fn ends(sizes: u64) -> u64
-    ensures { (ss : List ℕ) → AreSizes ss sizes → (k : ℕ) → k < 8
-        → result / 2 ^ (8 * k) % 256 ≡ first_sum (k + 1) ss }
+    ensures { (ss : List ℕ) → AreEight 5 ss sizes → (k : ℕ) → k < 8
+        → result / 2 ^ (8 * k) % 256 ≡ sum_l (take (k + 1) ss) }
 {
     sizes.wrapping_mul(0x0101_0101_0101_0101)
 }
@@ -57,8 +57,8 @@ fn store_four(out: &mut [u8], at: usize, starts: [usize; 4], numbers: [u64; 4])
     ensures same { length out.new ≡ length out.old }
     ensures written { (ss : List ℕ) (n : ℕ) → ((k : ℕ) → slice_index ss k ≤ 5)
         → AreStarts starts n ss
-        → take (at + first_sum (n + 4) ss) out.new
-        ≡ take (at + first_sum n ss) out.old ++ four_parts ss n numbers }
+        → take (at + sum_l (take (n + 4) ss)) out.new
+        ≡ take (at + sum_l (take n ss)) out.old ++ four_parts ss n numbers }
 {
     store_number(out, at + starts[0], numbers[0]);
     store_number(out, at + starts[1], numbers[1]);
@@ -69,12 +69,12 @@ fn store_four(out: &mut [u8], at: usize, starts: [usize; 4], numbers: [u64; 4])
 // Stores eight chunks of these sizes from `at` on, and returns where they end.
 #[inline(always)]
 fn store_eight(out: &mut [u8], at: usize, sizes: u64, one: [u64; 4], two: [u64; 4]) -> usize
-    requires sizes { (ss : List ℕ) × AreSizes ss sizes }
+    requires sizes { (ss : List ℕ) × AreEight 5 ss sizes }
     requires room { at + 43 ≤ length out.old }
     ensures same { length out.new ≡ length out.old }
     ensures near { (at ≤ result) × (result ≤ at + 40) }
-    ensures written { (ss : List ℕ) → AreSizes ss sizes
-        → take result out.new ≡ take at out.old ++ eight_parts ss one two }
+    ensures written { (ss : List ℕ) → AreEight 5 ss sizes
+        → take result out.new ≡ take at out.old ++ (four_parts ss 0 one ++ four_parts ss 4 two) }
 {
     let e = ends(sizes);
     store_four(out, at, [0, after(e, 0), after(e, 1), after(e, 2)], one);

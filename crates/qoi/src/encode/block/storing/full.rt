@@ -1,7 +1,8 @@
 //! Sixteen RGBA chunks, stored one after the other (QOI specification 1.0, "Chunks").
-ghost use Rattle.std.specs.Prelude.{◌≡◌, ◌+◌, ◌≤◌, ◌++◌, length, take};
+ghost use Rattle.std.specs.Prelude.{◌≡◌, ◌+◌, ◌≤◌, ◌++◌, length, take, map};
+ghost use Rattle.qoi.specs.inner.Packed.{pixel_of_word};
 ghost use Rattle.qoi.specs.inner.block.Storing.{full_bytes};
-ghost use Rattle.qoi.specs.inner.block.Planes.{AreFour, ArePacked, pixels_of_words, block_pixels};
+ghost use Rattle.qoi.specs.inner.block.Planes.{AreFour, ArePacked, block_pixels};
 
 use crate::encode::block::planes::Words;
 use std::simd::prelude::*;
@@ -13,7 +14,7 @@ fn store_four_full(out: &mut [u8], at: usize, four: u32x4)
     requires room { at + 23 ≤ length out.old }
     ensures same { length out.new ≡ length out.old }
     ensures written { take (at + 20) out.new
-        ≡ take at out.old ++ full_bytes (pixels_of_words four) }
+        ≡ take at out.old ++ full_bytes (map pixel_of_word four) }
 {
     let v = four.to_le_bytes();
     let tags = u8x16::splat(0xff);

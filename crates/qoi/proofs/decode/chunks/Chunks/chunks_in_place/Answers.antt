@@ -4,4 +4,4 @@ use Rattle.qoi.proofs.decode.chunks.Chunks.chunks_in_place.Goals as goal
 
 pub returns-clause-takes : goal.returns-clause-takes
 returns-clause-takes g c gone n start h =
-    rw c.after.ensures (piece_stops c.args.out.now 0 c.requires.fillable.three_or_four c.requires.inside h)
+    piece_stops c.args.out.now c.requires.fillable.three_or_four c.requires.inside h

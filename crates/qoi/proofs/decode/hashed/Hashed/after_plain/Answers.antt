@@ -5,7 +5,7 @@ use Rattle.std.proofs.lemmas.Bool.{cases_lt}
 use Rattle.qoi.specs.Qoi.{pixel}
 use Rattle.qoi.specs.inner.Hashed.{pixel_of_lanes, IsHashed, IsPlain, IsAfterShort}
 use Rattle.qoi.proofs.format.SamePixels.{same_pixel}
-use Rattle.qoi.proofs.format.HashedPixels.{short_sum, PlacedLanes, placed_lanes, lanes_with_alpha, lanes_alone}
+use Rattle.qoi.proofs.format.HashedPixels.{short_sum, IsNumberOf, placed_lanes, lanes_with_alpha, lanes_alone}
 use Rattle.qoi.proofs.decode.hashed.Hashed.after_plain.Given.{Over}
 use Rattle.qoi.proofs.decode.hashed.Hashed.after_plain.Goals.{After-at}
 use Rattle.qoi.proofs.decode.hashed.Hashed.after_plain.Goals as goal
@@ -46,22 +46,22 @@ short g c e low =
     }) (omega arith) c.self.invariant c.at.type_inv (omega (arith, none_read g c low, none_placed g c low))
 
 -- of a full chunk's lanes
-full_is : (g : Over) (c : After-at g) (l : ℕ) → 254 ≤ c.args.b1 → IsPlain l → lanes g c ≡ l → PlacedLanes (total g c) l
+full_is : (g : Over) (c : After-at g) (l : ℕ) → 254 ≤ c.args.b1 → IsPlain l → lanes g c ≡ l → IsNumberOf (total g c) (pixel_of_lanes l)
 full_is g c l low plain is =
     let none : c.at.result ≡ 0 = (c.at.ensures.other (omega (arith, low))).run (omega (arith, low)) in
     let sum : total g c ≡ (lanes g c + bit_and (lanes g c * 0x0c0014001c002c00 % 2 ^ 64) c.placed_by.result) % 2 ^ 64 = omega (arith, none) in
-    subst (λ t. PlacedLanes t l) (sym (sum ∙ ap (λ x. (x + bit_and (x * 0x0c0014001c002c00 % 2 ^ 64) c.placed_by.result) % 2 ^ 64) is))
+    subst (λ t. IsNumberOf t (pixel_of_lanes l)) (sym (sum ∙ ap (λ x. (x + bit_and (x * 0x0c0014001c002c00 % 2 ^ 64) c.placed_by.result) % 2 ^ 64) is))
     (placed_lanes l c.placed_by.result plain (c.placed_by.ensures.full low))
 
 -- an RGB chunk's are three, and alpha
-rgb_is : (g : Over) (c : After-at g) → c.args.b1 ≡ 254 → PlacedLanes (total g c) (c.four_lanes.result % 2 ^ 48 + c.self.inside.0 / 2 ^ 48 % 2 ^ 8 * 2 ^ 48)
+rgb_is : (g : Over) (c : After-at g) → c.args.b1 ≡ 254 → IsNumberOf (total g c) (pixel_of_lanes (c.four_lanes.result % 2 ^ 48 + c.self.inside.0 / 2 ^ 48 % 2 ^ 8 * 2 ^ 48))
 rgb_is g c is =
     let plain = c.four_lanes.ensures.plain in
     full_is g c (c.four_lanes.result % 2 ^ 48 + c.self.inside.0 / 2 ^ 48 % 2 ^ 8 * 2 ^ 48) (omega (arith, is)) (omega (arith, plain))
     (lanes_with_alpha c.self.inside.0 c.four_lanes.result _ _ plain (c.kept_by.ensures.rgb is) (c.read_by.ensures.rgb is))
 
 -- an RGBA chunk's are four
-rgba_is : (g : Over) (c : After-at g) → c.args.b1 ≡ 255 → PlacedLanes (total g c) c.four_lanes.result
+rgba_is : (g : Over) (c : After-at g) → c.args.b1 ≡ 255 → IsNumberOf (total g c) (pixel_of_lanes c.four_lanes.result)
 rgba_is g c is =
     full_is g c c.four_lanes.result (omega (arith, is)) c.four_lanes.ensures.plain
     (lanes_alone c.self.inside.0 c.four_lanes.result _ _ (omega (arith, c.four_lanes.type_inv)) (c.kept_by.ensures.rgba is) (c.read_by.ensures.rgba is))

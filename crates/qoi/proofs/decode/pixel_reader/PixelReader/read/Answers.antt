@@ -1,5 +1,5 @@
 -- A piece more is given, or the image is refused.
-use Rattle.std.proofs.Common.{◌≡◌, ◌++◌, List, ℕ, Option, Some, None, IfSome, take, drop, length, arith, refl, sym, ap, ◌∙◌, subst}
+use Rattle.std.proofs.Common.{◌≡◌, ◌++◌, List, ℕ, Option, Some, None, IfSome, MatchOption, take, drop, length, arith, refl, sym, ap, ◌∙◌, subst}
 use Rattle.std.proofs.lemmas.List.{length-append, length-drop, length-take, length-take-le, drop_at, drop-take, take_all}
 use Rattle.std.proofs.Math.Nat.{mul-add}
 use lib.Seq.{take-append_seam}
@@ -10,13 +10,13 @@ use Rattle.qoi.specs.Images.{front_image}
 use Rattle.qoi.specs.Qoi.{IsValid, channels_number, pixel_count}
 use Rattle.qoi.specs.pieces.PixelReader.{PixelsState, HasGiven, HasRows}
 use Rattle.qoi.specs.pieces.Unread.{KeepsPixels, IsUnread}
-use Rattle.qoi.specs.inner.Chunks.{RefusesChunks, HasFault}
+use Rattle.qoi.specs.inner.Chunks.{RefusesChunks}
 use Rattle.qoi.proofs.format.RectangleLaws.{picture_row}
 use Rattle.qoi.proofs.decoding.PixelPieces.{byte_bounds, has_given, unread_of, refuses_pixels, rows_more, rows_next}
 use Rattle.qoi.proofs.decode.pixel_reader.PixelReader.read.Goals as goal
 
 -- what holds of the error in its place, holds of the one that is returned
-fault_is : (Why : Error → Type 0) (fault : Option Error) (e : Error) → IfSome fault (λ f. e ≡ f) → HasFault Why fault → Why e
+fault_is : (Why : Error → Type 0) (fault : Option Error) (e : Error) → IfSome fault (λ f. e ≡ f) → MatchOption fault ⊥ Why → Why e
 fault_is Why (Some f) e is why = subst Why (sym is) why
 fault_is Why None e is why = absurd why
 

@@ -1,5 +1,5 @@
 -- Every number is 0, that of transparent black.
-use Rattle.std.proofs.Common.{◌≡◌, ℕ, zero, suc, replicate, arith, refl, sym, ap, subst, ◌∙◌}
+use Rattle.std.proofs.Common.{◌≡◌, ℕ, suc, replicate, arith, refl, sym, ap, subst, ◌∙◌}
 use Rattle.std.proofs.lemmas.List.{length-replicate}
 use Rattle.std.specs.List.{slice_index}
 use Rattle.qoi.specs.inner.Hashed.{pixel_of_lanes, IsHashed}
@@ -8,9 +8,8 @@ use Rattle.qoi.proofs.decode.table.SizedTerms+64.new_small.Goals as goal
 
 -- an entry of zeros
 zeros : (n i : ℕ) → slice_index (replicate n 0) i ≡ 0
-zeros zero i = refl
-zeros (suc n) zero = refl
 zeros (suc n) (suc i) = zeros n i
+zeros n i = refl
 
 pub invariant_of-result : goal.invariant_of-result
 invariant_of-result c = (

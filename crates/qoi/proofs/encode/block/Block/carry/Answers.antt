@@ -1,15 +1,15 @@
 -- If the block is opaque, so is its last pixel.
-use Rattle.std.proofs.Common.{arith, ◌≡◌, ℕ, zero, suc, ◌<◌, List, [], ◌∷◌, length, slice_index, ap, ◌∙◌}
+use Rattle.std.proofs.Common.{arith, ◌≡◌, ℕ, zero, suc, ◌<◌, List, [], ◌∷◌, length, map, slice_index, ap, ◌∙◌}
 use Rattle.qoi.specs.declared.encode.block.planes.Planes.{Planes}
 use Rattle.qoi.specs.declared.encode.block.planes.Words.{Words}
 use Rattle.qoi.specs.Qoi.{RgbaPixel}
 use Rattle.qoi.specs.Raw.{AreOpaque}
-use Rattle.qoi.specs.inner.block.Planes.{ArePacked, ArePlanes, alphas, block_pixels}
+use Rattle.qoi.specs.inner.block.Planes.{ArePacked, ArePlanes, block_pixels}
 use Rattle.qoi.proofs.encoding.blocks.PackedBlock.{block_sixteen}
 use Rattle.qoi.proofs.encode.block.Block.carry.Goals as goal
 
 -- alpha of an opaque pixel among others
-opaque_at : (ps : List RgbaPixel) (k : ℕ) → k < length ps → AreOpaque ps → slice_index (alphas ps) k ≡ 255
+opaque_at : (ps : List RgbaPixel) (k : ℕ) → k < length ps → AreOpaque ps → slice_index (map (λ (p : RgbaPixel). p.a) ps) k ≡ 255
 opaque_at [] k l o = absurd (omega arith)
 opaque_at (p ∷ ps) zero l o = o.0
 opaque_at (p ∷ ps) (suc k) l o = opaque_at ps k (omega arith) o.1

@@ -8,7 +8,7 @@ use Rattle.std.proofs.lemmas.List.FromFn.{get_or-range_with_len}
 use Rattle.std.proofs.lemmas.Simd.{get_or-zip2, length-zip2, get_or-replicate}
 use lib.Lanes.{zip2}
 use Rattle.qoi.specs.inner.block.Lanes.{mask}
-use Rattle.qoi.specs.inner.block.Vectors.{AreMost, counts}
+use Rattle.qoi.specs.inner.block.Vectors.{IsMost, counts}
 use Rattle.qoi.proofs.encoding.lanes.Lanewise.{not_8}
 use Rattle.qoi.proofs.encoding.lanes.RunningMost.{AreStamps, less, counted}
 use Rattle.qoi.proofs.encode.block.counting.count_repeats.Goals as goal
@@ -38,7 +38,7 @@ module _ (rs : List Bool) (reps : List ℕ) (lr : length rs ≡ 16) (is : reps �
   )
 
 -- the repeats that are counted
-counted_lanes : (rs : List Bool) (c : ℕ) (xs ms tops : List ℕ) → c < 62 → length rs ≡ 16 → AreStamps rs xs → AreMost xs 16 ms → length ms ≡ 16
+counted_lanes : (rs : List Bool) (c : ℕ) (xs ms tops : List ℕ) → c < 62 → length rs ≡ 16 → AreStamps rs xs → ((k : ℕ) → k < 16 → IsMost xs 16 k (slice_index ms k)) → length ms ≡ 16
     → tops ≡ zip2 max ms (replicate 16 (63 - c)) → zip2 less numbers tops ≡ counts c rs
 counted_lanes rs c xs ms tops few lr stamped most lm is =
     let lt16 : length tops ≡ 16 = ap length is ∙ length-zip2 max ms (replicate 16 (63 - c)) lm ∙ lm in

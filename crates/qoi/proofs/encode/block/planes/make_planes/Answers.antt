@@ -1,14 +1,13 @@
 -- Four pixels at a time.
-use Rattle.std.proofs.Common.{◌∙◌, ◌≡◌, ℕ, zero, suc, List, [], ◌∷◌, length, replicate, refl, arith}
+use Rattle.std.proofs.Common.{◌∙◌, ◌≡◌, ℕ, zero, suc, List, [], ◌∷◌, length, map, replicate, refl, arith}
 use Rattle.qoi.specs.Qoi.{RgbaPixel}
 use Rattle.qoi.specs.Raw.{AreOpaque}
-use Rattle.qoi.specs.inner.block.Planes.{alphas}
 use Rattle.qoi.proofs.encoding.blocks.FourFours.{four_words_of}
 use Rattle.qoi.proofs.encoding.lanes.WordPlanes.{sixteen_planes}
 use Rattle.qoi.proofs.encode.block.planes.make_planes.Goals as goal
 
 -- their alpha plane is 255 throughout
-alphas_opaque : (n : ℕ) (ps : List RgbaPixel) → length ps ≡ n → AreOpaque ps → alphas ps ≡ replicate n 255
+alphas_opaque : (n : ℕ) (ps : List RgbaPixel) → length ps ≡ n → AreOpaque ps → map (λ (p : RgbaPixel). p.a) ps ≡ replicate n 255
 alphas_opaque zero [] long opaque = refl
 alphas_opaque (suc n) [] long opaque = absurd (omega arith)
 alphas_opaque zero (p ∷ ps) long opaque = absurd (omega arith)

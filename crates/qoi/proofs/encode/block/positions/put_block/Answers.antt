@@ -1,10 +1,11 @@
 -- Four times four pixels, one after the other.
 use Rattle.std.proofs.Common.{◌≡◌, ℕ, ◌+◌, Bool, List, [], ◌∷◌, ◌++◌, length, map, slice_index, refl, ap, arith}
 use Rattle.qoi.specs.declared.encode.block.planes.Words.{Words}
-use Rattle.qoi.specs.Qoi.{RgbaPixel, Past, hash}
+use lib.Lanes.{zip2}
+use Rattle.qoi.specs.Qoi.{RgbaPixel, Past, hash, pixel_eq}
 use Rattle.qoi.specs.inner.block.Lanes.{mask}
 use Rattle.qoi.specs.inner.block.Planes.{AreSixteen, AreFourWords, AreBlockWords}
-use Rattle.qoi.specs.inner.block.Positions.{seen_before, put_all, all_same, four_times, HasPut, HasPutBlock}
+use Rattle.qoi.specs.inner.block.Positions.{seen_before, put_all, four_times, HasPut, HasPutBlock}
 use Rattle.qoi.specs.inner.Table.{Holds}
 use Rattle.qoi.proofs.encoding.blocks.FourFours.{four_words_of}
 use Rattle.qoi.proofs.encode.block.positions.put_block.Goals as goal
@@ -16,7 +17,7 @@ four_from places k = slice_index places k ∷ slice_index places (k + 1) ∷ sli
 -- what two calls say of four pixels: they were put, and which of them stood there
 record FourPut (old new : List RgbaPixel) (places words found masks : List ℕ) : Type 0 where
   pub put : (held : Past) (ps : List RgbaPixel) → Holds old held → AreFourWords ps words → places ≡ map hash ps → HasPut held ps found new
-  pub masks_are : (qs ps : List RgbaPixel) → AreFourWords qs found → AreFourWords ps words → masks ≡ four_times (all_same qs ps)
+  pub masks_are : (qs ps : List RgbaPixel) → AreFourWords qs found → AreFourWords ps words → masks ≡ four_times (zip2 pixel_eq qs ps)
 
 -- the masks of sixteen lanes from those of four times four
 abbrev Joins : List ℕ → List ℕ → List ℕ → List ℕ → List ℕ → Type 0
@@ -40,8 +41,8 @@ block_put held (p0 ∷ p1 ∷ p2 ∷ p3 ∷ p4 ∷ p5 ∷ p6 ∷ p7 ∷ p8 ∷ p
     let k2 = c2.put (put_all (put_all held q0) q1) q2 k1.holds f.three (ap (λ xs. four_from xs 8) at) in
     let k3 = c3.put (put_all (put_all (put_all held q0) q1) q2) q3 k2.holds f.four (ap (λ xs. four_from xs 12) at) in
     record {
-      stands_are = join (all_same (seen_before held q0) q0) (all_same (seen_before (put_all held q0) q1) q1)
-          (all_same (seen_before (put_all (put_all held q0) q1) q2) q2) (all_same (seen_before (put_all (put_all (put_all held q0) q1) q2) q3) q3) refl refl refl refl (c0.masks_are _ q0 k0.found_are f.one) (c1.masks_are _ q1 k1.found_are f.two)
+      stands_are = join (zip2 pixel_eq (seen_before held q0) q0) (zip2 pixel_eq (seen_before (put_all held q0) q1) q1)
+          (zip2 pixel_eq (seen_before (put_all (put_all held q0) q1) q2) q2) (zip2 pixel_eq (seen_before (put_all (put_all (put_all held q0) q1) q2) q3) q3) refl refl refl refl (c0.masks_are _ q0 k0.found_are f.one) (c1.masks_are _ q1 k1.found_are f.two)
           (c2.masks_are _ q2 k2.found_are f.three) (c3.masks_are _ q3 k3.found_are f.four);
       holds = k3.holds;
     }

@@ -43,13 +43,16 @@ ahead_is : (g : Over) (c : After-repeats_of-ahead g) (more : List RgbaPixel)
     → pixels_in c.args.raw ++ more ≡ replicate c.repeats_of-ahead.result c.args.self.now.last.px ++ (drop c.repeats_of-ahead.result (pixels_in c.args.raw) ++ more)
 ahead_is g c more = ap (λ ps. ps ++ more) (near g c).same ∙ append_assoc (replicate c.repeats_of-ahead.result c.args.self.now.last.px) (drop c.repeats_of-ahead.result (pixels_in c.args.raw)) more
 
-pub returns-then-ends_after-clause-written : goal.returns-then-ends_after-clause-written
-returns-then-ends_after-clause-written g c = record {
+pub returns-then-is_empty-clause-none : goal.returns-then-is_empty-clause-none
+returns-then-is_empty-clause-none g c = λ some. absurd (some (sym c.skip.ensures.rest ∙ c.is_empty.ensures.0 c.if-is_empty.true))
+
+pub returns-then-is_empty-clause-written : goal.returns-then-is_empty-clause-written
+returns-then-is_empty-clause-written g c = record {
   style = c.update_after_repeats.ensures.style;
   on = λ all more b.
       let n = c.repeats_of-ahead.result in
       let count = c.args.self.now.last.repeats + n in
-      of_coder c.update_after_repeats.ensures.style refl (fulls_written b n (count / 62) (drop n (pixels_in c.args.raw) ++ more) (ahead_is g (goal.at.returns-then-ends_after-clause-written g c).After-repeats_of-ahead more)
+      of_coder c.update_after_repeats.ensures.style refl (fulls_written b n (count / 62) (drop n (pixels_in c.args.raw) ++ more) (ahead_is g (goal.at.returns-then-is_empty-clause-written g c).After-repeats_of-ahead more)
       (omega (arith, c.update_after_repeats.ensures.left)) c.append_full_runs.ensures.kept c.update_after_repeats.ensures.state);
 }
 
@@ -64,7 +67,7 @@ returns-clause-written g c = record {
       let group = near g here in
       let rest = drop n (pixels_in c.args.raw) in
       let later = rest ++ more in
-      let some : rest ≢ [] = λ none. true≢false (sym (c.ends_after.ensures.1 none) ∙ c.if-ends_after.false) in
+      let some : rest ≢ [] = λ none. true≢false (sym (c.is_empty.ensures.1 (c.skip.ensures.rest ∙ none)) ∙ c.if-is_empty.false) in
       let first : slice_get later 0 ≡ slice_get rest 0 = first_more rest more some in
       let full : n ≡ REPEATS_AT_ONCE - last.repeats → count % 62 ≡ 0 = λ e. omega (arith, e, last.few) in
       let ends : (slice_get later 0 ≢ Some last.px) ⊎ (count % 62 ≡ 0) =

@@ -11,17 +11,17 @@ use Rattle.qoi.proofs.encode.coder.Coder.write_short_group.Goals as goal
 
 pub returns-clause-px : goal.returns-clause-px
 returns-clause-px g c =
-    sym (get_drop c.args.group.ahead (pixels_in c.args.group.raw)) ∙ ap (λ ps. slice_get ps 0) (sym c.skip-after.ensures.rest ∙ c.first.ensures) ∙ ap Some (sym c.write_pixel.ensures.px)
+    sym (get_drop c.args.ahead (pixels_in c.args.raw)) ∙ ap (λ ps. slice_get ps 0) (sym c.skip-after.ensures.rest ∙ c.first.ensures) ∙ ap Some (sym c.write_pixel.ensures.px)
 
 pub returns-clause-rest : goal.returns-clause-rest
-returns-clause-rest g c = c.skip.ensures.rest ∙ ap (drop 1) c.skip-after.ensures.rest ∙ drop-drop 1 c.args.group.ahead (pixels_in c.args.group.raw) ∙ ap (λ k. drop k (pixels_in c.args.group.raw)) (omega arith)
+returns-clause-rest g c = c.skip.ensures.rest ∙ ap (drop 1) c.skip-after.ensures.rest ∙ drop-drop 1 c.args.ahead (pixels_in c.args.raw) ∙ ap (λ k. drop k (pixels_in c.args.raw)) (omega arith)
 
 pub returns-clause-written : goal.returns-clause-written
 returns-clause-written g c = record {
   style = c.write_pixel.ensures.style ∙ c.update_after_repeats.ensures.style;
   on = λ all more b.
-      let n = c.args.group.ahead in
-      let raw = pixels_in c.args.group.raw in
+      let n = c.args.ahead in
+      let raw = pixels_in c.args.raw in
       let last = c.args.self.now.last in
       let count = last.repeats + n in
       let after = pixels_in c.skip-after.result in

@@ -16,11 +16,11 @@ pub returns-in_err-send_front-clause-refused : goal.returns-in_err-send_front-cl
 returns-in_err-send_front-clause-refused g c =
     let p = err_from_is_err_and c.from_residual.result c.from_residual.ensures.1 in
     let r = c.in_err-send_front.ensures.refused in
-    let bytes = c.copy_after-end.new.buf in
-    let end = c.copy_after-end.result in
+    let bytes = c.store_marker-end.new.self.bytes.now in
+    let end = c.store_marker-end.result in
     let piece = g.row.ROOM - SPARE in
     let began = λ (z : List ℕ). WroteBeginning g.W.Writer.wrote c.args.writer.now z c.send_front.new.writer in
-    rw (p.1, p.2) (r.0, subst began c.copy_after-end.ensures.front (part_of_all piece (take end bytes) (subst began (sym (take-take piece end bytes c.if-end.true)) r.1)))
+    rw (p.1, p.2) (r.0, subst began c.store_marker-end.ensures.stored (part_of_all piece (take end bytes) (subst began (sym (take-take piece end bytes c.if-end.true)) r.1)))
 
 -- all went but what is kept now
 all_but_kept : (g : Over) (c : Joined-end g) → WroteBut g.W.Writer.wrote c.args.writer.now (kept_bytes c.args.self.now ++ end_marker)
@@ -28,16 +28,16 @@ all_but_kept : (g : Over) (c : Joined-end g) → WroteBut g.W.Writer.wrote c.arg
 all_but_kept g c =
     let wrote = g.W.Writer.wrote in
     let a = c.args.writer.now in
-    let bytes = c.copy_after-end.new.buf in
-    let end = c.copy_after-end.result in
+    let bytes = c.store_marker-end.new.self.bytes.now in
+    let end = c.store_marker-end.result in
     let piece = g.row.ROOM - SPARE in
-    subst (λ z. WroteBut wrote a z (take c.if-end.end c.if-end.self.bytes.now) c.if-end.writer) c.copy_after-end.ensures.front
+    subst (λ z. WroteBut wrote a z (take c.if-end.end c.if-end.self.bytes.now) c.if-end.writer) c.store_marker-end.ensures.stored
     (elim c.if-end.branch [
       | then-end+in_ok-send_front w ↦
           subst (λ z. WroteBut wrote a (take end bytes) z c.if-end.writer) (λ i. take (sym w.end-is i) (sym (ap (λ s. s.bytes.now) w.self-is) i))
           (subst (WroteBut wrote a (take end bytes) (take (end - piece) w.send_front.new.bytes)) (sym w.writer-is)
-          (front_sent a w.send_front.new.writer bytes w.send_front.new.bytes piece g.row.ROOM end (omega (arith, c.copy_after-end.auto.buf, c.args.self.now.room))
-          w.if-end.true (omega (arith, c.copy_after-end.ensures.reached, c.args.self.now.within)) w.in_ok-send_front.ensures.written w.in_ok-send_front.ensures.moved))
+          (front_sent a w.send_front.new.writer bytes w.send_front.new.bytes piece g.row.ROOM end (omega (arith, c.store_marker-end.new.self.room))
+          w.if-end.true (omega (arith, c.store_marker-end.ensures.end, c.args.self.now.within)) w.in_ok-send_front.ensures.written w.in_ok-send_front.ensures.moved))
       | else-end w ↦
           subst (λ z. WroteBut wrote a (take end bytes) z c.if-end.writer) (λ i. take (sym w.end-is i) (sym (ap (λ s. s.bytes.now) w.self-is) i))
           (subst (WroteBut wrote a (take end bytes) (take end bytes)) (sym w.writer-is) (none_but (g.met.W.Writer.laws.nothing a)))

@@ -20,12 +20,12 @@ says : (g : Over) (c : After-n_bytes g) → (c.args.header ≡ c.in_ok-header.he
 says g c = tried_says _ _ _ _ c.in_ok-header.header (sym c.try_new.ensures ∙ c.in_ok-header.was)
 
 -- nothing came yet
-nothing : (g : Over) (c : After-n_bytes g) → IsNew c.in_ok-header.header.channels c.args.style c.in_ok-kept.kept.value.came.pending
-nothing g c = subst (λ (k : Kept). IsNew c.in_ok-header.header.channels c.args.style k.came.pending) (sym c.in_ok-kept.ensures.ok) c.new.ensures.pending
+nothing : (g : Over) (c : After-n_bytes g) → IsNew c.in_ok-header.header.channels c.args.style c.in_ok-kept.kept.value.pending
+nothing g c = subst (λ (k : Kept). IsNew c.in_ok-header.header.channels c.args.style k.pending) (sym c.in_ok-kept.ensures.ok) c.new.ensures
 
 -- and nothing is held
-none : (g : Over) (c : After-n_bytes g) → c.in_ok-kept.kept.value.came.held ≡ []
-none g c = ap (λ (k : Kept). k.came.held) c.in_ok-kept.ensures.ok ∙ c.new.ensures.held
+none : (g : Over) (c : After-n_bytes g) → c.in_ok-kept.kept.value.held ≡ []
+none g c = ap (λ (k : Kept). k.held) c.in_ok-kept.ensures.ok ∙ c.new-2.ensures
 
 pub invariant_of-result : goal.invariant_of-result
 invariant_of-result g c =
@@ -44,7 +44,7 @@ returns-clause-made g c =
     let said = says g here in
     let before = g.W.Write.contents c.args.writer in
     let now = g.W.Write.contents c.send_bytes.new.writer in
-    let pending = c.in_ok-kept.kept.value.came.pending in
+    let pending = c.in_ok-kept.kept.value.pending in
     let is : IsNew c.args.header.channels c.args.style pending = subst (λ (h : Header). IsNew h.channels c.args.style pending) (sym said.0) (nothing g here) in
     let sent : Appends before now (header_bytes c.args.header) = subst (Appends before now) (c.encode.ensures ∙ ap header_bytes (sym said.0)) c.in_ok-send_bytes.ensures.written in
     record {

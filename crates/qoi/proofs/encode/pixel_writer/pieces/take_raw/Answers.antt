@@ -45,7 +45,7 @@ loop-writer-preserved g c =
 pub returns-in_err-send_bytes-clause-written : goal.returns-in_err-send_bytes-clause-written
 returns-in_err-send_bytes-clause-written g c =
     let r = c.in_err-send_bytes.ensures.refused in
-    let some = subst (AppendsBeginning (g.W.Write.contents c.loop-writer.writer) (g.W.Write.contents c.send_bytes.new.writer)) c.kept.ensures r.1 in
+    let some = subst (AppendsBeginning (g.W.Write.contents c.loop-writer.writer) (g.W.Write.contents c.send_bytes.new.writer)) c.front.ensures r.1 in
     handed_on _ _ _ c.from_residual-in_err-send_bytes.ensures.1 (
       r.0,
       then_breaks Appends-trans c.loop-writer.invariant.written
@@ -55,9 +55,9 @@ returns-in_err-send_bytes-clause-written g c =
 pub returns-clause-written : goal.returns-clause-written
 returns-clause-written g c =
     let contents = g.W.Write.contents in
-    let old = c.args.kept.now.came in
+    let old = c.args.kept.now in
     let kept = kept_bytes c.loop-writer.piece.piece in
-    let all = subst (Appends (contents c.loop-writer.writer) (contents c.send_bytes.new.writer)) c.kept.ensures c.in_ok-send_bytes.ensures.written in
-    subst (λ x. GoesOn appended (contents c.args.writer.now) old.pending [] (old.held ++ c.args.raw.now) (contents c.send_bytes.new.writer) c.loop-writer.came.pending [] x) (sym c.push.ensures)
+    let all = subst (Appends (contents c.loop-writer.writer) (contents c.send_bytes.new.writer)) c.front.ensures c.in_ok-send_bytes.ensures.written in
+    subst (λ x. GoesOn appended (contents c.args.writer.now) old.pending [] (old.held ++ c.args.raw.now) (contents c.send_bytes.new.writer) c.loop-writer.kept.1.0 [] x) (sym c.push.ensures)
     (then_on Appends-trans c.loop-writer.invariant.written
     (sent_on stands c.loop-writer.invariant.written.opaque refl (record { front = kept; split = sym (append-nil kept); went = all })))

@@ -1,4 +1,4 @@
--- The raw bytes up to here came.
+-- The raw bytes up to here came: `kept.1.0` is what is pending, and `kept.1.1.0` what is held.
 use Rattle.std.proofs.Common.{◌+◌, ◌≤◌, [], ◌++◌, length}
 use Rattle.qoi.specs.inner.Coder.{kept_bytes}
 use Rattle.qoi.specs.inner.Sending.{appended, GoesOn, StaysIn}
@@ -6,11 +6,11 @@ use Rattle.qoi.proofs.encode.pixel_writer.pieces.take_raw.Given as goal
 
 abbrev pub invariant-loop-writer : goal.invariant-loop-writer
 invariant-loop-writer g l = record {
-  most : length l.came.held + length l.rest ≤ length l.fn.kept.came.held + length l.raw;
-  stays : StaysIn l.fn.kept.came.pending l.came.pending;
-  written : GoesOn appended (g.W.Write.contents l.fn.writer) l.fn.kept.came.pending [] (l.fn.kept.came.held ++ l.raw)
-      (g.W.Write.contents l.writer) l.came.pending (kept_bytes l.piece.piece) (l.came.held ++ l.rest);
+  most : length l.kept.1.1.0 + length l.rest ≤ length l.fn.kept.held + length l.raw;
+  stays : StaysIn l.fn.kept.pending l.kept.1.0;
+  written : GoesOn appended (g.W.Write.contents l.fn.writer) l.fn.kept.pending [] (l.fn.kept.held ++ l.raw)
+      (g.W.Write.contents l.writer) l.kept.1.0 (kept_bytes l.piece.piece) (l.kept.1.1.0 ++ l.rest);
 }
 
 abbrev pub decreases-loop-writer : goal.decreases-loop-writer
-decreases-loop-writer g l = length l.came.held + length l.rest
+decreases-loop-writer g l = length l.kept.1.1.0 + length l.rest

@@ -14,12 +14,12 @@ use Rattle.qoi.proofs.encode.pixel_writer.pieces.write_held.Goals.{After-bytes}
 use Rattle.qoi.proofs.encode.pixel_writer.pieces.write_held.Goals as goal
 
 -- nothing is in the piece before the bytes that were held
-starts : (g : Over) (c : After-bytes g) (ahead : List ℕ) → Between ahead c.args.kept.now.came.pending [] c.args.kept.now.came.held
-    → Between ahead c.args.kept.now.came.pending (kept_bytes c.open-piece.result.piece) c.bytes.result.now
+starts : (g : Over) (c : After-bytes g) (ahead : List ℕ) → Between ahead c.args.kept.now.pending [] c.args.kept.now.held
+    → Between ahead c.args.kept.now.pending (kept_bytes c.open-piece.result.piece) c.bytes.result.now
 starts g c ahead s =
-    let p = c.args.kept.now.came.pending in
+    let p = c.args.kept.now.pending in
     subst (Between ahead p (kept_bytes c.open-piece.result.piece)) (sym c.bytes.ensures.are)
-    (subst (λ kept. Between ahead p kept c.args.kept.now.came.held) (sym (c.open-piece.ensures ∙ c.new.ensures)) s)
+    (subst (λ kept. Between ahead p kept c.args.kept.now.held) (sym (c.open-piece.ensures ∙ c.new.ensures)) s)
 
 pub returns-in_err-left : goal.returns-in_err-left
 returns-in_err-left g c =

@@ -4,43 +4,43 @@ use Rattle.qoi.proofs.encoding.piece.BytesAhead.{goes_within, breaks_within}
 use Rattle.std.proofs.lemmas.List.{nil_from_length}
 use Rattle.qoi.proofs.decoding.Refusals.{handed_on}
 use Rattle.qoi.proofs.encode.pixel_writer.pieces.write_more.Given.{Over}
-use Rattle.qoi.proofs.encode.pixel_writer.pieces.write_more.Goals.{After-write_whole_apart, After-write_whole_apart-2}
+use Rattle.qoi.proofs.encode.pixel_writer.pieces.write_more.Goals.{After-write_pixels_apart, After-write_pixels_apart-2}
 use Rattle.qoi.proofs.encode.pixel_writer.pieces.write_more.Goals as goal
 
 -- none are held, and whole pixels came
-came : (g : Over) (c : After-write_whole_apart g) → c.args.came.now.held ++ c.args.raw.now ≡ c.split_at.result.0.now ++ c.split_at.result.1.now
+came : (g : Over) (c : After-write_pixels_apart g) → c.args.held.now ++ c.args.raw.now ≡ c.split_at.result.0.now ++ c.split_at.result.1.now
 came g c =
     let split = c.split_at.ensures in
-    ap (λ z. z ++ c.args.raw.now) (nil_from_length c.args.came.now.held (omega (arith, ap length c.bytes-held.ensures.are, c.if-held-eq0.true)))
+    ap (λ z. z ++ c.args.raw.now) (nil_from_length c.args.held.now (omega (arith, ap length c.bytes-len.ensures.are, c.if-len-eq0.true)))
     ∙ sym (take-append-drop _ c.args.raw.now) ∙ (λ i. sym split.front i ++ sym split.back i)
 
 -- they are held
-held : (g : Over) (c : After-write_whole_apart-2 g) → c.args.came.now.held ++ c.args.raw.now ≡ c.bytes.result.now ++ c.split_at-2.result.1.now
+held : (g : Over) (c : After-write_pixels_apart-2 g) → c.args.held.now ++ c.args.raw.now ≡ c.bytes.result.now ++ c.split_at-2.result.1.now
 held g c =
     let split = c.split_at-2.ensures in
-    ap (λ z. c.args.came.now.held ++ z) (sym (take-append-drop _ c.args.raw.now) ∙ (λ i. sym split.front i ++ sym split.back i))
-    ∙ sym (append_assoc c.args.came.now.held c.split_at-2.result.0.now c.split_at-2.result.1.now)
+    ap (λ z. c.args.held.now ++ z) (sym (take-append-drop _ c.args.raw.now) ∙ (λ i. sym split.front i ++ sym split.back i))
+    ∙ sym (append_assoc c.args.held.now c.split_at-2.result.0.now c.split_at-2.result.1.now)
     ∙ ap (λ z. z ++ c.split_at-2.result.1.now) (sym (c.bytes.ensures.are ∙ c.push-2.ensures))
 
 pub returns-in_err-left-clause-written : goal.returns-in_err-left-clause-written
 returns-in_err-left-clause-written g c =
     let r = c.in_err-left.ensures.written in
-    handed_on _ _ _ c.from_residual.ensures.1 (r.0, breaks_within c.split_at.result.1.now r.1 (came g (goal.at.returns-in_err-left-clause-written g c).After-write_whole_apart))
+    handed_on _ _ _ c.from_residual.ensures.1 (r.0, breaks_within c.split_at.result.1.now r.1 (came g (goal.at.returns-in_err-left-clause-written g c).After-write_pixels_apart))
 
-pub returns-then-held-eq0-clause-written : goal.returns-then-held-eq0-clause-written
-returns-then-held-eq0-clause-written g c =
+pub returns-then-len-eq0-clause-written : goal.returns-then-len-eq0-clause-written
+returns-then-len-eq0-clause-written g c =
     let part = c.split_at.result.1.now in
     let left = c.in_ok-left.left.now in
-    goes_within part c.write_whole_apart.ensures.stays.0 c.in_ok-left.ensures.written.written (came g (goal.at.returns-then-held-eq0-clause-written g c).After-write_whole_apart)
-    (ap (λ z. z ++ part) (c.push.ensures ∙ ap (λ z. z ++ left) (nil_from_length c.args.came.now.held (omega (arith, ap length c.bytes-held.ensures.are, c.if-held-eq0.true)))))
+    goes_within part c.write_pixels_apart.ensures.stays.0 c.in_ok-left.ensures.written.written (came g (goal.at.returns-then-len-eq0-clause-written g c).After-write_pixels_apart)
+    (ap (λ z. z ++ part) (c.push.ensures ∙ ap (λ z. z ++ left) (nil_from_length c.args.held.now (omega (arith, ap length c.bytes-len.ensures.are, c.if-len-eq0.true)))))
 
 pub returns-in_err-left-2-clause-written : goal.returns-in_err-left-2-clause-written
 returns-in_err-left-2-clause-written g c =
     let r = c.in_err-left-2.ensures.written in
-    handed_on _ _ _ c.from_residual-in_err-left-2.ensures.1 (r.0, breaks_within c.split_at-2.result.1.now r.1 (held g (goal.at.returns-in_err-left-2-clause-written g c).After-write_whole_apart-2))
+    handed_on _ _ _ c.from_residual-in_err-left-2.ensures.1 (r.0, breaks_within c.split_at-2.result.1.now r.1 (held g (goal.at.returns-in_err-left-2-clause-written g c).After-write_pixels_apart-2))
 
 pub returns-clause-written : goal.returns-clause-written
 returns-clause-written g c =
     let rest = c.split_at-2.result.1.now in
-    goes_within rest c.write_whole_apart-2.ensures.stays.0 c.in_ok-left-2.ensures.written.written (held g (goal.at.returns-clause-written g c).After-write_whole_apart-2)
+    goes_within rest c.write_pixels_apart-2.ensures.stays.0 c.in_ok-left-2.ensures.written.written (held g (goal.at.returns-clause-written g c).After-write_pixels_apart-2)
     (ap (λ z. z ++ rest) (c.replace.ensures ∙ c.copy_after-count.ensures.front))

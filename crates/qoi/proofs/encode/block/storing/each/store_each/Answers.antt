@@ -3,14 +3,14 @@ use Rattle.std.proofs.Common.{◌≡◌, ◌≤◌, ℕ, List, [], ◌∷◌, �
 use Rattle.std.specs.Prelude.{min}
 use lib.Lanes.{number_l, zip2}
 use Rattle.std.proofs.lemmas.List.{length-take-le}
-use Rattle.qoi.specs.inner.block.Storing.{HoldChunks, eight_parts, AreSizes}
+use Rattle.qoi.specs.inner.block.Storing.{HoldChunks, four_parts, AreEight}
 use Rattle.qoi.proofs.encoding.stores.EachChunk.{widened_are, twice_eight}
 use Rattle.qoi.proofs.encoding.stores.StoredBlock.{take_few, drop_few, lesser_few, lesser_most}
 use Rattle.qoi.proofs.encode.block.storing.each.store_each.Goals as goal
 
 -- the sizes of eight of sixteen lanes, none above five
 cut_sizes : (xs ss part : List ℕ) (n : ℕ) → ss ≡ zip2 min xs (replicate 16 5) → length part ≡ 8
-    → (((k : ℕ) → slice_index ss k ≤ 5) → (k : ℕ) → slice_index part k ≤ 5) → n ≡ number_l 256 part → (ss : List ℕ) × AreSizes ss n
+    → (((k : ℕ) → slice_index ss k ≤ 5) → (k : ℕ) → slice_index part k ≤ 5) → n ≡ number_l 256 part → (ss : List ℕ) × AreEight 5 ss n
 cut_sizes xs ss part n cut long of is =
     (part, record { eight = long; few = of (λ k. omega (arith, ap (λ z. slice_index z k) cut, lesser_most 16 5 xs k)); is = is })
 
@@ -42,8 +42,8 @@ returns-clause-written c = λ few.
     (record { eight = length-take-le 8 ss (omega arith); few = take_few 8 5 ss few; is = ap (λ z. slice_index z 0) halves }) in
     let second = c.store_eight.ensures.written (drop 8 ss)
     (record { eight = omega (arith, length-drop 8 ss); few = drop_few 8 5 ss few; is = ap (λ z. slice_index z 1) halves }) in
-    let low = eight_parts (take 8 ss) m1 m2 in
-    let high = eight_parts (drop 8 ss) m3 m4 in
+    let low = (four_parts (take 8 ss) 0 m1 ++ four_parts (take 8 ss) 4 m2) in
+    let high = (four_parts (drop 8 ss) 0 m3 ++ four_parts (drop 8 ss) 4 m4) in
     let front = take c.args.at c.args.out.now in
     second ∙ ap (λ z. z ++ high) first ∙ append_assoc front low high
     ∙ ap (λ z. front ++ z) (twice_eight ss alphas w m1 m2 m3 m4 c.fits-size.0 few c.fits-alpha.0 c.fits-alpha.1

@@ -1,12 +1,12 @@
 -- Twice four chunks.
-use Rattle.std.proofs.Common.{◌≡◌, ℕ, zero, suc, ◌+◌, ◌*◌, ◌<◌, ◌≤◌, List, [], ◌∷◌, slice_index, arith, refl, ◌∙◌}
-use Rattle.qoi.specs.inner.block.Storing.{first_sum}
+use Rattle.std.proofs.Common.{◌≡◌, ℕ, zero, suc, ◌+◌, ◌*◌, ◌<◌, ◌≤◌, List, [], ◌∷◌, slice_index, arith, refl, ◌∙◌, take}
+use lib.Lanes.{sum_l}
 use Rattle.qoi.proofs.encoding.stores.StoredBlock.{first_few}
 use Rattle.qoi.proofs.encoding.stores.StoredParts.{two_fours}
 use Rattle.qoi.proofs.encode.block.storing.each.store_eight.Goals as goal
 
 -- the end of the chunk after k others, from what `ends` and `after` ensure
-end_few : (ss : List ℕ) (k e r : ℕ) → ((k : ℕ) → slice_index ss k ≤ 5) → r ≡ e → e ≡ first_sum (k + 1) ss → r ≤ 5 * (k + 1)
+end_few : (ss : List ℕ) (k e r : ℕ) → ((k : ℕ) → slice_index ss k ≤ 5) → r ≡ e → e ≡ sum_l (take (k + 1) ss) → r ≤ 5 * (k + 1)
 end_few ss k e r few is sum = omega (arith, first_few (k + 1) ss few)
 
 -- four numbers that aren't more than m

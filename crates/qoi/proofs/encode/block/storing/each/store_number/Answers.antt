@@ -1,7 +1,7 @@
 -- Eight bytes are put, of which some count.
 use Rattle.std.proofs.Common.{◌≡◌, ◌+◌, ◌++◌, take, ap, ◌∙◌, arith, refl}
 use lib.Lanes.{digits_l}
-use Rattle.qoi.proofs.encoding.stores.Shuffles.{bytes_put}
+use Rattle.qoi.proofs.format.LaneBytes.{bytes_put}
 use Rattle.qoi.proofs.encode.block.storing.each.store_number.Goals as goal
 
 pub returns-clause-written : goal.returns-clause-written

@@ -1,11 +1,11 @@
 -- Sixteen bytes are put, of which fifteen count, and eight, of which five do.
-use Rattle.std.proofs.Common.{ℕ, ◌+◌, ◌-◌, List, ◌++◌, take, drop, refl, ap, ◌∙◌, arith, append_assoc, ◌≡◌, [], ◌∷◌, replicate}
+use Rattle.std.proofs.Common.{ℕ, ◌+◌, ◌-◌, List, ◌++◌, take, drop, refl, ap, ◌∙◌, arith, append_assoc, ◌≡◌, [], ◌∷◌, replicate, map}
 use borrow.Rule.Slice.PartMut.{put_mid}
 use lib.Lanes.{put_chunk, number_l, digits_l, pick_l}
 use Rattle.qoi.specs.inner.Packed.{pixel_of_word}
 use Rattle.qoi.specs.inner.block.Storing.{full_bytes}
-use Rattle.qoi.specs.inner.block.Planes.{AreFour, pixels_of_words}
-use Rattle.qoi.proofs.encoding.stores.Shuffles.{bytes_put}
+use Rattle.qoi.specs.inner.block.Planes.{AreFour}
+use Rattle.qoi.proofs.format.LaneBytes.{bytes_put}
 use Rattle.qoi.proofs.encoding.blocks.PackedBlock.{four_numbers}
 use Rattle.qoi.proofs.encoding.lanes.WordPlanes.{bytes_of_words}
 use Rattle.qoi.proofs.encode.block.storing.full.store_four_full.Goals as goal
@@ -23,7 +23,7 @@ abbrev last : List ℕ → List ℕ
 last v = pick_l 0 (v ++ replicate 16 255) (16 ∷ 12 ∷ 13 ∷ 14 ∷ 15 ∷ 16 ∷ 16 ∷ 16 ∷ [])
 
 -- they are the RGBA chunks of the pixels
-four_full : (xs : List ℕ) → AreFour xs → take 15 (three (bytes_in xs)) ++ take 5 (last (bytes_in xs)) ≡ full_bytes (pixels_of_words xs)
+four_full : (xs : List ℕ) → AreFour xs → take 15 (three (bytes_in xs)) ++ take 5 (last (bytes_in xs)) ≡ full_bytes (map pixel_of_word xs)
 four_full (a ∷ b ∷ c ∷ d ∷ []) f =
     let n = four_numbers (a ∷ b ∷ c ∷ d ∷ []) f in
     let e = (λ i. bytes_in (n.packed i)) ∙ bytes_of_words (pixel_of_word a) (pixel_of_word b) (pixel_of_word c) (pixel_of_word d) n.are.0 n.are.1.0 n.are.1.1.0 n.are.1.1.1.0 in

@@ -1,8 +1,8 @@
 -- Four times four chunks.
-use Rattle.std.proofs.Common.{◌≡◌, ◌+◌, List, [], ◌∷◌, ◌++◌, take, refl, sym, ap, ◌∙◌, arith}
+use Rattle.std.proofs.Common.{◌≡◌, ◌+◌, List, [], ◌∷◌, ◌++◌, take, refl, sym, ap, ◌∙◌, arith, map}
+use Rattle.qoi.specs.inner.Packed.{pixel_of_word}
 use Rattle.qoi.specs.Qoi.{RgbaPixel}
 use Rattle.qoi.specs.inner.block.Storing.{full_bytes}
-use Rattle.qoi.specs.inner.block.Planes.{pixels_of_words}
 use Rattle.qoi.proofs.encoding.stores.StoredParts.{four_stored}
 use Rattle.qoi.proofs.encode.block.storing.full.store_full.Goals as goal
 
@@ -15,10 +15,10 @@ pub returns-clause-written : goal.returns-clause-written
 returns-clause-written c =
     let at = c.args.at in
     let w = c.args.words in
-    let one = pixels_of_words w.one in
-    let two = pixels_of_words w.two in
-    let three = pixels_of_words w.three in
-    let four = pixels_of_words w.four in
+    let one = map pixel_of_word w.one in
+    let two = map pixel_of_word w.two in
+    let three = map pixel_of_word w.three in
+    let four = map pixel_of_word w.four in
     four_stored at (at + 20) (at + 40) (at + 60) (at + 80)
     c.args.out.now c.store_four_full.new.out c.store_four_full-2.new.out c.store_four_full-3.new.out c.store_four_full-4.new.out _ _ _ _
     c.store_four_full.ensures.written (ap (λ n. take n c.store_four_full-2.new.out) (omega arith) ∙ c.store_four_full-2.ensures.written)

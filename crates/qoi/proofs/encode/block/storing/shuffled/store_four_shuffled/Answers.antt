@@ -2,7 +2,7 @@
 use Rattle.std.proofs.Common.{◌++◌, take, ap, ◌∙◌, arith}
 use Rattle.qoi.proofs.encoding.stores.FourChunks.{total_few}
 use Rattle.qoi.proofs.encoding.stores.FourOrders.{entry_total}
-use Rattle.qoi.proofs.encoding.stores.Shuffles.{bytes_put}
+use Rattle.qoi.proofs.format.LaneBytes.{bytes_put}
 use Rattle.qoi.proofs.encode.block.storing.shuffled.store_four_shuffled.Goals as goal
 
 pub returns-clause-near : goal.returns-clause-near

@@ -19,12 +19,12 @@ returns-clause-written c = λ alphas have.
     let numbers = c.halves-codes.ensures ∙ ap (λ z. number_l 256 (take 8 z) ∷ number_l 256 (drop 8 z) ∷ []) c.lesser.ensures in
     let first = c.join-first.ensures (take 8 cs) (record {
       eight = length-take-le 8 cs (omega arith);
-      few = λ k. omega (arith, take_few 8 3 cs most k);
+      few = take_few 8 3 cs most;
       is = ap (λ z. slice_index z 0) numbers;
     }) in
     let second = c.join-second.ensures (drop 8 cs) (record {
       eight = omega (arith, length-drop 8 cs);
-      few = λ k. omega (arith, drop_few 8 3 cs most k);
+      few = drop_few 8 3 cs most;
       is = ap (λ z. slice_index z 1) numbers;
     }) in
     let w = c.args.words in

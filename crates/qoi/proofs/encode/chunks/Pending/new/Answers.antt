@@ -1,12 +1,11 @@
 -- The coder starts.
 use Rattle.std.proofs.Common.{refl}
-use Rattle.qoi.proofs.encode.pending.Pending.new.Goals as goal
+use Rattle.qoi.proofs.encode.chunks.Pending.new.Goals as goal
 
 pub returns : goal.returns
 returns c = record {
   channels_is = refl;
   style_is = refl;
-  px_is = c.start.ensures.px;
   none = c.start.ensures.none;
   state = c.start.ensures.state c.args.style c.new.result c.new.ensures;
 }

@@ -2,18 +2,12 @@
 use Rattle.std.proofs.Common.{◌≡◌, inl, inr, ◌+◌, ◌-◌, ◌<◌, ◌++◌, replicate, append_assoc, length, take, drop, length-drop, drop-drop, slice_get, subst, refl, sym, ap, ◌∙◌, arith}
 use Rattle.std.proofs.lemmas.Bool.{cases_lt}
 use lib.Count.{count_trailing_zeros}
-use Rattle.qoi.specs.inner.block.Marks.{fresh_marks}
+use Rattle.qoi.specs.inner.block.Lanes.{fresh_marks}
 use Rattle.qoi.specs.inner.Coder.{pixels_in}
 use Rattle.qoi.proofs.encoding.coder.CoderLink.{then_passes}
 use Rattle.qoi.proofs.encoding.coder.CoderSteps.{repeats_joined}
 use Rattle.qoi.proofs.encoding.coder.MarkedPixels.{get_further, last_of_block, marks_group, none_group}
-use Rattle.qoi.proofs.encode.marked.write_marked.Goals as goal
-
-pub invariant_of-group : goal.invariant_of-group
-invariant_of-group g c =
-    let i = c.loop-left.invariant in
-    let group = marks_group c.loop-left.coder.last.px (pixels_in c.loop-left.rest) c.loop-left.count c.loop-left.left i.enough i.lanes_few i.marks_are (omega (arith, c.loop-left-test.true)) in
-    omega (arith, group.inside, i.enough)
+use Rattle.qoi.proofs.encode.sparse.write_marked.Goals as goal
 
 pub write_short_group-rest-requires : goal.write_short_group-rest-requires
 write_short_group-rest-requires g c =
@@ -24,7 +18,7 @@ write_short_group-rest-requires g c =
       | inl some ↦ omega (arith, i.few (group.first some), group.inside, i.lanes_few)
       | inr none ↦ omega (arith, none, c.loop-left.coder.last.few)
     ] in
-    (omega arith, (omega arith, (omega arith, (omega arith, (refl, (few, (group.repeats, (group.other, omega (arith, i.room, group.inside, c.requires.room)))))))))
+    (omega arith, (omega arith, (omega arith, (refl, (few, (omega (arith, group.inside, i.enough), (group.repeats, (group.other, omega (arith, i.room, group.inside, c.requires.room)))))))))
 
 pub overflow_sub-count : goal.overflow_sub-count
 overflow_sub-count g c =
@@ -39,7 +33,7 @@ loop-left-preserved g c =
     let rest = pixels_in c.loop-left.rest in
     let group = marks_group c.loop-left.coder.last.px rest lanes c.loop-left.left i.enough i.lanes_few i.marks_are (omega (arith, c.loop-left-test.true)) in
     let step = c.write_short_group-rest.ensures in
-    let raw = pixels_in c.args.block.front.raw in
+    let raw = pixels_in c.args.front.raw in
     let further : (16 - lanes) + (n + 1) ≡ 16 - (lanes - (n + 1)) = omega (arith, group.inside, i.lanes_few) in
     let at : 15 - (lanes - (n + 1)) ≡ (16 - lanes) + n = omega (arith, group.inside, i.lanes_few) in
     record {
@@ -59,13 +53,13 @@ pub returns-clause-rest : goal.returns-clause-rest
 returns-clause-rest g c =
     let i = c.loop-left.invariant in
     let lanes = c.loop-left.count in
-    let raw = pixels_in c.args.block.front.raw in
+    let raw = pixels_in c.args.front.raw in
     let sixteen : (16 - lanes) + lanes ≡ 16 = omega (arith, i.lanes_few) in
     c.skip.ensures.rest ∙ ap (drop lanes) i.rest_is ∙ drop-drop lanes (16 - lanes) raw ∙ ap (λ k. drop k raw) sixteen
 
 pub returns-clause-less : goal.returns-clause-less
 returns-clause-less g c =
-    omega (arith, c.skip.ensures.size, ap length c.loop-left.invariant.rest_is, length-drop (16 - c.loop-left.count) (pixels_in c.args.block.front.raw), c.args.block.front.enough, c.loop-left.invariant.lanes_few)
+    omega (arith, c.skip.ensures.size, ap length c.loop-left.invariant.rest_is, length-drop (16 - c.loop-left.count) (pixels_in c.args.front.raw), c.args.front.enough, c.loop-left.invariant.lanes_few)
 
 pub returns-clause-last : goal.returns-clause-last
 returns-clause-last g c =
@@ -75,7 +69,7 @@ returns-clause-last g c =
       | inl some ↦ absurd (omega (arith, some, c.loop-left-test.false))
       | inr begun ↦ begun.2
     ] in
-    let raw = pixels_in c.args.block.front.raw in
+    let raw = pixels_in c.args.front.raw in
     let q = c.loop-left.coder.last.px in
     last_of_block q raw lanes few (i.last_is few)
     (subst (λ ps. ps ≡ replicate lanes q ++ drop lanes ps) i.rest_is (none_group q (pixels_in c.loop-left.rest) lanes i.enough (sym c.loop-left-test.false ∙ i.marks_are)))

@@ -1,17 +1,17 @@
 -- The pixels up to here are written, but for the repeats that are carried.
-use Rattle.std.proofs.Common.{◌≡◌, ◌⊎◌, ℕ, List, ◌-◌, ◌<◌, ◌≤◌, length}
+use Rattle.std.proofs.Common.{◌≡◌, ◌⊎◌, ℕ, List, ◌++◌, ◌-◌, ◌<◌, length}
 use Rattle.qoi.specs.declared.encode.piece.TheConstants.{SPARE}
 use Rattle.qoi.specs.Qoi.{RgbaPixel}
 use Rattle.qoi.specs.inner.BlockLoop.{InBlocks}
 use Rattle.qoi.specs.Styles.{style_of}
-use Rattle.qoi.specs.inner.Coder.{pixels_in, kept_bytes}
-use Rattle.qoi.proofs.encode.blocks.fill.Given as goal
+use Rattle.qoi.specs.inner.Coder.{pixels_in, kept_bytes, CoderBetween}
+use Rattle.qoi.proofs.encode.blocks.write_by_blocks.Given as goal
 
 abbrev pub invariant-loop-rest : goal.invariant-loop-rest
 invariant-loop-rest g l = record {
   less : (length (pixels_in l.rest) < length (pixels_in l.raw)) ⊎ ((length (pixels_in l.rest) ≡ length (pixels_in l.raw)) × (l.piece.end < g.row.ROOM - SPARE));
-  written : (ahead : List ℕ) (n : ℕ) (more : List RgbaPixel) → length (pixels_in l.raw) ≤ n → InBlocks (style_of g.row.STYLE) ahead n (pixels_in l.raw) more l.fn.table l.fn.carry (kept_bytes l.fn.piece.piece)
-      → InBlocks (style_of g.row.STYLE) ahead n (pixels_in l.rest) more l.table l.now (kept_bytes l.piece);
+  written : (ahead : List ℕ) (more : List RgbaPixel) → CoderBetween (style_of g.row.STYLE) ahead (pixels_in l.raw ++ more) l.fn.table l.fn.last (kept_bytes l.fn.piece.piece)
+      → InBlocks (style_of g.row.STYLE) ahead (length (pixels_in l.raw)) (pixels_in l.rest) more l.table l.carry (kept_bytes l.piece);
 }
 
 abbrev pub decreases-loop-rest : goal.decreases-loop-rest

@@ -12,9 +12,9 @@ use Rattle.qoi.proofs.encoding.piece.BytesAhead.{CoderGoes, then_on, then_breaks
 use Rattle.qoi.proofs.encoding.piece.ImagePieces.{bytes_in, few_bytes, fewer_bytes, whole_ahead}
 use Rattle.qoi.proofs.encoding.piece.PieceSent.{kept_length, sent_but}
 use Rattle.qoi.proofs.encoding.piece.WriterProgress.{none_but}
-use Rattle.qoi.proofs.encode.chunks.write_blocks.Given.{Over}
-use Rattle.qoi.proofs.encode.chunks.write_blocks.Goals.{After-has_block, After-write_some-filled, then-is_full+in_ok-send, else-is_full}
-use Rattle.qoi.proofs.encode.chunks.write_blocks.Goals as goal
+use Rattle.qoi.proofs.encode.chunks.write_in_style.Given.{Over}
+use Rattle.qoi.proofs.encode.chunks.write_in_style.Goals.{After-has_block, After-write_some-filled, then-is_full+in_ok-send, else-is_full}
+use Rattle.qoi.proofs.encode.chunks.write_in_style.Goals as goal
 
 -- some is written
 goes : (g : Over) (c : After-write_some-filled g)

@@ -1,9 +1,9 @@
 -- The chunks of the pixels up to here are in the piece, or sent.
 use Rattle.std.proofs.Common.{◌≤◌, length}
-use Rattle.qoi.specs.declared.encode.pending.Pending.{Pending}
+use Rattle.qoi.specs.declared.encode.chunks.Pending.{Pending}
 use Rattle.qoi.specs.inner.Coder.{pixels_in, kept_bytes}
 use Rattle.qoi.specs.inner.Sending.{GoesOn, IsReady}
-use Rattle.qoi.proofs.encode.chunks.write_blocks.Given as goal
+use Rattle.qoi.proofs.encode.chunks.write_in_style.Given as goal
 
 abbrev pub invariant-loop-table : goal.invariant-loop-table
 invariant-loop-table g l =
