@@ -64,7 +64,7 @@ fn write_in_style<'a, 'p, W: Writer, const N: usize, const STYLE: u8, const ROOM
         «data».entry.now writer.new pending.new result }
 {
     let table = &mut pending.table;
-    let mut last = pending.last;
+    let mut last = pending.last.by_fields();
     let mut piece = piece;
     let mut rest = Pixels::<N>::new(data);
     while rest.has_block() {
@@ -75,7 +75,7 @@ fn write_in_style<'a, 'p, W: Writer, const N: usize, const STYLE: u8, const ROOM
         rest = after;
         piece = filled.open();
     }
-    pending.last = last;
+    pending.last = last.by_fields();
     Ok((rest.bytes, piece))
 }
 
@@ -137,7 +137,7 @@ fn write_left<const ROOM: usize>(pending: &mut Pending, piece: &mut Piece<ROOM>,
     ensures { (ahead : List ℕ) → Between ahead pending.old (kept_bytes piece.old) left.now
         → ahead ≡ kept_bytes piece.new }
 {
-    let (style, last) = (pending.style, pending.last);
+    let (style, last) = (pending.style, pending.last.by_fields());
     let table = &mut pending.table;
     match pending.channels {
         Rgb => write_rest::<3, ROOM>(Coder::new(style, last), table, piece, left),

@@ -64,6 +64,20 @@ impl LastPixel {
             repeats: 0,
         }
     }
+
+    /// A copy, field by field: one of the whole would wait for the fields, which are stored in other
+    /// widths.
+    #[inline(always)]
+    pub(super) fn by_fields(self) -> LastPixel
+        ensures { result ≡ self }
+    {
+        LastPixel {
+            px: self.px,
+            begun: self.begun,
+            placed: self.placed,
+            repeats: self.repeats,
+        }
+    }
 }
 
 /// Writes pixels of `N` channels one by one, in this style and after this last one. The table is

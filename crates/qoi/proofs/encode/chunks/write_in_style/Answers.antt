@@ -83,6 +83,6 @@ returns-clause-written g c =
     record {
       few = omega (arith, bytes_in raw, few_bytes g.row.N (length (pixels_in raw)) raw.channels few, c.requires.channels);
       within = c.loop-table.invariant.left;
-      ready = c.loop-table.invariant.ready;
-      written = c.loop-table.invariant.written;
+      ready = rw c.by_fields-pending.ensures c.loop-table.invariant.ready;
+      written = rw c.by_fields-pending.ensures c.loop-table.invariant.written;
     }
