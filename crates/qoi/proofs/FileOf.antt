@@ -2,17 +2,13 @@
 use Rattle.std.proofs.Common.{◌≡◌, ◌≢◌, ℕ, ◌+◌, ◌*◌, ◌^◌, ◌<◌, ◌≤◌, List, [], ◌∷◌, ◌++◌, length, take, min, ◌-◌, refl, sym, ap, ◌∙◌, subst, arith, rules, append-nil, length-append}
 use Rattle.std.proofs.Math.Nat.{mul_comm}
 use lib.Seq.{take-append_seam}
-use Rattle.qoi.specs.declared.header.Header.{Header}
-use Rattle.qoi.specs.declared.chunk.Chunk.{Chunk}
-use Rattle.qoi.specs.Qoi.{AreBytes, channels_number, header_bytes, pixel_count, IsValid, RgbaPixel, bytes_of, chunk_bytes, Reaches, meaning, file, file_pixels, end_marker, IsFile}
+use Rattle.qoi.specs.Qoi.{Header, Chunk, AreBytes, channels_number, header_bytes, pixel_count, IsValid, RgbaPixel, bytes_of, chunk_bytes, Reaches, meaning, file, file_pixels, end_marker, IsFile}
 use Rattle.qoi.specs.Raw.{IsChannels, output, HasChannels, image_byte_count}
-use Rattle.qoi.specs.declared.types.Style.{Style}
-use Rattle.qoi.specs.declared.types.Style.TheVariants.{Reference, Places, Tight}
 use Rattle.qoi.specs.EncoderState.{EncoderState}
 use Rattle.qoi.specs.Written.{Written}
 use Rattle.qoi.specs.Regular.{Regular}
 use Rattle.qoi.specs.Shortest.{floor}
-use Rattle.qoi.specs.Styles.{WrittenIn}
+use Rattle.qoi.specs.Styles.{Style, Reference, Places, Tight, WrittenIn}
 use Rattle.qoi.specs.Decoding.{DecodesFile}
 use Rattle.qoi.specs.WrittenList.{written_list}
 use Rattle.qoi.proofs.encoding.coder.CoderSteps.{all_bytes}

@@ -3,15 +3,10 @@
 -- ahead before and after the call, if they are known: of a slice always, of a reader if its contract
 -- states them.
 use Rattle.std.specs.Prelude.{◌≡◌, ℕ, ◌+◌, ◌-◌, ◌*◌, ◌<◌, ◌≤◌, List, ◌++◌, take, drop, length, slice_index, Bool, IsTrue, Option, Some, IfSome, Ok}
-use Rattle.qoi.specs.declared.error.Error.{Error}
-use Rattle.qoi.specs.declared.error.Error.TheVariants.{UnexpectedBufferEnd, InvalidPadding}
-use Rattle.qoi.specs.declared.types.Channels.{Channels}
+use Rattle.qoi.specs.Styles.{Style}
 use Rattle.qoi.specs.declared.types.Channels.TheVariants.{Rgb, Rgba}
-use Rattle.qoi.specs.declared.chunk.Chunk.{Chunk}
-use Rattle.qoi.specs.declared.header.Header.{Header}
-use Rattle.qoi.specs.declared.types.Style.{Style}
 use Rattle.qoi.specs.Encoded.{IsFileOf}
-use Rattle.qoi.specs.Qoi.{channels_number, pixel_count, chunk_max, marker_size, header_size, run_max, header_of, IsFile, file}
+use Rattle.qoi.specs.Qoi.{Error, UnexpectedBufferEnd, InvalidPadding, Channels, Chunk, Header, channels_number, pixel_count, chunk_max, marker_size, header_size, run_max, header_of, IsFile, file}
 use Rattle.qoi.specs.Raw.{without_fourth, HasImageLength, capped_byte_count}
 use Rattle.qoi.specs.Verdicts.{IsWhole, AreCut, AreWrong}
 use Rattle.qoi.specs.Decoding.{DecodesFile, ReadsImage, RefusesImage, RefusesFile, TakesHeader, RefusesStreamHeader, least_byte_count}

@@ -1,8 +1,6 @@
 -- What a contract sees of a decoder.
 use Rattle.std.specs.Prelude.{ℕ, ◌≤◌, List, Option, length}
-use Rattle.qoi.specs.declared.types.Channels.{Channels}
-use Rattle.qoi.specs.declared.header.Header.{Header}
-use Rattle.qoi.specs.Qoi.{channels_number}
+use Rattle.qoi.specs.Qoi.{Channels, Header, channels_number}
 use Rattle.qoi.specs.Decoding.{TakesBytes}
 use Rattle.qoi.specs.Raw.{byte_count}
 

@@ -1,11 +1,7 @@
 -- What decoding an image returns and takes, and what its refusals say.
 use Rattle.std.specs.Prelude.{◌≡◌, ◌≢◌, ℕ, ◌+◌, ◌-◌, ◌/◌, ◌<◌, ◌⊎◌, List, [], ◌++◌, length, take, drop, Bool, true, false, Option, Result, Ok, Err, IfSome}
 use Rattle.std.specs.Io.KnownBytes.{Consumes, Keeps}
-use Rattle.qoi.specs.declared.error.Error.{Error}
-use Rattle.qoi.specs.declared.error.Error.TheVariants.{OutputBufferTooSmall, UnexpectedBufferEnd, InvalidPadding, IoError}
-use Rattle.qoi.specs.declared.header.Header.{Header}
-use Rattle.qoi.specs.declared.chunk.Chunk.{Chunk}
-use Rattle.qoi.specs.Qoi.{header_size, run_max, AreChunks, chunk_bytes, Reaches, meaning, IsFile, marker_size, end_marker, file, file_pixels, channels_number, header_bytes, header_of, pixel_count, IsValid}
+use Rattle.qoi.specs.Qoi.{Error, OutputBufferTooSmall, UnexpectedBufferEnd, InvalidPadding, IoError, Header, Chunk, header_size, run_max, AreChunks, chunk_bytes, Reaches, meaning, IsFile, marker_size, end_marker, file, file_pixels, channels_number, header_bytes, header_of, pixel_count, IsValid}
 use Rattle.qoi.specs.Raw.{output}
 use Rattle.qoi.specs.Verdicts.{IsWhole, AreCut, AreWrong, AreWrongThen}
 

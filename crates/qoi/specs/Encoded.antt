@@ -1,21 +1,11 @@
 -- The file of an image (QOI specification 1.0, "File Format" and "Data").
 use Rattle.std.specs.Prelude.{◌≡◌, ◌≢◌, ℕ, ◌+◌, ◌-◌, ◌*◌, ◌/◌, ◌%◌, ◌^◌, ◌≤◌, List, ◌∷◌, ◌++◌, drop, length, min, slice_get, slice_set, IsTrue, Result, Ok, Err, ◌==◌, if◌then◌else◌}
 use Rattle.std.specs.List.{AllByRecursion}
-use Rattle.qoi.specs.declared.error.Error.{Error}
-use Rattle.qoi.specs.declared.error.Error.TheVariants.{InvalidImageLength}
-use Rattle.qoi.specs.declared.types.Channels.{Channels}
 use Rattle.qoi.specs.declared.types.Channels.TheVariants.{Rgb}
-use Rattle.qoi.specs.declared.types.ColorSpace.{ColorSpace}
-use Rattle.qoi.specs.declared.types.ColorSpace.TheVariants.{Srgb}
-use Rattle.qoi.specs.declared.types.Style.{Style}
-use Rattle.qoi.specs.declared.types.Style.TheVariants.{Reference, Places, Tight}
-use Rattle.qoi.specs.declared.header.Header.{Header}
-use Rattle.qoi.specs.declared.chunk.Chunk.{Chunk}
-use Rattle.qoi.specs.declared.chunk.Chunk.TheVariants.{Place}
-use Rattle.qoi.specs.Qoi.{header_size, marker_size, colorspace_at, channels_number, channels_of, colorspace_number, pixel_count, tried_header, header_of, IsValid, RgbaPixel, blank, chunk_bytes, Reaches, file}
+use Rattle.qoi.specs.Qoi.{Error, InvalidImageLength, Channels, ColorSpace, Srgb, Header, Chunk, Place, header_size, marker_size, colorspace_at, channels_number, channels_of, colorspace_number, pixel_count, tried_header, header_of, IsValid, RgbaPixel, blank, chunk_bytes, Reaches, file}
 use Rattle.qoi.specs.Raw.{pixels_of, image_byte_count}
 use Rattle.qoi.specs.Written.{Written}
-use Rattle.qoi.specs.Styles.{WrittenIn}
+use Rattle.qoi.specs.Styles.{Style, Reference, Places, Tight, WrittenIn}
 use Rattle.qoi.specs.WrittenList.{written_list}
 use Rattle.qoi.specs.Tight.{floor0}
 use Rattle.qoi.specs.Regular.{Regular, Covers}

@@ -1,8 +1,7 @@
 -- What a contract sees of an encoder.
 use Rattle.std.specs.Prelude.{ℕ, List}
-use Rattle.qoi.specs.declared.header.Header.{Header}
-use Rattle.qoi.specs.declared.types.Style.{Style}
-use Rattle.qoi.specs.declared.types.Style.TheVariants.{Reference}
+use Rattle.qoi.specs.Qoi.{Header}
+use Rattle.qoi.specs.Styles.{Style, Reference}
 
 -- the raw bytes, the header that the file gets, and the style
 pub record EncoderState : Type 0 where

@@ -1,8 +1,7 @@
 -- Kinds of error, and what may refuse bytes by their verdict. The truth value says whether the
 -- bytes are in memory.
 use Rattle.std.specs.Prelude.{◌≡◌, ◌⊎◌, Bool, true, false}
-use Rattle.qoi.specs.declared.error.Error.{Error}
-use Rattle.qoi.specs.declared.error.Error.TheVariants.{UnexpectedBufferEnd, InvalidPadding, IoError}
+use Rattle.qoi.specs.Qoi.{Error, UnexpectedBufferEnd, InvalidPadding, IoError}
 
 -- an i/o error: a fault of the reader or the writer, an early end, or a write that took no byte
 abbrev pub IsIoError : Error → Type 0

@@ -1,8 +1,6 @@
 -- A store of frames.
 use Rattle.std.specs.Prelude.{ℕ, List, [], ◌∷◌, ◌++◌, length}
-use Rattle.qoi.specs.declared.header.Header.{Header}
-use Rattle.qoi.specs.declared.chunk.Chunk.{Chunk}
-use Rattle.qoi.specs.Qoi.{IsFile, file}
+use Rattle.qoi.specs.Qoi.{Header, Chunk, IsFile, file}
 use Rattle.qoi.specs.Images.{file_image}
 
 -- The bytes are files, one right behind the other from the first byte to the last. These are their

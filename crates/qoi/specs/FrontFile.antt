@@ -1,9 +1,6 @@
 -- The file that bytes begin with.
 use Rattle.std.specs.Prelude.{◌≡◌, ℕ, ◌+◌, List, ◌++◌, length}
-use Rattle.qoi.specs.declared.error.Error.{Error}
-use Rattle.qoi.specs.declared.header.Header.{Header}
-use Rattle.qoi.specs.declared.chunk.Chunk.{Chunk}
-use Rattle.qoi.specs.Qoi.{IsFile, file}
+use Rattle.qoi.specs.Qoi.{Error, Header, Chunk, IsFile, file}
 use Rattle.qoi.specs.Decoding.{RefusesFile}
 use Rattle.qoi.specs.Images.{file_rest}
 

@@ -1,12 +1,7 @@
 -- The image at the front of bytes, as a function of them. If no image stands there, the value says
 -- nothing.
 use Rattle.std.specs.Prelude.{ℕ, zero, suc, ◌-◌, List, [], ◌∷◌, length, take, drop, slice_index, nat_lt, nat_le, if◌then◌else◌, Result, Ok, Err}
-use Rattle.qoi.specs.declared.error.Error.{Error}
-use Rattle.qoi.specs.declared.types.Channels.{Channels}
-use Rattle.qoi.specs.declared.header.Header.{Header}
-use Rattle.qoi.specs.declared.chunk.Chunk.{Chunk}
-use Rattle.qoi.specs.declared.chunk.Chunk.TheVariants.{Place, Diff, Luma, Run, Rgb, Rgba}
-use Rattle.qoi.specs.Qoi.{positions, luma_tag, run_tag, rgb_tag, rgba_tag, Past, bytes_of, chunk_bytes, then_chunk, meaning, marker_size, header_size, header_of, channels_number, pixel_count}
+use Rattle.qoi.specs.Qoi.{Error, Channels, Header, Chunk, Place, Diff, Luma, Run, Rgb, Rgba, positions, luma_tag, run_tag, rgb_tag, rgba_tag, Past, bytes_of, chunk_bytes, then_chunk, meaning, marker_size, header_size, header_of, channels_number, pixel_count}
 use Rattle.qoi.specs.Raw.{output}
 
 -- the chunk that the bytes begin with

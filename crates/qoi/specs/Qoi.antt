@@ -3,15 +3,15 @@
 use Rattle.std.specs.Prelude.{ℕ, ◌+◌, ◌*◌, ◌/◌, ◌%◌, ◌-◌, ◌<◌, ◌≤◌, List, [], ◌∷◌, ◌++◌, length, take, drop, reverse, replicate, slice_index, slice_index_or, Bool, nat_lt, nat_le, ◌==◌, ◌&&◌, if◌then◌else◌, Result, Ok, Err}
 use Rattle.std.specs.Int.{w32, to_be_bytes, from_be_bytes}
 use Rattle.std.specs.List.{flat_map, AllByRecursion}
-use Rattle.qoi.specs.declared.error.Error.{Error}
-use Rattle.qoi.specs.declared.error.Error.TheVariants.{InvalidMagic, InvalidChannels, InvalidColorSpace, InvalidImageDimensions, UnexpectedBufferEnd}
-use Rattle.qoi.specs.declared.types.Channels.{Channels}
+pub use Rattle.qoi.specs.declared.error.Error.{Error}
+pub use Rattle.qoi.specs.declared.error.Error.TheVariants.{InvalidMagic, InvalidChannels, InvalidColorSpace, InvalidImageDimensions, InvalidImageLength, OutputBufferTooSmall, UnexpectedBufferEnd, InvalidPadding, IoError, OutOfMemory}
+pub use Rattle.qoi.specs.declared.types.Channels.{Channels}
 use Rattle.qoi.specs.declared.types.Channels.TheVariants as OfChannels
-use Rattle.qoi.specs.declared.types.ColorSpace.{ColorSpace}
-use Rattle.qoi.specs.declared.types.ColorSpace.TheVariants.{Srgb, Linear}
-use Rattle.qoi.specs.declared.header.Header.{Header}
-use Rattle.qoi.specs.declared.chunk.Chunk.{Chunk}
-use Rattle.qoi.specs.declared.chunk.Chunk.TheVariants.{Place, Diff, Luma, Run, Rgb, Rgba}
+pub use Rattle.qoi.specs.declared.types.ColorSpace.{ColorSpace}
+pub use Rattle.qoi.specs.declared.types.ColorSpace.TheVariants.{Srgb, Linear}
+pub use Rattle.qoi.specs.declared.header.Header.{Header}
+pub use Rattle.qoi.specs.declared.chunk.Chunk.{Chunk}
+pub use Rattle.qoi.specs.declared.chunk.Chunk.TheVariants.{Place, Diff, Luma, Run, Rgb, Rgba}
 
 -- Header ("QOI Header")
 

@@ -3,8 +3,7 @@ use Rattle.std.specs.Prelude.{ℕ, ◌*◌, ◌-◌, ◌^◌, ◌≤◌, min, Li
 use Rattle.std.specs.List.{flat_map, AllByRecursion}
 use Rattle.std.proofs.Common.{inl, inr, ap, arith}
 use native.Mathlib.Nat.{ℕ_set}
-use Rattle.qoi.specs.declared.header.Header.{Header}
-use Rattle.qoi.specs.Qoi.{RgbaPixel, pixel, channels_number, pixel_count}
+use Rattle.qoi.specs.Qoi.{Header, RgbaPixel, pixel, channels_number, pixel_count}
 
 -- a number of channels that the format has
 abbrev pub IsChannels : ℕ → Type 0

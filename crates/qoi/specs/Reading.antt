@@ -1,11 +1,6 @@
 -- What a decoder reads if the bytes that stand ahead of it are known.
 use Rattle.std.specs.Prelude.{◌≡◌, ◌⊎◌, ℕ, List, ◌++◌, take}
-use Rattle.qoi.specs.declared.error.Error.{Error}
-use Rattle.qoi.specs.declared.error.Error.TheVariants.{UnexpectedBufferEnd, InvalidPadding}
-use Rattle.qoi.specs.declared.types.Channels.{Channels}
-use Rattle.qoi.specs.declared.header.Header.{Header}
-use Rattle.qoi.specs.declared.chunk.Chunk.{Chunk}
-use Rattle.qoi.specs.Qoi.{channels_number, header_bytes, IsValid, pixel_count, meaning}
+use Rattle.qoi.specs.Qoi.{Error, UnexpectedBufferEnd, InvalidPadding, Channels, Header, Chunk, channels_number, header_bytes, IsValid, pixel_count, meaning}
 use Rattle.qoi.specs.Raw.{output}
 use Rattle.qoi.specs.Verdicts.{IsWhole, AreCut, AreWrong}
 use Rattle.qoi.specs.DecoderState.{DecoderState}

@@ -1,9 +1,7 @@
 -- Chunk lists that name an index position only if it holds a pixel of that position, and lists that
 -- begin with an image.
 use Rattle.std.specs.Prelude.{◌≡◌, List, [], ◌++◌}
-use Rattle.qoi.specs.declared.chunk.Chunk.{Chunk}
-use Rattle.qoi.specs.declared.chunk.Chunk.TheVariants.{Place}
-use Rattle.qoi.specs.Qoi.{RgbaPixel, Past, seen, hash, AreChunks, meaning, Each}
+use Rattle.qoi.specs.Qoi.{Chunk, Place, RgbaPixel, Past, seen, hash, AreChunks, meaning, Each}
 
 -- an index position that is named holds a pixel whose position it is; so one where no pixel was put
 -- is named only if it is position 0

@@ -1,8 +1,6 @@
 -- Repeats at the front of pixels, and the runs that are written for them.
 use Rattle.std.specs.Prelude.{◌≡◌, ◌≢◌, ℕ, ◌/◌, ◌%◌, List, [], ◌∷◌, ◌++◌, drop, replicate, slice_get, Some, zero, suc}
-use Rattle.qoi.specs.declared.chunk.Chunk.{Chunk}
-use Rattle.qoi.specs.declared.chunk.Chunk.TheVariants.{Run}
-use Rattle.qoi.specs.Qoi.{RgbaPixel, run_max}
+use Rattle.qoi.specs.Qoi.{Chunk, Run, RgbaPixel, run_max}
 
 -- the first `count` pixels are p, and the next one, if there is one, isn't
 pub record IsCount (p : RgbaPixel) (pixels : List RgbaPixel) (count : ℕ) : Type 0 where

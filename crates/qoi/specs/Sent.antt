@@ -4,12 +4,8 @@
 -- and `makes` (`IsFileFor`). The other fields follow from these; callers need them at hand.
 use Rattle.std.specs.Prelude.{◌≡◌, ℕ, ◌≤◌, List, ◌++◌, take, drop, length, slice_set, Option, Some, IfSome, Ok}
 use Rattle.std.specs.Io.KnownBytes.{Appends}
-use Rattle.qoi.specs.declared.types.ColorSpace.{ColorSpace}
-use Rattle.qoi.specs.declared.types.ColorSpace.TheVariants.{Srgb}
-use Rattle.qoi.specs.declared.types.Style.{Style}
-use Rattle.qoi.specs.declared.types.Style.TheVariants.{Reference, Places, Tight}
-use Rattle.qoi.specs.declared.header.Header.{Header}
-use Rattle.qoi.specs.Qoi.{colorspace_at, colorspace_number}
+use Rattle.qoi.specs.Styles.{Style, Reference, Places, Tight}
+use Rattle.qoi.specs.Qoi.{ColorSpace, Srgb, Header, colorspace_at, colorspace_number}
 use Rattle.qoi.specs.Encoded.{image_file, image_header, IsFileLength, IsFileOf, IsShortest}
 use Rattle.qoi.specs.Images.{file_image}
 use Rattle.qoi.specs.Raw.{image_byte_count}

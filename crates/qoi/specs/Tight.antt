@@ -1,9 +1,7 @@
 -- The shortest chunk list of an image, in which any index position may be named.
 use Rattle.std.specs.Prelude.{◌≡◌, ◌≢◌, ℕ, Bool, not, ◌==◌, ◌&&◌, if◌then◌else◌, List, [], ◌∷◌, reverse, Option, is_some, MatchOption}
 use Rattle.std.specs.List.{find, list_any, range_with_len}
-use Rattle.qoi.specs.declared.chunk.Chunk.{Chunk}
-use Rattle.qoi.specs.declared.chunk.Chunk.TheVariants.{Place}
-use Rattle.qoi.specs.Qoi.{RgbaPixel, Past, pixel_eq, blank, positions, seen, hash}
+use Rattle.qoi.specs.Qoi.{Chunk, Place, RgbaPixel, Past, pixel_eq, blank, positions, seen, hash}
 use Rattle.qoi.specs.Written.{IsFirst}
 use Rattle.qoi.specs.Shortest.{least, total_cost}
 

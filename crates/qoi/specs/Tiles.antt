@@ -1,6 +1,6 @@
 -- Files at offsets of longer bytes, as in an atlas or a store of frames. They may come from anywhere.
 use Rattle.std.specs.Prelude.{◌≡◌, ℕ, List, drop}
-use Rattle.qoi.specs.declared.header.Header.{Header}
+use Rattle.qoi.specs.Qoi.{Header}
 use Rattle.qoi.specs.Decoding.{DecodesFile}
 use Rattle.qoi.specs.Images.{file_image}
 

@@ -1,8 +1,7 @@
 -- The verdict on the bytes after a header, for an image of n pixels: exactly one of whole, cut and
 -- wrong (QOI specification 1.0, "File Format" and "Data").
 use Rattle.std.specs.Prelude.{◌≡◌, ◌≢◌, ℕ, ◌<◌, ◌≤◌, ◌⊎◌, List, ◌∷◌, ◌++◌, length}
-use Rattle.qoi.specs.declared.chunk.Chunk.{Chunk}
-use Rattle.qoi.specs.Qoi.{IsChunk, AreChunks, bytes_of, chunk_bytes, StayBelow, meaning, marker_size, end_marker}
+use Rattle.qoi.specs.Qoi.{Chunk, IsChunk, AreChunks, bytes_of, chunk_bytes, StayBelow, meaning, marker_size, end_marker}
 
 -- a beginning of a chunk's bytes, at least one byte short of the whole; it may be empty
 abbrev pub IsPartOfChunk : List ℕ → Type 0

@@ -1,8 +1,6 @@
 -- The chunk list that is written for an image.
 use Rattle.std.specs.Prelude.{◌≡◌, ◌≢◌, ℕ, ◌<◌, ◌≤◌, List, [], ◌∷◌, if◌then◌else◌}
-use Rattle.qoi.specs.declared.chunk.Chunk.{Chunk}
-use Rattle.qoi.specs.declared.chunk.Chunk.TheVariants.{Place, Diff, Luma, Run, Rgb, Rgba}
-use Rattle.qoi.specs.Qoi.{RgbaPixel, IsPixel, Past, rgba, pixel_eq, previous, seen, hash, IsChunk, AreChunks, run_max, pixel_after, meaning, Each}
+use Rattle.qoi.specs.Qoi.{Chunk, Place, Diff, Luma, Run, Rgb, Rgba, RgbaPixel, IsPixel, Past, rgba, pixel_eq, previous, seen, hash, IsChunk, AreChunks, run_max, pixel_after, meaning, Each}
 
 -- the fresh pixels: those that differ from the pixel before them
 abbrev pub fresh : Past → Past

@@ -1,15 +1,11 @@
 -- The chunk list that is written for an image in a style, as a function of its pixels. What it must
 -- be, `WrittenIn` says; `laws::writing::written_is_one` ties the two.
 use Rattle.std.specs.Prelude.{ℕ, suc, ◌+◌, ◌-◌, ◌*◌, ◌%◌, Bool, ◌==◌, if◌then◌else◌, List, [], ◌∷◌, ◌++◌, replicate, Option, None, Some}
-use Rattle.qoi.specs.declared.chunk.Chunk.{Chunk}
-use Rattle.qoi.specs.declared.chunk.Chunk.TheVariants.{Place, Diff, Luma, Run, Rgb, Rgba}
-use Rattle.qoi.specs.declared.types.Style.{Style}
-use Rattle.qoi.specs.declared.types.Style.TheVariants.{Reference, Places, Tight}
-use Rattle.qoi.specs.Qoi.{RgbaPixel, Past, pixel, moved, pixel_eq, blank, previous, seen, hash, diff_tag, luma_tag}
+use Rattle.qoi.specs.Qoi.{Chunk, Place, Diff, Luma, Run, Rgb, Rgba, RgbaPixel, Past, pixel, moved, pixel_eq, blank, previous, seen, hash, diff_tag, luma_tag}
 use Rattle.qoi.specs.Runs.{runs_by}
 use Rattle.qoi.specs.Written.{noted}
 use Rattle.qoi.specs.Tight.{least_unseen}
-use Rattle.qoi.specs.Styles.{in_style}
+use Rattle.qoi.specs.Styles.{Style, Reference, Places, Tight, in_style}
 
 -- what is added to q's channels for p's; it wraps at 256
 abbrev pub steps : RgbaPixel → RgbaPixel → RgbaPixel

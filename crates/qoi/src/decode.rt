@@ -1,8 +1,6 @@
 //! Decoding, from slices, from streams and from readers with a buffer.
 ghost use Rattle.std.specs.Prelude.{◌≡◌, ℕ, ◌*◌, ◌-◌, ◌<◌, ◌≤◌, List, length, take, drop, Some, ◌+◌, IfOk, IfErr, IsErr, IsErrOf, IsTrue, ◌⊎◌, Ok, Err};
-ghost use Rattle.qoi.specs.declared.header.Header.{Header};
-ghost use Rattle.qoi.specs.declared.error.Error.{Error};
-ghost use Rattle.qoi.specs.Qoi.{header_of, IsValid};
+ghost use Rattle.qoi.specs.Qoi.{Header, Error, header_of, IsValid};
 ghost use Rattle.qoi.specs.Decoding.{RefusesBuffer};
 ghost use Rattle.qoi.specs.DecoderState.{DecoderState, output_byte_count};
 ghost use Rattle.qoi.specs.Decoded.{HasHeader, HasRefusedHeader, HasDecoded, HasRefused, HasDecodedFile, HasRefusedFile};

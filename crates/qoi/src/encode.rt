@@ -1,13 +1,8 @@
 //! Encoding, into buffers, vectors and writers.
 ghost use Rattle.std.specs.Prelude.{◌≡◌, ◌*◌, ◌<◌, ◌≤◌, length, ◌⊎◌, Ok, Err, IsErrOf, IsOk, IsOkUnless, IfOk, IfErr};
-ghost use Rattle.qoi.specs.declared.header.Header.{Header};
+ghost use Rattle.qoi.specs.Styles.{Style, Reference};
 ghost use Rattle.qoi.specs.declared.encode.piece.TheConstants.{FULL_ROOM};
-ghost use Rattle.qoi.specs.declared.error.Error.{Error};
-ghost use Rattle.qoi.specs.declared.types.Channels.{Channels};
-ghost use Rattle.qoi.specs.declared.types.ColorSpace.{ColorSpace};
-ghost use Rattle.qoi.specs.declared.types.Style.{Style};
-ghost use Rattle.qoi.specs.declared.types.Style.TheVariants.{Reference};
-ghost use Rattle.qoi.specs.Qoi.{IsValid, AreBytes, pixels_max};
+ghost use Rattle.qoi.specs.Qoi.{Header, Error, Channels, ColorSpace, IsValid, AreBytes, pixels_max};
 ghost use Rattle.qoi.specs.Raw.{image_byte_count};
 ghost use Rattle.qoi.specs.Encoded.{max_len, max_file_len, image_header, measured_header, with_number};
 ghost use Rattle.qoi.specs.Errors.{IsIoError};

@@ -5,9 +5,7 @@ use Rattle.std.proofs.lemmas.Bool.{cases_lt}
 use Rattle.std.proofs.lemmas.Bool.Decides.{nat_tests}
 use Rattle.std.proofs.lemmas.Simd.{pick_l-range_with_len}
 use mir.Val.{bool_byte}
-use Rattle.qoi.specs.declared.chunk.Chunk.{Chunk}
-use Rattle.qoi.specs.declared.chunk.Chunk.TheVariants.{Place, Diff, Luma, Run, Rgb, Rgba}
-use Rattle.qoi.specs.Qoi.{RgbaPixel, Past, AreBytes, IsChunk, pixel, after_diff, after_luma, times, pixel_after}
+use Rattle.qoi.specs.Qoi.{Chunk, Place, Diff, Luma, Run, Rgb, Rgba, RgbaPixel, Past, AreBytes, IsChunk, pixel, after_diff, after_luma, times, pixel_after}
 use Rattle.qoi.specs.inner.Filling.{Filling, HasSeen, HasFilled, Decodes, DecodesChunk}
 use Rattle.qoi.specs.inner.Hashed.{pixel_of_lanes, HoldsSeen, IsAfterShort, IsAfterFull}
 use Rattle.qoi.proofs.format.ChunkSteps.{times_some}

@@ -3,10 +3,8 @@ use Rattle.std.proofs.Common.{◌≡◌, ◌+◌, ◌-◌, ◌<◌, ◌≤◌, �
 use Rattle.std.proofs.lemmas.Bool.{cases_lt}
 use Rattle.std.proofs.lemmas.List.{append-nil, length-append, length-drop, length-take-le, take-append-drop, get_or_append_left, append_cancel_right, same_from_push}
 use Rattle.std.proofs.Math.Seq.{get_or-append_seam, take-append_seam, take-append-add}
-use Rattle.qoi.specs.declared.header.Header.{Header}
-use Rattle.qoi.specs.declared.chunk.Chunk.{Chunk}
 use Rattle.qoi.specs.EncoderState.{EncoderState}
-use Rattle.qoi.specs.Qoi.{channels_number, file, file_pixels, IsFile}
+use Rattle.qoi.specs.Qoi.{Header, Chunk, channels_number, file, file_pixels, IsFile}
 use Rattle.qoi.specs.Sent.{SendsFile}
 use Rattle.qoi.specs.Raw.{output}
 use Rattle.qoi.specs.Decoding.{DecodesFile}

@@ -1,9 +1,7 @@
 -- A file is read as it was put together, in one way: whole bytes have one image and one rest, which are
 -- functions of them.
 use Rattle.std.proofs.Common.{◌≡◌, ℕ, List, ◌++◌, drop, Some, refl, ap, sym, ◌∙◌, subst, Ok, append_assoc, zero, suc, ◌+◌, ◌*◌, ◌<◌, ◌≤◌, [], ◌∷◌, length, take, arith, length-append, replicate}
-use Rattle.qoi.specs.declared.header.Header.{Header}
-use Rattle.qoi.specs.declared.chunk.Chunk.{Chunk}
-use Rattle.qoi.specs.Qoi.{AreBytes, chunk_bytes, channels_number, header_bytes, pixel_count, header_of, IsFile, file, file_pixels, end_marker, header_size, Past, IsChunk, AreChunks, bytes_of, then_chunk, then_chunks, pixel_after, times, meaning}
+use Rattle.qoi.specs.Qoi.{Header, Chunk, Channels, Rgb, Rgba, AreBytes, chunk_bytes, channels_number, header_bytes, pixel_count, header_of, IsFile, file, file_pixels, end_marker, header_size, Past, IsChunk, AreChunks, bytes_of, then_chunk, then_chunks, pixel_after, times, meaning}
 use Rattle.qoi.specs.Raw.{output, without_fourth}
 use Rattle.qoi.specs.Verdicts.{IsWhole}
 use Rattle.qoi.specs.Decoding.{DecodesFile, ReadsImage}
@@ -14,9 +12,7 @@ use Rattle.std.specs.Prelude.{nat_le, if◌then◌else◌}
 use Rattle.std.proofs.lemmas.Bool.Decides.{nat_tests}
 use Rattle.std.proofs.lemmas.List.{length-replicate}
 use Rattle.std.proofs.Math.Seq.{drop-append_seam}
-use Rattle.qoi.specs.declared.types.Channels.{Channels}
 use Rattle.qoi.specs.declared.types.Channels.TheVariants as OfChannels
-use Rattle.qoi.specs.declared.chunk.Chunk.TheVariants.{Rgb, Rgba}
 use Rattle.qoi.specs.Reading.{IsImage}
 use Rattle.qoi.specs.Images.{file_image_in, front_chunk, chunks_after, front_chunks, front_image, front_rest, behind_header, file_image, file_rest}
 use Rattle.qoi.proofs.decoding.PieceSteps.{longer}

@@ -3,7 +3,7 @@ use Rattle.std.proofs.Common.{◌≡◌, ℕ, ◌+◌, ◌-◌, ◌*◌, ◌/◌
 use Rattle.std.proofs.lemmas.List.{length-take-le, take_at}
 use Rattle.std.proofs.lemmas.Result.{MatchResult-weaker}
 use borrow.Rule.Slice.PartMut.{put_mid, mid_of, mid_len, same_len_mid}
-use Rattle.qoi.specs.declared.error.Error.{Error}
+use Rattle.qoi.specs.Qoi.{Error}
 use Rattle.qoi.specs.declared.decode.pixel_reader.unread.Unread.{Unread}
 use Rattle.qoi.specs.declared.decode.pixel_reader.unread.Refused.{Refused}
 use Rattle.qoi.specs.declared.decode.reader.Conversion.{Conversion}

@@ -5,10 +5,9 @@ use Rattle.std.proofs.lemmas.List.{length-replicate, take-append-le}
 use lib.Seq.{take-append_seam}
 use Rattle.qoi.specs.declared.decode.chunks.TheConstants.{GROWTH}
 use Rattle.qoi.specs.declared.decode.reached.Reached.{Reached}
-use Rattle.qoi.specs.Qoi.{Past, chunk_bytes, start, then_chunks}
+use Rattle.qoi.specs.Qoi.{IoError, Past, chunk_bytes, start, then_chunks}
 use Rattle.qoi.specs.Raw.{IsChannels}
 use Rattle.qoi.specs.Verdicts.{IsPartOfChunk}
-use Rattle.qoi.specs.declared.error.Error.TheVariants.{IoError}
 use Rattle.qoi.specs.inner.Hashed.{pixel_of_lanes, HoldsSeen}
 use Rattle.qoi.specs.inner.Filling.{Filling, reached, filling, IsFillable, DecoderBetween}
 use Rattle.qoi.specs.inner.Chunks.{TakesMore, RefusesFilling}

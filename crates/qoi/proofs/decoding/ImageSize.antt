@@ -1,10 +1,8 @@
 -- The size of an image in bytes and in pixels.
 use Rattle.std.proofs.Common.{◌≡◌, ℕ, ◌*◌, ◌/◌, ◌≤◌, inl, inr, List, Option, length, take, ap, ◌∙◌, arith}
 use Rattle.std.proofs.lemmas.List.{length-take-le}
-use Rattle.qoi.specs.declared.types.Channels.{Channels}
 use Rattle.qoi.specs.declared.types.Channels.TheVariants.{Rgb, Rgba}
-use Rattle.qoi.specs.declared.header.Header.{Header}
-use Rattle.qoi.specs.Qoi.{channels_number, meaning, pixel_count}
+use Rattle.qoi.specs.Qoi.{Channels, Header, channels_number, meaning, pixel_count}
 use Rattle.qoi.specs.Raw.{IsChannels, byte_count}
 use Rattle.qoi.specs.Decoding.{least_byte_count, ReadsImage}
 use Rattle.qoi.proofs.format.WholePixels.{length-output}

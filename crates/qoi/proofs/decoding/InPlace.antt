@@ -4,9 +4,8 @@ use Rattle.std.specs.Io.KnownBytes.{Consumes}
 use Rattle.std.proofs.KnownBytes.{Consumes-trans}
 use Rattle.std.proofs.lemmas.List.{get_or-drop, length-drop, replicate-append-replicate}
 use Rattle.std.proofs.Math.Seq.{take-add}
-use Rattle.qoi.specs.declared.chunk.Chunk.TheVariants.{Run}
 use Rattle.qoi.specs.declared.decode.reached.Reached.{Reached}
-use Rattle.qoi.specs.Qoi.{Past, RgbaPixel, bytes_of, chunk_bytes, then_chunk, previous, IsChunk}
+use Rattle.qoi.specs.Qoi.{Run, Past, RgbaPixel, bytes_of, chunk_bytes, then_chunk, previous, IsChunk}
 use Rattle.qoi.specs.Raw.{IsChannels, output}
 use Rattle.qoi.specs.inner.Hashed.{pixel_of_lanes, HoldsSeen}
 use Rattle.qoi.specs.inner.Filling.{upto, Filling, filling, HasWritten, DecoderBetween, IsFrontAfter}

@@ -6,10 +6,9 @@ use Rattle.std.proofs.lemmas.Bool.{cases_lt}
 use Rattle.std.proofs.Math.Seq.{take-add}
 use borrow.Rule.Slice.PartMut.{put_mid}
 use Rattle.std.proofs.lemmas.Grind.{flat_map-append}
-use Rattle.qoi.specs.declared.chunk.Chunk.{Chunk}
 use Rattle.qoi.specs.declared.decode.pixel_reader.unread.Unread.{Unread}
 use Rattle.qoi.specs.declared.decode.reached.Reached.{Reached}
-use Rattle.qoi.specs.Qoi.{Past, RgbaPixel, Each, AreChunks, pixel_after, times, then_chunk, then_chunks}
+use Rattle.qoi.specs.Qoi.{Chunk, Past, RgbaPixel, Each, AreChunks, pixel_after, times, then_chunk, then_chunks}
 use Rattle.qoi.specs.Raw.{IsChannels, pixel_bytes, output}
 use Rattle.qoi.specs.Decoding.{ReadsImage}
 use Rattle.qoi.specs.inner.Filling.{HasSeen, HasWritten, upto, reached, filling, DecoderBetween}

@@ -5,11 +5,8 @@ use Rattle.std.proofs.lemmas.List.{length-reverse, reverse-append, reverse-rever
 use Rattle.std.proofs.lemmas.Bool.{cases_lt}
 use Rattle.std.proofs.lemmas.Grind.{flat_map-append}
 use Rattle.std.proofs.Math.Seq.{take-append_seam, take-append-add}
-use Rattle.qoi.specs.declared.chunk.Chunk.{Chunk}
-use Rattle.qoi.specs.declared.header.Header.{Header}
-use Rattle.qoi.specs.declared.types.Channels.{Channels}
 use Rattle.qoi.specs.declared.decode.pixel_reader.unread.Unread.{Unread}
-use Rattle.qoi.specs.Qoi.{Past, chunk_bytes, then_chunks, meaning, channels_number, pixel_count, IsValid}
+use Rattle.qoi.specs.Qoi.{Chunk, Header, Channels, Error, Past, chunk_bytes, then_chunks, meaning, channels_number, pixel_count, IsValid}
 use Rattle.qoi.specs.Raw.{IsChannels, pixel_bytes, output, byte_count}
 use Rattle.qoi.specs.Images.{front_image}
 use Rattle.qoi.specs.DecoderState.{TakesAtMost, DecoderState, output_byte_count}
@@ -22,7 +19,6 @@ use Rattle.qoi.proofs.decoding.PieceSteps.{still_goes, none_kept}
 use Rattle.qoi.proofs.decoding.TakenBytes.{bytes_within, read_within}
 use Rattle.std.proofs.Math.Nat.{mul_comm, mul-add}
 use Rattle.std.proofs.KnownBytes.{Keeps-refl}
-use Rattle.qoi.specs.declared.error.Error.{Error}
 use Rattle.qoi.specs.declared.types.Channels.TheVariants.{Rgb, Rgba}
 use Rattle.qoi.specs.Decoding.{ReadsImage}
 use Rattle.qoi.specs.pieces.PixelReader.{PixelsState, pixels_left, HasGiven, HasRows, RefusesPixels}

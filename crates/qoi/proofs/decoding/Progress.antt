@@ -1,6 +1,6 @@
 -- A decoder between two chunks: what it has taken, filled and seen.
 use Rattle.std.proofs.Common.{◌≡◌, ℕ, suc, ◌+◌, ◌*◌, ◌/◌, ◌%◌, ◌<◌, ◌≤◌, inl, inr, List, [], ◌∷◌, ◌++◌, length, take, drop, take-append-drop, replicate, reverse, min, Bool, true, false, IsTrue, Option, None, Some, IfSome, arith, refl, sym, ap, ◌∙◌, subst, append_assoc, append-nil, length-append}
-use Rattle.qoi.specs.Qoi.{RgbaPixel, Past, AreBytes, start, bytes_of, chunk_bytes, pixel_after, times, then_chunks, meaning, Reaches, end_marker, IsChunk, Each, then_chunk}
+use Rattle.qoi.specs.Qoi.{Error, Chunk, RgbaPixel, Past, AreBytes, start, bytes_of, chunk_bytes, pixel_after, times, then_chunks, meaning, Reaches, end_marker, IsChunk, Each, then_chunk}
 use Rattle.std.specs.Io.KnownBytes.{Consumes}
 use Rattle.std.proofs.KnownBytes.{Consumes-nil, Consumes-trans}
 use Rattle.qoi.specs.Raw.{IsChannels, pixel_bytes, output}
@@ -9,8 +9,6 @@ use Rattle.qoi.specs.inner.Chunks.{TakesMore, TakesChunks, RefusesChunks, ReadsR
 use Rattle.qoi.specs.inner.Hashed.{pixel_of_lanes, HoldsSeen}
 use Rattle.qoi.specs.Verdicts.{AreCut}
 use Rattle.qoi.specs.Decoding.{ReadsImage, TakesBytes, RefusesMarker, RefusesTakenMarker}
-use Rattle.qoi.specs.declared.error.Error.{Error}
-use Rattle.qoi.specs.declared.chunk.Chunk.{Chunk}
 use Rattle.qoi.proofs.format.ChunkSteps.{times_some, then_chunks-append, each_append, all_append, chunk_bytes-last, length-meaning}
 use Rattle.std.proofs.lemmas.Grind.{flat_map-append}
 use Rattle.std.proofs.lemmas.List.{length-reverse, reverse-append}

@@ -1,8 +1,7 @@
 -- What a success and a refusal promise follows from what they mean, also which errors refuse known
 -- bytes ahead of a decoder.
 use Rattle.std.proofs.Common.{◌≡◌, ℕ, List, Bool, true, false, Option, Some, inl, inr, refl, subst, ◌≤◌, ◌<◌, ◌+◌, ◌*◌, [], take, length, None, IfSome, Ok, ◌-◌, ◌^◌, min, ◌++◌, drop, sym, ◌∙◌, ap, arith}
-use Rattle.qoi.specs.declared.error.Error.{Error}
-use Rattle.qoi.specs.declared.error.Error.TheVariants.{UnexpectedBufferEnd, InvalidPadding, IoError}
+use Rattle.qoi.specs.Styles.{Style}
 use Rattle.qoi.specs.Decoding.{RefusesBytes, RefusesImage, RefusesTaken, DecodesFile, ReadsImage, TakesHeader, RefusesFile, RefusesStreamHeader}
 use Rattle.qoi.specs.Verdicts.{AreWrong, AreCut, IsWhole}
 use Rattle.qoi.specs.Errors.{IsErrorOfCut, IsErrorOfWrong, IsIoError}
@@ -10,12 +9,8 @@ use Rattle.qoi.proofs.decoding.StreamVerdicts.{cut_is_io_error, padding_is_wrong
 use Rattle.qoi.proofs.format.OneVerdict.{cut_not_wrong, whole_not_cut, whole_not_wrong}
 use Rattle.std.proofs.Math.Nat.{mul_comm}
 use Rattle.std.proofs.lemmas.List.{append-nil, append_assoc, length-append, length-drop, take-append-drop, take_at}
-use Rattle.qoi.specs.declared.chunk.Chunk.{Chunk}
-use Rattle.qoi.specs.declared.header.Header.{Header}
-use Rattle.qoi.specs.declared.types.Channels.{Channels}
 use Rattle.qoi.specs.declared.types.Channels.TheVariants.{Rgb, Rgba}
-use Rattle.qoi.specs.declared.types.Style.{Style}
-use Rattle.qoi.specs.Qoi.{channels_number, pixel_count, header_size, header_of, IsValid, AreBytes, file}
+use Rattle.qoi.specs.Qoi.{Error, UnexpectedBufferEnd, InvalidPadding, IoError, Chunk, Header, Channels, channels_number, pixel_count, header_size, header_of, IsValid, AreBytes, file}
 use Rattle.qoi.specs.Raw.{HasImageLength, capped_byte_count, image_byte_count, byte_count}
 use Rattle.qoi.specs.DecoderState.{DecoderState, output_byte_count}
 use Rattle.qoi.specs.declared.decode.reader.Conversion.{Conversion}

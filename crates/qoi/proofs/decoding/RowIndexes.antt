@@ -2,12 +2,9 @@
 use Rattle.std.proofs.Common.{◌≡◌, ◌≤◌, ◌<◌, ◌+◌, ◌-◌, ◌*◌, ◌∙◌, ℕ, List, [], ◌∷◌, ◌++◌, length, drop, Option, Some, Result, Ok, Err, IfOk, true, inl, inr, refl, sym, ap, subst, append_assoc, take, slice_index_or, false, zero-add, arith}
 use Rattle.std.proofs.lemmas.List.{drop-append-le, length-take-le, take-append-drop}
 use Rattle.std.proofs.lemmas.List.Elements.{All-nil, All-push}
-use Rattle.qoi.specs.declared.error.Error.{Error}
-use Rattle.qoi.specs.declared.header.Header.{Header}
-use Rattle.qoi.specs.declared.types.Channels.{Channels}
 use Rattle.qoi.specs.Decoded.{HasHeader, HasRefusedFile}
 use Rattle.qoi.specs.DecoderState.{DecoderState}
-use Rattle.qoi.specs.Qoi.{channels_number, pixel_count, header_of, header_size, meaning, chunk_bytes, end_marker}
+use Rattle.qoi.specs.Qoi.{Error, Header, Channels, channels_number, pixel_count, header_of, header_size, meaning, chunk_bytes, end_marker}
 use Rattle.qoi.specs.Reading.{IsImage, StandsAhead}
 use Rattle.qoi.specs.Raw.{output}
 use Rattle.qoi.specs.Images.{file_image, front_image, behind_header}

@@ -1,9 +1,6 @@
 -- What a refusal says of bytes in memory.
 use Rattle.std.proofs.Common.{◌≡◌, ℕ, List, drop, Bool, true, false, IsTrue, Option, Some, Ok, inl, inr, refl, sym, subst}
-use Rattle.qoi.specs.declared.error.Error.{Error}
-use Rattle.qoi.specs.declared.error.Error.TheVariants.{UnexpectedBufferEnd, InvalidPadding}
-use Rattle.qoi.specs.declared.header.Header.{Header}
-use Rattle.qoi.specs.Qoi.{pixel_count, header_of, header_size}
+use Rattle.qoi.specs.Qoi.{Error, UnexpectedBufferEnd, InvalidPadding, Header, pixel_count, header_of, header_size}
 use Rattle.qoi.specs.Decoding.{RefusesBytes}
 use Rattle.qoi.specs.DecoderState.{DecoderState}
 use Rattle.qoi.specs.Decoded.{HasHeader, HasDecoded, HasRefused}

@@ -2,14 +2,10 @@
 use Rattle.std.proofs.Common.{◌≡◌, ◌≢◌, ℕ, zero, suc, ◌+◌, ◌<◌, ◌≤◌, ◌-◌, ◌⊎◌, inl, inr, List, [], ◌∷◌, ◌++◌, length, get_or, take, drop, take-append-drop, Option, arith, refl, sym, ap, ◌∙◌, append-nil}
 use Rattle.std.specs.Io.KnownBytes.{Consumes}
 use Rattle.std.proofs.KnownBytes.{Consumes-trans}
-use Rattle.qoi.specs.declared.error.Error.{Error}
-use Rattle.qoi.specs.declared.error.Error.TheVariants.{InvalidPadding, IoError, UnexpectedBufferEnd}
-use Rattle.qoi.specs.declared.chunk.Chunk.{Chunk}
-use Rattle.qoi.specs.declared.chunk.Chunk.TheVariants.{Place, Diff, Run, Rgb, Rgba}
 use Rattle.qoi.specs.inner.Filling.{Filling, DecodesChunk}
 use Rattle.qoi.proofs.format.OneVerdict.{chunks_apart}
 use Rattle.std.proofs.lemmas.Bool.{cases_lt}
-use Rattle.qoi.specs.Qoi.{AreBytes, IsChunk, AreChunks, bytes_of, chunk_bytes, Reaches, marker_size, end_marker}
+use Rattle.qoi.specs.Qoi.{Error, InvalidPadding, IoError, UnexpectedBufferEnd, Chunk, Place, Diff, Run, Rgb, Rgba, AreBytes, IsChunk, AreChunks, bytes_of, chunk_bytes, Reaches, marker_size, end_marker}
 use Rattle.qoi.specs.Verdicts.{IsPartOfChunk, AreCut, AreWrongThen}
 use Rattle.qoi.specs.Decoding.{RefusesBytes, RefusesMarker, RefusesTaken, RefusesTakenMarker}
 use Rattle.qoi.proofs.format.PartOfChunk.{byte_and, part_luma, part_rgb, part_rgba}

@@ -1,10 +1,7 @@
 -- What a stream's answers say of the bytes that stood ahead.
 use Rattle.std.proofs.Common.{◌≡◌, ℕ, zero, suc, ◌+◌, ◌*◌, ◌<◌, List, [], ◌∷◌, ◌++◌, length, take, Option, Some, None, false, arith, refl, ap, ◌∙◌, append_assoc, append-nil, slice_index}
 use Rattle.std.specs.Io.KnownBytes.{Consumes}
-use Rattle.qoi.specs.declared.error.Error.{Error}
-use Rattle.qoi.specs.declared.error.Error.TheVariants.{InvalidPadding, IoError}
-use Rattle.qoi.specs.declared.chunk.Chunk.{Chunk}
-use Rattle.qoi.specs.Qoi.{RgbaPixel, chunk_bytes, meaning, end_marker}
+use Rattle.qoi.specs.Qoi.{Error, InvalidPadding, IoError, Chunk, RgbaPixel, chunk_bytes, meaning, end_marker}
 use Rattle.qoi.specs.Raw.{output, without_fourth}
 use Rattle.qoi.specs.Verdicts.{IsWhole, IsCut, IsWrong, AreWrongThen}
 use Rattle.qoi.specs.Decoding.{ReadsImage, RefusesImage, RefusesTaken}

@@ -1,15 +1,11 @@
 -- How many bytes a decoder takes for n pixels, and how many an image has at least.
 use Rattle.std.proofs.Common.{ℕ, ◌+◌, ◌*◌, ◌≤◌, List, [], ◌∷◌, ◌++◌, length, replicate, arith, ap, length-append, ◌≡◌, inl, inr, ◌<◌, Bool, true, false, Option}
 use Rattle.std.proofs.lemmas.List.{length-replicate}
-use Rattle.qoi.specs.declared.chunk.Chunk.{Chunk}
-use Rattle.qoi.specs.declared.chunk.Chunk.TheVariants.{Run}
-use Rattle.qoi.specs.Qoi.{Past, IsChunk, AreChunks, bytes_of, chunk_bytes, times, pixel_after, then_chunk, then_chunks, end_marker, Reaches, StayBelow, meaning}
+use Rattle.qoi.specs.Qoi.{Chunk, Run, Error, InvalidPadding, IoError, Past, IsChunk, AreChunks, bytes_of, chunk_bytes, times, pixel_after, then_chunk, then_chunks, end_marker, Reaches, StayBelow, meaning}
 use Rattle.qoi.specs.Verdicts.{IsWhole, IsPartOfChunk, AreCut, AreWrongThen}
 use Rattle.qoi.specs.Decoding.{least_byte_count, ReadsImage, RefusesImage}
 use Rattle.qoi.proofs.format.ChunkSteps.{length-bytes_of, length-meaning, times_some}
 use Rattle.std.proofs.KnownBytes.{Consumes-nil, Consumes-kept}
-use Rattle.qoi.specs.declared.error.Error.{Error}
-use Rattle.qoi.specs.declared.error.Error.TheVariants.{InvalidPadding, IoError}
 use Rattle.qoi.specs.DecoderState.{TakesAtMost}
 use Rattle.qoi.proofs.format.OneVerdict.{StayBelowAfter}
 

@@ -4,10 +4,9 @@ use Rattle.std.proofs.lemmas.List.{append-nil, length-append, length-drop, drop-
 use Rattle.std.proofs.Math.Seq.{drop-append_seam}
 use lib.Seq.{take-append_seam}
 use Rattle.std.specs.Io.KnownBytes.{Appends}
-use Rattle.qoi.specs.declared.header.Header.{Header}
-use Rattle.qoi.specs.declared.types.Style.{Style}
+use Rattle.qoi.specs.Styles.{Style}
 use Rattle.qoi.specs.Encoded.{IsFileOf}
-use Rattle.qoi.specs.Qoi.{file}
+use Rattle.qoi.specs.Qoi.{Header, file}
 use Rattle.qoi.specs.Decoding.{DecodesFile}
 use Rattle.qoi.specs.Images.{file_image}
 use Rattle.qoi.specs.Tiles.{HasTile}

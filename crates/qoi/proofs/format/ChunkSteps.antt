@@ -4,9 +4,7 @@ use Rattle.std.proofs.Common.{◌≡◌, ◌<◌, ◌≤◌, List, [], ◌∷◌
 use Rattle.std.proofs.lemmas.List.{length-reverse, reverse-append, reverse-reverse, length-append, replicate-append-replicate}
 use Rattle.std.proofs.lemmas.Grind.{flat_map-append}
 use Rattle.std.specs.List.{AllByRecursion}
-use Rattle.qoi.specs.declared.chunk.Chunk.{Chunk}
-use Rattle.qoi.specs.declared.chunk.Chunk.TheVariants.{Place, Run}
-use Rattle.qoi.specs.Qoi.{bytes_of, chunk_bytes, then_chunks, meaning, RgbaPixel, Past, previous, IsChunk, pixel_after, times, then_chunk, Each}
+use Rattle.qoi.specs.Qoi.{Chunk, Place, Run, bytes_of, chunk_bytes, then_chunks, meaning, RgbaPixel, Past, previous, IsChunk, pixel_after, times, then_chunk, Each}
 use Rattle.std.proofs.lemmas.Bool.{true≢false}
 use Rattle.qoi.specs.Written.{GivesFresh, IsAllowedAfter, IsFullBefore}
 use Rattle.qoi.specs.Styles.{is_run}

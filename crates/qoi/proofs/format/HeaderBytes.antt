@@ -4,13 +4,8 @@ use Rattle.std.proofs.Common.{◌≡◌, ℕ, ◌*◌, ◌/◌, ◌%◌, ◌<◌
 use Rattle.std.specs.Prelude.{◌==◌, if◌then◌else◌, Result}
 use Rattle.std.proofs.lemmas.Bool.{eqb-true, cond-true, le-ltb, ltb-false, le-leb, leb-true, and_from, and_parts}
 use Rattle.std.proofs.Math.Nat.{mod-add-div', mul_comm, mul-mod_right, mul-div_cancel_left, mul-zero, le-mul_of_pos_right}
-use Rattle.qoi.specs.declared.error.Error.{Error}
-use Rattle.qoi.specs.declared.error.Error.TheVariants.{InvalidImageLength, InvalidMagic, InvalidImageDimensions, UnexpectedBufferEnd, IoError}
-use Rattle.qoi.specs.declared.types.Channels.{Channels}
 use Rattle.qoi.specs.declared.types.Channels.TheVariants.{Rgb, Rgba}
-use Rattle.qoi.specs.declared.types.ColorSpace.TheVariants.{Srgb, Linear}
-use Rattle.qoi.specs.declared.header.Header.{Header}
-use Rattle.qoi.specs.Qoi.{channels_number, channels_of, pixel_count, pixels_max, tried_header, IsValid, magic_number, colorspace_number, colorspace_of, AreBytes, header_bytes, number_at, checked_header, with_channels_read, header_of}
+use Rattle.qoi.specs.Qoi.{Error, InvalidImageLength, InvalidMagic, InvalidImageDimensions, UnexpectedBufferEnd, IoError, Channels, Srgb, Linear, Header, ColorSpace, channels_number, channels_of, pixel_count, pixels_max, tried_header, IsValid, magic_number, colorspace_number, colorspace_of, AreBytes, header_bytes, number_at, checked_header, with_channels_read, header_of}
 use Rattle.qoi.specs.Raw.{image_byte_count}
 use Rattle.qoi.specs.Encoded.{image_header, measured_header, with_number}
 use Rattle.std.proofs.lemmas.List.{append-nil, length-take-le, drop_at}
@@ -20,7 +15,6 @@ use Rattle.std.specs.Io.KnownBytes.{Consumes}
 use Rattle.qoi.specs.Decoding.{ReadsHeader}
 use Rattle.qoi.proofs.format.PartOfChunk.{byte_and}
 use Rattle.qoi.proofs.format.WholePixels.{take_whole}
-use Rattle.qoi.specs.declared.types.ColorSpace.{ColorSpace}
 
 -- the number of channels is read back
 channels_back : (c : Channels) → channels_of (channels_number c) ≡ Ok c

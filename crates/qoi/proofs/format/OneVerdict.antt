@@ -1,9 +1,7 @@
 -- No chunk's bytes begin another's. So at most one verdict holds of any bytes, with one chunk list.
 use Rattle.std.proofs.Common.{◌≡◌, ℕ, ◌+◌, ◌<◌, ◌≤◌, ◌⊎◌, inl, inr, List, [], ◌∷◌, ◌++◌, length, get_or, take, drop, arith, refl, ap, sym, ◌∙◌, subst, append_assoc, length-append}
 use Rattle.std.proofs.lemmas.List.{append-nil, append_cancel_left, drop_at, take_at}
-use Rattle.qoi.specs.declared.chunk.Chunk.{Chunk}
-use Rattle.qoi.specs.declared.chunk.Chunk.TheVariants.{Place, Diff, Luma, Run, Rgb, Rgba}
-use Rattle.qoi.specs.Qoi.{Past, IsChunk, AreChunks, bytes_of, chunk_bytes, then_chunk, Each, then_chunks, meaning, end_marker}
+use Rattle.qoi.specs.Qoi.{Chunk, Place, Diff, Luma, Run, Rgb, Rgba, Past, IsChunk, AreChunks, bytes_of, chunk_bytes, then_chunk, Each, then_chunks, meaning, end_marker}
 use Rattle.qoi.specs.Verdicts.{IsPartOfChunk, HasChunks, IsWhole, IsCut, IsWrong}
 use Rattle.qoi.proofs.format.ChunkSteps.{length-meaning}
 

@@ -1,7 +1,6 @@
 -- Bytes that are too short for the chunk that their first byte begins.
 use Rattle.std.proofs.Common.{◌≡◌, ℕ, zero, suc, ◌<◌, ◌≤◌, List, [], ◌∷◌, length, get_or, arith, refl}
-use Rattle.qoi.specs.declared.chunk.Chunk.TheVariants.{Place, Luma, Rgb, Rgba}
-use Rattle.qoi.specs.Qoi.{AreBytes}
+use Rattle.qoi.specs.Qoi.{Place, Luma, Rgb, Rgba, AreBytes}
 use Rattle.qoi.specs.Verdicts.{IsPartOfChunk}
 
 -- a byte and more bytes are bytes

@@ -3,8 +3,7 @@ use Rattle.std.proofs.Common.{◌≡◌, ◌≢◌, ℕ, zero, suc, ◌+◌, ◌
 use Rattle.std.specs.Bool.{Decides}
 use Rattle.std.proofs.lemmas.Bool.{cond-true, cond-false, eq-eqb, ne_eqb}
 use Rattle.std.proofs.lemmas.Bool.Decides.{Decides-below_or}
-use Rattle.qoi.specs.declared.chunk.Chunk.TheVariants.{Diff, Luma}
-use Rattle.qoi.specs.Qoi.{RgbaPixel, Past, pixel_eq, previous, seen, hash, IsChunk, after_diff, after_luma}
+use Rattle.qoi.specs.Qoi.{Diff, Luma, RgbaPixel, Past, pixel_eq, previous, seen, hash, IsChunk, after_diff, after_luma}
 use Rattle.qoi.specs.Shortest.{some_below, some_diff, some_luma, least, trailing_repeats, cost, total_cost}
 use Rattle.qoi.proofs.format.SamePixels.{pixel_eq-from, pixel_eq-true, pixel_eq-ne}
 use Rattle.qoi.proofs.format.ChunkSteps.{previous_repeats}

@@ -2,9 +2,7 @@
 -- the tight one.
 use Rattle.std.proofs.Common.{◌≡◌, ◌⊎◌, inl, inr, ℕ, ◌+◌, ◌≤◌, true, false, ◌&&◌, List, [], ◌∷◌, length, reverse, None, is_some, refl, sym, ap, ◌∙◌, append-nil, arith, ◌++◌}
 use Rattle.std.proofs.lemmas.Bool.{cond-true, and_from}
-use Rattle.qoi.specs.declared.chunk.Chunk.{Chunk}
-use Rattle.qoi.specs.declared.chunk.Chunk.TheVariants.{Place, Diff, Luma, Run, Rgb, Rgba}
-use Rattle.qoi.specs.Qoi.{RgbaPixel, Past, pixel_eq, blank, previous, seen, hash, IsChunk, AreChunks, pixel_after, bytes_of, chunk_bytes, then_chunk, meaning, Each, then_chunks}
+use Rattle.qoi.specs.Qoi.{Chunk, Place, Diff, Luma, Run, Rgb, Rgba, RgbaPixel, Past, pixel_eq, blank, previous, seen, hash, IsChunk, AreChunks, pixel_after, bytes_of, chunk_bytes, then_chunk, meaning, Each, then_chunks}
 use Rattle.qoi.specs.Raw.{HasChannels}
 use Rattle.qoi.specs.Regular.{Begins, NamesPixelThere, Regular}
 use Rattle.qoi.specs.Shortest.{least, cost, total_cost, floor}

@@ -1,10 +1,8 @@
 -- Lists that are written for a few images: each is what `written_list` computes.
 use Rattle.std.proofs.Common.{◌≡◌, List, [], ◌∷◌, refl, sym, ◌∙◌, subst, rules}
 use Rattle.std.specs.List.{AllByRecursion}
-use Rattle.qoi.specs.declared.chunk.Chunk.{Chunk}
-use Rattle.qoi.specs.declared.chunk.Chunk.TheVariants.{Run, Rgb, Rgba}
-use Rattle.qoi.specs.declared.types.Style.TheVariants.{Reference}
-use Rattle.qoi.specs.Qoi.{RgbaPixel, IsPixel, pixel, pixel_eq, start, blank, hash}
+use Rattle.qoi.specs.Styles.{Reference}
+use Rattle.qoi.specs.Qoi.{Chunk, Run, Rgb, Rgba, RgbaPixel, IsPixel, pixel, pixel_eq, start, blank, hash}
 use Rattle.qoi.specs.Runs.{runs_by}
 use Rattle.qoi.specs.Written.{Written}
 use Rattle.qoi.specs.WrittenList.{first_chunk, list_after, written_list}

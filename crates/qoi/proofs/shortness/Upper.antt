@@ -2,9 +2,7 @@
 use Rattle.std.proofs.Common.{◌≡◌, ◌≢◌, ℕ, zero, suc, ◌+◌, ◌%◌, ◌<◌, ◌≤◌, false, List, [], ◌∷◌, ◌++◌, length, reverse, replicate, refl, sym, ap, ◌∙◌, arith}
 use Rattle.std.proofs.lemmas.Bool.{false_from_ne_true}
 use Rattle.std.proofs.lemmas.List.{length-append, reverse-reverse}
-use Rattle.qoi.specs.declared.chunk.Chunk.{Chunk}
-use Rattle.qoi.specs.declared.chunk.Chunk.TheVariants.{Diff, Luma, Run, Rgb, Rgba}
-use Rattle.qoi.specs.Qoi.{RgbaPixel, Past, previous, seen, hash, IsChunk, AreChunks, pixel_after, bytes_of, chunk_bytes, then_chunk, then_chunks, Each}
+use Rattle.qoi.specs.Qoi.{Chunk, Diff, Luma, Run, Rgb, Rgba, RgbaPixel, Past, previous, seen, hash, IsChunk, AreChunks, pixel_after, bytes_of, chunk_bytes, then_chunk, then_chunks, Each}
 use Rattle.qoi.specs.Raw.{HasChannels}
 use Rattle.qoi.specs.Written.{rank, noted, IsFirst, IsChoice, GivesFresh, IsAllowedAfter, IsFullBefore, RunsFollowFull, WrittenBy, Written}
 use Rattle.qoi.specs.Shortest.{some_diff, some_luma, least, trailing_repeats, total_cost, floor, slack}

@@ -5,8 +5,7 @@ use Rattle.qoi.specs.declared.encode.carry.TheConstants.{FRONT_CARRIED}
 use Rattle.qoi.specs.declared.encode.coder.LastPixel.{LastPixel}
 use Rattle.qoi.specs.declared.encode.piece.Piece.{Piece}
 use Rattle.qoi.specs.declared.encode.pixels.Pixels.{Pixels}
-use Rattle.qoi.specs.declared.types.Style.{Style}
-use Rattle.qoi.specs.declared.types.Style.TheVariants.{Tight}
+use Rattle.qoi.specs.Styles.{Style, Tight}
 use Rattle.qoi.specs.Qoi.{RgbaPixel}
 use Rattle.qoi.specs.inner.block.Block.{last_pixel}
 use Rattle.qoi.specs.inner.Coder.{pixels_in, kept_bytes, CoderBetween}

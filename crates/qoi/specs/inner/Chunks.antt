@@ -3,10 +3,9 @@
 -- left after a refusal.
 use Rattle.std.specs.Prelude.{◌≡◌, ℕ, ◌+◌, ◌/◌, ◌%◌, ◌<◌, ◌≤◌, List, ◌++◌, length, reverse, Bool, true, false, IsTrue, IsFalse, Option, IfSome}
 use Rattle.std.specs.Io.KnownBytes.{Consumes}
-use Rattle.qoi.specs.declared.error.Error.{Error}
 use Rattle.qoi.specs.declared.decode.output.TheConstants.{RUN_ROOM}
 use Rattle.qoi.specs.declared.decode.reader.Conversion.{Conversion}
-use Rattle.qoi.specs.Qoi.{Past, channels_number}
+use Rattle.qoi.specs.Qoi.{Error, Past, channels_number}
 use Rattle.qoi.specs.Raw.{output}
 use Rattle.qoi.specs.Decoding.{ReadsImage, TakesBytes, RefusesBytes, RefusesTaken, RefusesImage}
 use Rattle.qoi.specs.DecoderState.{DecoderState}

@@ -3,18 +3,14 @@
 -- chunk of a fresh pixel as a number.
 use Rattle.std.specs.Prelude.{◌≡◌, ◌<◌, ℕ, Bool, not, ◌&&◌, ◌||◌, nat_lt, if◌then◌else◌, List, [], ◌∷◌, ◌++◌, length, take, Option, Some}
 use Rattle.std.specs.List.{AllByRecursion}
-use Rattle.qoi.specs.declared.chunk.Chunk.{Chunk}
-use Rattle.qoi.specs.declared.chunk.Chunk.TheVariants.{Place, Run}
 use Rattle.qoi.specs.declared.encode.coder.Coder.{Coder}
 use Rattle.qoi.specs.declared.encode.coder.LastPixel.{LastPixel}
 use Rattle.qoi.specs.declared.encode.piece.Piece.{Piece}
 use Rattle.qoi.specs.declared.encode.pixels.Pixels.{Pixels}
-use Rattle.qoi.specs.declared.types.Style.{Style}
-use Rattle.qoi.specs.declared.types.Style.TheVariants.{Reference, Places, Tight}
-use Rattle.qoi.specs.Qoi.{RgbaPixel, IsPixel, Past, previous, hash, IsChunk, bytes_of, chunk_bytes}
+use Rattle.qoi.specs.Qoi.{Chunk, Place, Run, RgbaPixel, IsPixel, Past, previous, hash, IsChunk, bytes_of, chunk_bytes}
 use Rattle.qoi.specs.Raw.{pixels_of}
 use Rattle.qoi.specs.Written.{fresh, IsFirst}
-use Rattle.qoi.specs.Styles.{some_fresh, names, styled}
+use Rattle.qoi.specs.Styles.{Style, Reference, Places, Tight, some_fresh, names, styled}
 use Rattle.qoi.specs.WrittenList.{chosen, list_after}
 use Rattle.qoi.specs.inner.Table.{Holds}
 use Rattle.qoi.specs.inner.block.Storing.{chunk_of}

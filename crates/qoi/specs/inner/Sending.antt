@@ -6,12 +6,10 @@ use Rattle.std.specs.Io.KnownBytes.{Appends}
 use Rattle.qoi.specs.declared.encode.piece.OpenPiece.{OpenPiece}
 use Rattle.qoi.specs.declared.encode.chunks.Pending.{Pending}
 use Rattle.qoi.specs.declared.encode.piece.TheConstants.{SPARE, FULL_ROOM}
-use Rattle.qoi.specs.declared.error.Error.{Error}
-use Rattle.qoi.specs.declared.types.Channels.{Channels}
-use Rattle.qoi.specs.declared.types.Style.{Style}
+use Rattle.qoi.specs.Styles.{Style}
 use Rattle.qoi.specs.Encoded.{IsFileOf, image_file}
 use Rattle.qoi.specs.EncoderState.{EncoderState}
-use Rattle.qoi.specs.Qoi.{channels_number, marker_size, end_marker}
+use Rattle.qoi.specs.Qoi.{Error, Channels, channels_number, marker_size, end_marker}
 use Rattle.qoi.specs.Raw.{pixels_of}
 use Rattle.qoi.specs.writers.Writes.{WroteBut, WroteBeginning}
 use Rattle.qoi.specs.inner.Coder.{kept_bytes, CoderAfter, CoderBetween}

@@ -1,9 +1,7 @@
 -- What a mark keeps of a pixel reader of a slice.
 use Rattle.std.specs.Prelude.{◌≡◌, ℕ, ◌+◌, ◌*◌, List, length, Bool, Some}
-use Rattle.qoi.specs.declared.types.Channels.{Channels}
-use Rattle.qoi.specs.declared.header.Header.{Header}
 use Rattle.qoi.specs.declared.decode.pixel_reader.unread.Unread.{Unread}
-use Rattle.qoi.specs.Qoi.{header_size}
+use Rattle.qoi.specs.Qoi.{Channels, Header, header_size}
 use Rattle.qoi.specs.DecoderState.{DecoderState}
 use Rattle.qoi.specs.pieces.PixelReader.{PixelsState, HasGiven}
 use Rattle.qoi.specs.pieces.Unread.{bytes_left}

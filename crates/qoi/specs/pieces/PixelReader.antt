@@ -1,10 +1,7 @@
 -- What a contract sees of an image that is decoded piece by piece.
 use Rattle.std.specs.Prelude.{◌≡◌, ℕ, ◌+◌, ◌*◌, ◌<◌, List, length, take, Bool, true, false, Option, IfSome}
-use Rattle.qoi.specs.declared.types.Channels.{Channels}
-use Rattle.qoi.specs.declared.error.Error.{Error}
-use Rattle.qoi.specs.declared.header.Header.{Header}
 use Rattle.qoi.specs.declared.decode.pixel_reader.unread.Unread.{Unread}
-use Rattle.qoi.specs.Qoi.{channels_number, pixel_count, chunk_max, marker_size}
+use Rattle.qoi.specs.Qoi.{Channels, Error, Header, channels_number, pixel_count, chunk_max, marker_size}
 use Rattle.qoi.specs.DecoderState.{DecoderState, output_byte_count, TakesAtMost}
 use Rattle.qoi.specs.Images.{front_image}
 use Rattle.qoi.specs.Decoded.{HasDecoded, HasRefused}

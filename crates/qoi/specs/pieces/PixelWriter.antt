@@ -1,11 +1,8 @@
 -- What a contract sees of an image whose raw bytes come piece by piece, and what a pixel writer promises.
 use Rattle.std.specs.Prelude.{◌≡◌, ℕ, ◌+◌, List, ◌++◌, length, Option, Bool, true, false, ◌⊎◌, ◌<◌, ◌≤◌, []}
-use Rattle.qoi.specs.declared.error.Error.{Error}
-use Rattle.qoi.specs.declared.error.Error.TheVariants.{InvalidImageLength}
-use Rattle.qoi.specs.declared.header.Header.{Header}
-use Rattle.qoi.specs.declared.types.Style.{Style}
+use Rattle.qoi.specs.Styles.{Style}
 use Rattle.qoi.specs.declared.encode.chunks.Pending.{Pending}
-use Rattle.qoi.specs.Qoi.{AreBytes}
+use Rattle.qoi.specs.Qoi.{Error, InvalidImageLength, Header, AreBytes}
 use Rattle.qoi.specs.Raw.{image_byte_count}
 use Rattle.qoi.specs.EncoderState.{EncoderState}
 use Rattle.qoi.specs.Errors.{IsIoError}

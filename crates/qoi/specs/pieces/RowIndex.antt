@@ -1,9 +1,6 @@
 -- What an index of the rows of a file's image holds.
 use Rattle.std.specs.Prelude.{◌≡◌, ℕ, ◌+◌, ◌*◌, ◌%◌, ◌/◌, ◌-◌, ◌<◌, List, [], ◌++◌, length, drop, replicate, Some, Ok, false, All}
-use Rattle.qoi.specs.declared.chunk.Chunk.{Chunk}
-use Rattle.qoi.specs.declared.header.Header.{Header}
-use Rattle.qoi.specs.declared.types.Channels.{Channels}
-use Rattle.qoi.specs.Qoi.{Past, RgbaPixel, previous, channels_number, pixel_count, header_of, header_size, IsValid, AreChunks, chunk_bytes, then_chunks}
+use Rattle.qoi.specs.Qoi.{Chunk, Header, Channels, Past, RgbaPixel, previous, channels_number, pixel_count, header_of, header_size, IsValid, AreChunks, chunk_bytes, then_chunks}
 use Rattle.qoi.specs.Reading.{StandsAhead}
 use Rattle.qoi.specs.inner.Hashed.{pixel_of_lanes, HoldsSeen}
 use Rattle.qoi.specs.inner.Table.{Holds}

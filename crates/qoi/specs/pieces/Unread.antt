@@ -1,15 +1,11 @@
 -- What is unread of an image that is read piece by piece, and what is decoded in place.
 use Rattle.std.specs.Prelude.{◌≡◌, ℕ, ◌+◌, ◌-◌, ◌*◌, ◌%◌, ◌<◌, ◌≤◌, ◌/◌, ⊤, List, [], ◌++◌, length, take, drop, reverse, replicate, Bool, false, Option, None, Result, MatchOption, MatchResult}
 use Rattle.std.specs.Io.KnownBytes.{Consumes}
-use Rattle.qoi.specs.declared.chunk.Chunk.{Chunk}
-use Rattle.qoi.specs.declared.error.Error.{Error}
-use Rattle.qoi.specs.declared.header.Header.{Header}
-use Rattle.qoi.specs.declared.types.Channels.{Channels}
 use Rattle.qoi.specs.declared.decode.reached.Reached.{Reached}
 use Rattle.qoi.specs.declared.decode.reader.Conversion.{Conversion}
 use Rattle.qoi.specs.declared.decode.pixel_reader.unread.Unread.{Unread}
 use Rattle.qoi.specs.declared.decode.pixel_reader.unread.Refused.{Refused}
-use Rattle.qoi.specs.Qoi.{Past, run_max, previous, channels_number, IsValid, AreChunks, chunk_bytes, then_chunks}
+use Rattle.qoi.specs.Qoi.{Chunk, Error, Header, Channels, Past, run_max, previous, channels_number, IsValid, AreChunks, chunk_bytes, then_chunks}
 use Rattle.qoi.specs.Raw.{output, byte_count}
 use Rattle.qoi.specs.Decoding.{ReadsImage}
 use Rattle.qoi.specs.inner.Chunks.{RefusesChunks}

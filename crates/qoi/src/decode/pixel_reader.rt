@@ -5,11 +5,10 @@ ghost use Rattle.qoi.specs.Decoded.{HasDecoded};
 ghost use Rattle.qoi.specs.DecoderState.{DecoderState, output_byte_count};
 ghost use Rattle.qoi.specs.Images.{front_image, front_rest};
 ghost use Rattle.qoi.specs.pieces.PixelReader.{PixelsState, as_decoder, pixels_left, HasGiven, HasRows, RefusesPixels, IsSpent};
-ghost use Rattle.qoi.specs.Qoi.{channels_number};
+ghost use Rattle.qoi.specs.Qoi.{Error, channels_number};
 ghost use Rattle.qoi.specs.pieces.Unread.{bytes_left, IsRestOf, KeepsPixels, Asks, Fills};
 ghost use Rattle.qoi.specs.Reading.{StandsAhead, IsCutAhead, IsWrongAhead, SaysWhy};
 ghost use Rattle.qoi.specs.Rectangles.{row_bytes, rectangle};
-ghost use Rattle.qoi.specs.declared.error.Error.{Error};
 
 pub(super) mod mark;
 mod place;

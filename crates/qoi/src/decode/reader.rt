@@ -4,11 +4,10 @@
 ghost use Rattle.std.specs.Io.KnownBytes.{Keeps};
 ghost use Rattle.std.specs.Prelude.{◌≡◌, ℕ, ◌+◌, ◌-◌, ◌≤◌, ◌/◌, ◌%◌, List, length, Option, Some, IfOk, IfErr, OnOk, OnErr, IsSome, IsTrue, Bool, true, false, Err, refl};
 ghost use Rattle.std.specs.Vec.{vec_len, vec_capacity};
-ghost use Rattle.qoi.specs.Qoi.{channels_number};
+ghost use Rattle.qoi.specs.Qoi.{Error, channels_number};
 ghost use Rattle.qoi.specs.Raw.{AreChannels};
 ghost use Rattle.qoi.specs.Decoding.{ReadsImage, ReadsHeader, RefusesImage};
 ghost use Rattle.qoi.specs.inner.Chunks.{conversion_of, IsWholeIn, ReadsIn, RefusesIn};
-ghost use Rattle.qoi.specs.declared.error.Error.{Error};
 ghost use Rattle.qoi.specs.pieces.Unread.{kept_count, Asks, StepsIn};
 
 use crate::consts::QOI_HEADER_SIZE;

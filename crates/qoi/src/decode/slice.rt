@@ -1,9 +1,8 @@
 //! Decoding an image from bytes in memory.
 ghost use Rattle.std.specs.Prelude.{◌≡◌, ◌/◌, ◌%◌, ◌++◌, length, true, Some, IfSome, IfNone, IfOk, IfErr};
 ghost use Rattle.qoi.specs.Raw.{IsChannels};
-ghost use Rattle.qoi.specs.Qoi.{end_marker};
+ghost use Rattle.qoi.specs.Qoi.{Error, end_marker};
 ghost use Rattle.qoi.specs.Decoding.{ReadsImage, RefusesMarker, RefusesBytes};
-ghost use Rattle.qoi.specs.declared.error.Error.{Error};
 ghost use Rattle.qoi.specs.inner.Chunks.{TakesChunks, RefusesFilling};
 ghost use Rattle.qoi.specs.inner.Filling.{IsFillable, upto, filling};
 

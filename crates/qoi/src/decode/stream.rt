@@ -1,8 +1,7 @@
 //! Decoding an image from a stream.
 ghost use Rattle.std.specs.Prelude.{◌<◌, [], ◌∷◌, length, false, IfOk, IfErr, OnOk, OnErr};
 ghost use Rattle.std.specs.Io.KnownBytes.{Consumes};
-ghost use Rattle.qoi.specs.Qoi.{AreBytes, end_marker};
-ghost use Rattle.qoi.specs.declared.error.Error.{Error};
+ghost use Rattle.qoi.specs.Qoi.{Error, AreBytes, end_marker};
 ghost use Rattle.qoi.specs.declared.decode.output.TheConstants.{RUN_ROOM};
 ghost use Rattle.qoi.specs.Verdicts.{IsPartOfChunk};
 ghost use Rattle.qoi.specs.Decoding.{TakesBytes, RefusesTakenMarker};

@@ -2,11 +2,10 @@
 //! through the files below in this order: `reading`, `planes`, `steps`, `positions`, `spelling`
 //! (with `counting` and `single_repeats`), `storing`. `lanes` has what they do with vectors.
 ghost use Rattle.std.specs.Prelude.{◌≡◌, ℕ, Bool, false, ◌+◌, ◌-◌, ◌<◌, List, ◌++◌, map, take, slice_index, slice_index_or, ◌%◌, IsTrue, IsFalse};
-ghost use Rattle.qoi.specs.declared.types.Style.TheVariants.{Places, Tight};
 ghost use Rattle.qoi.specs.Qoi.{RgbaPixel};
 ghost use Rattle.qoi.specs.Raw.{IsChannels, AreOpaque};
 ghost use Rattle.qoi.specs.inner.block.Lanes.{fresh_marks, mask, State, NoneBlank};
-ghost use Rattle.qoi.specs.Styles.{style_of};
+ghost use Rattle.qoi.specs.Styles.{Places, Tight, style_of};
 ghost use Rattle.qoi.specs.inner.block.Block.{ChangesFrom, FitsBlock, MissesNoBlank, last_pixel};
 ghost use Rattle.qoi.specs.inner.BlockLoop.{InBlocks};
 ghost use Rattle.qoi.specs.inner.Coder.{pixels_in, kept_bytes};

@@ -1,9 +1,8 @@
 //! Writes what is at the front of an image's pixels into a piece: blocks of sixteen, and between
 //! two of them repeats are carried (QOI specification 1.0, "Data" and "Chunks").
 ghost use Rattle.std.specs.Prelude.{◌≡◌, ◌≢◌, ℕ, ◌<◌, ◌≤◌, true, List, [], Some, length, slice_get, IsTrue};
-ghost use Rattle.qoi.specs.declared.types.Style.{Style};
 ghost use Rattle.qoi.specs.Qoi.{RgbaPixel};
-ghost use Rattle.qoi.specs.Styles.{style_of};
+ghost use Rattle.qoi.specs.Styles.{Style, style_of};
 ghost use Rattle.qoi.specs.inner.block.Block.{last_pixel};
 ghost use Rattle.qoi.specs.inner.BlockLoop.{GoesByBlocks, IsCarried, WritesBlocks};
 ghost use Rattle.qoi.specs.inner.Coder.{pixels_in, WritesSome};

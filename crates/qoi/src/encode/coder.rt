@@ -1,14 +1,12 @@
 //! Writes pixels one by one, and groups of repeats, as chunks into a piece (QOI specification 1.0,
 //! "Data" and "Chunks").
 ghost use Rattle.std.specs.Prelude.{◌≡◌, ◌≢◌, ℕ, ◌+◌, ◌-◌, ◌*◌, ◌<◌, ◌≤◌, true, List, [], ◌∷◌, ◌++◌, Option, None, Some, length, take, drop, replicate, slice_get};
-ghost use Rattle.qoi.specs.declared.chunk.Chunk.{Chunk};
 ghost use Rattle.qoi.specs.declared.encode.piece.TheConstants.{SPARE, RUNS_AT_ONCE};
-ghost use Rattle.qoi.specs.declared.types.Style.{Style};
-ghost use Rattle.qoi.specs.Qoi.{RgbaPixel, Past, run_max, chunk_max, marker_size, previous, seen, hash, IsChunk, bytes_of};
+ghost use Rattle.qoi.specs.Qoi.{Chunk, RgbaPixel, Past, run_max, chunk_max, marker_size, previous, seen, hash, IsChunk, bytes_of};
 ghost use Rattle.qoi.specs.Raw.{IsChannels, IsChannels-prop};
 ghost use Rattle.qoi.specs.Runs.{runs_by};
 ghost use Rattle.qoi.specs.Written.{IsFirst};
-ghost use Rattle.qoi.specs.Styles.{choice_in, style_of};
+ghost use Rattle.qoi.specs.Styles.{Style, choice_in, style_of};
 ghost use Rattle.qoi.specs.inner.Table.{Holds};
 ghost use Rattle.qoi.specs.inner.block.Storing.{chunk_of};
 

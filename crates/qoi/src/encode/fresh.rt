@@ -1,7 +1,6 @@
 //! One fresh pixel, spelled out after the one before it (QOI specification 1.0, "Chunks").
 ghost use Rattle.std.specs.Prelude.{◌≡◌, ◌+◌, ◌≤◌};
-ghost use Rattle.qoi.specs.declared.chunk.Chunk.{Chunk};
-ghost use Rattle.qoi.specs.Qoi.{IsPixel};
+ghost use Rattle.qoi.specs.Qoi.{Chunk, IsPixel};
 ghost use Rattle.qoi.specs.Raw.{IsChannels};
 ghost use Rattle.qoi.specs.inner.Coder.{SpellsOut};
 ghost use Rattle.qoi.specs.WrittenList.{steps, diff_steps, luma_steps};

@@ -1,13 +1,8 @@
 //! Laws on reading: bytes have one verdict, and files are read as they were put together.
 ghost use Rattle.std.specs.Prelude.{◌≡◌, ℕ, ◌+◌, ◌-◌, ◌*◌, ◌<◌, ◌≤◌, ◌⊎◌, List, [], ◌∷◌, ◌++◌, length, take, drop, slice_index, slice_index_or, Ok, Err, Option, Some};
-ghost use Rattle.qoi.specs.declared.error.Error.{Error};
-ghost use Rattle.qoi.specs.declared.header.Header.{Header};
-ghost use Rattle.qoi.specs.declared.types.Channels.{Channels};
-ghost use Rattle.qoi.specs.declared.types.ColorSpace.{ColorSpace};
-ghost use Rattle.qoi.specs.declared.chunk.Chunk.{Chunk};
-ghost use Rattle.qoi.specs.Qoi.{AreBytes, IsFile, file, file_pixels, header_bytes, pixel_count, IsValid, header_of, header_size, channels_number, pixels_max};
-ghost use Rattle.qoi.specs.Raw.{output, without_fourth, image_byte_count};
 ghost use Rattle.qoi.specs.declared.types.Style.{Style};
+ghost use Rattle.qoi.specs.Qoi.{Error, Header, Channels, ColorSpace, Chunk, AreBytes, IsFile, file, file_pixels, header_bytes, pixel_count, IsValid, header_of, header_size, channels_number, pixels_max};
+ghost use Rattle.qoi.specs.Raw.{output, without_fourth, image_byte_count};
 ghost use Rattle.qoi.specs.Encoded.{IsFileOf, IsReadBack, image_file, image_header};
 ghost use Rattle.qoi.specs.Tiles.{HasTile};
 ghost use Rattle.qoi.specs.Verdicts.{IsWhole, IsCut, IsWrong, AreCut};

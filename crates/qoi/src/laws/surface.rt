@@ -2,11 +2,7 @@
 //! and hashing.
 ghost use Rattle.std.specs.Prelude.{◌≡◌, ◌≢◌, ◌↔◌, ℕ, IsTrue, Result, Ok, Err};
 ghost use Rattle.std.specs.Ordering.{nat_cmp, is_eq};
-ghost use Rattle.qoi.specs.declared.error.Error.{Error};
-ghost use Rattle.qoi.specs.declared.header.Header.{Header};
-ghost use Rattle.qoi.specs.declared.types.Channels.{Channels};
-ghost use Rattle.qoi.specs.declared.types.ColorSpace.{ColorSpace};
-ghost use Rattle.qoi.specs.Qoi.{channels_number, colorspace_number};
+ghost use Rattle.qoi.specs.Qoi.{Error, Header, Channels, ColorSpace, channels_number, colorspace_number};
 
 use crate::header::Header;
 use crate::types::{Channels, ColorSpace};

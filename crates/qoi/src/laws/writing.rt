@@ -2,13 +2,7 @@
 //! they import types and variants besides the definitions.
 ghost use Rattle.std.specs.Prelude.{◌≡◌, ◌↔◌, ℕ, ◌+◌, ◌*◌, ◌<◌, ◌≤◌, List, [], ◌∷◌, ◌++◌, length, replicate};
 ghost use Rattle.std.specs.List.{AllByRecursion};
-ghost use Rattle.qoi.specs.declared.chunk.Chunk.{Chunk};
-ghost use Rattle.qoi.specs.declared.header.Header.{Header};
-ghost use Rattle.qoi.specs.declared.types.Channels.{Channels};
-ghost use Rattle.qoi.specs.declared.types.Style.{Style};
-ghost use Rattle.qoi.specs.declared.types.Style.TheVariants.{Reference, Places, Tight};
-ghost use Rattle.qoi.specs.declared.chunk.Chunk.TheVariants.{Place, Run, Rgb, Rgba};
-ghost use Rattle.qoi.specs.Qoi.{RgbaPixel, IsPixel, Past, default_header, pixel, seen, start, AreBytes, IsValid, chunk_bytes, file, meaning};
+ghost use Rattle.qoi.specs.Qoi.{Chunk, Header, Channels, Place, Run, Rgb, Rgba, RgbaPixel, IsPixel, Past, default_header, pixel, seen, start, AreBytes, IsValid, chunk_bytes, file, meaning};
 ghost use Rattle.qoi.specs.WrittenList.{written_list};
 ghost use Rattle.qoi.specs.Encoded.{max_len, image_file, IsFileLength, IsFileOf};
 ghost use Rattle.qoi.specs.Raw.{IsChannels, image_byte_count, output, pixels_of, HasChannels};
@@ -16,7 +10,7 @@ ghost use Rattle.qoi.specs.Regular.{Covers, Regular};
 ghost use Rattle.qoi.specs.Shortest.{floor, slack};
 ghost use Rattle.qoi.specs.Tight.{first_and_fresh, IsTightChoice, floor0};
 ghost use Rattle.qoi.specs.Written.{WrittenBy, Written};
-ghost use Rattle.qoi.specs.Styles.{in_style, WrittenIn};
+ghost use Rattle.qoi.specs.Styles.{Style, Reference, Places, Tight, in_style, WrittenIn};
 
 /// An image has exactly one written list in each style: `written_list`.
 pub fn written_is_one()

@@ -1,8 +1,7 @@
 -- A file is decoded as such; a refusal is the decoder's.
 use Rattle.std.proofs.Common.{◌≡◌, ◌<◌, ◌≤◌, ◌⊎◌, ◌∙◌, rules, ℕ, length, take, Some, ap, sym, subst, inl, inr, ⊎_elim, arith}
 use Rattle.std.proofs.lemmas.Bool.{cases_lt}
-use Rattle.qoi.specs.declared.header.Header.{Header}
-use Rattle.qoi.specs.Qoi.{channels_number, pixel_count}
+use Rattle.qoi.specs.Qoi.{Header, channels_number, pixel_count}
 use Rattle.qoi.specs.Raw.{image_byte_count, byte_count}
 use Rattle.qoi.specs.Decoding.{RefusesBuffer, RefusesBytes}
 use Rattle.qoi.specs.Decoded.{HasDecoded, HasDecodedFile, HasRefusedFile}

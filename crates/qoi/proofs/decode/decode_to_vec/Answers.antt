@@ -1,7 +1,6 @@
 -- A file is decoded as such; a refusal is the decoder's.
 use Rattle.std.proofs.Common.{◌≡◌, sym, subst, inl, inr, ⊎_elim, arith}
-use Rattle.qoi.specs.declared.header.Header.{Header}
-use Rattle.qoi.specs.Qoi.{pixel_count}
+use Rattle.qoi.specs.Qoi.{Header, pixel_count}
 use Rattle.qoi.specs.Decoding.{RefusesBytes}
 use Rattle.qoi.specs.Decoded.{HasDecodedFile}
 use Rattle.qoi.proofs.decoding.Promised.{has_decoded_file, has_refused_file}

@@ -6,10 +6,8 @@ use Rattle.std.specs.List.{slice_get}
 use Rattle.qoi.specs.declared.encode.carry.Carry.{Carry}
 use Rattle.qoi.specs.declared.encode.block.planes.Planes.{Planes}
 use Rattle.qoi.specs.declared.encode.block.spelling.Spelled.{Spelled}
-use Rattle.qoi.specs.declared.types.Style.{Style}
-use Rattle.qoi.specs.declared.types.Style.TheVariants.{Reference, Places, Tight}
 use Rattle.qoi.specs.Qoi.{RgbaPixel, pixel_eq, seen, hash}
-use Rattle.qoi.specs.Styles.{names}
+use Rattle.qoi.specs.Styles.{Style, Reference, Places, Tight, names}
 use Rattle.qoi.specs.inner.block.Lanes.{fresh_marks, mask, State, lanes_of, is_rep, group_bytes, next_state, more_of, block_bytes, NoneBlank, next_by}
 use Rattle.qoi.specs.inner.block.Block.{last_pixel}
 use Rattle.qoi.specs.inner.BlockLoop.{InBlocks}

@@ -4,7 +4,7 @@ use Rattle.std.specs.Prelude.{max}
 use Rattle.std.specs.List.{AllByRecursion}
 use Rattle.std.proofs.lemmas.Bool.{and_parts, and_right, true≢false}
 use Rattle.std.proofs.lemmas.Nat.{and_le_l}
-use Rattle.qoi.specs.declared.types.Style.{Style}
+use Rattle.qoi.specs.Styles.{Style}
 use Rattle.qoi.specs.Qoi.{RgbaPixel, pixel_eq, hash}
 use Rattle.qoi.specs.inner.block.Vectors.{named_in, firsts_in, sizes, all_true, counts, is_full, AreFull}
 use Rattle.qoi.specs.inner.block.Storing.{full_bytes}

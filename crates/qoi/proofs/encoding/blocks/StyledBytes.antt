@@ -4,10 +4,8 @@ use Rattle.std.specs.Prelude.{max, min}
 use Rattle.std.specs.List.{AllByRecursion}
 use Rattle.std.proofs.lemmas.Nat.{and_le_l}
 use Rattle.std.proofs.lemmas.Bool.{true≢false}
-use Rattle.qoi.specs.declared.chunk.Chunk.TheVariants.{Run}
-use Rattle.qoi.specs.declared.types.Style.{Style}
-use Rattle.qoi.specs.declared.types.Style.TheVariants.{Reference, Places, Tight}
-use Rattle.qoi.specs.Qoi.{RgbaPixel, IsPixel, pixel_eq, hash, seen, bytes_of}
+use Rattle.qoi.specs.Styles.{Style, Reference, Places, Tight}
+use Rattle.qoi.specs.Qoi.{Run, RgbaPixel, IsPixel, pixel_eq, hash, seen, bytes_of}
 use Rattle.qoi.proofs.format.SamePixels.{hash_below}
 use Rattle.qoi.proofs.encoding.lists.GroupRuns.{not_one}
 use Rattle.qoi.specs.inner.block.Lanes.{Lane, mask, same_alpha, as_diff, as_luma, fits_diff, fits_luma, first_of, size_of, State, lane_of, lanes_of, is_rep, goes_on, group_bytes, next_by, step_by, next_state, more_of, block_bytes, IsLane}

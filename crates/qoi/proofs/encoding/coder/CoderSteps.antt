@@ -3,14 +3,10 @@
 use Rattle.std.proofs.Common.{◌≡◌, ◌≢◌, ◌⊎◌, inl, inr, ℕ, suc, Bool, true, not, ◌+◌, ◌*◌, ◌%◌, ◌<◌, List, [], ◌∷◌, ◌++◌, get_or, replicate, Option, None, Some, refl, sym, ap, ◌∙◌, subst, arith, append-nil, append_assoc}
 use Rattle.std.specs.List.{AllByRecursion, slice_get}
 use Rattle.std.proofs.lemmas.Grind.{flat_map-append}
-use Rattle.qoi.specs.declared.chunk.Chunk.{Chunk}
-use Rattle.qoi.specs.declared.chunk.Chunk.TheVariants.{Run}
 use Rattle.qoi.specs.declared.encode.coder.LastPixel.{LastPixel}
-use Rattle.qoi.specs.declared.types.Style.{Style}
-use Rattle.qoi.specs.declared.types.Style.TheVariants.{Reference, Places, Tight}
-use Rattle.qoi.specs.Qoi.{AreBytes, RgbaPixel, IsPixel, Past, previous, hash, IsChunk, bytes_of, chunk_bytes}
+use Rattle.qoi.specs.Qoi.{Chunk, Run, AreBytes, RgbaPixel, IsPixel, Past, previous, hash, IsChunk, bytes_of, chunk_bytes}
 use Rattle.qoi.specs.Runs.{runs_by}
-use Rattle.qoi.specs.Styles.{fresh_next, some_fresh, names, choice_in, styled}
+use Rattle.qoi.specs.Styles.{Style, Reference, Places, Tight, fresh_next, some_fresh, names, choice_in, styled}
 use Rattle.qoi.specs.WrittenList.{chosen, list_after, written_list}
 use Rattle.qoi.specs.inner.Coder.{single_chunk, last_chunk, Ahead, CoderAfter, single, CoderBetween}
 use Rattle.qoi.proofs.format.ChunkSteps.{previous_repeats, all_back}

@@ -2,14 +2,10 @@
 use Rattle.std.proofs.Common.{◌≡◌, ◌≢◌, ◌↔◌, ◌⊎◌, inl, inr, ℕ, zero, suc, ◌%◌, ◌<◌, Bool, true, false, IsTrue, IsFalse, nat_lt, arith, if◌then◌else◌, List, [], ◌∷◌, ◌++◌, take, replicate, Some, refl, sym, ap, ◌∙◌, subst}
 use lib.Lanes.{digits_l}
 use Rattle.std.proofs.lemmas.Bool.{eq-eqb, lt-ltb}
-use Rattle.qoi.specs.declared.chunk.Chunk.{Chunk}
-use Rattle.qoi.specs.declared.chunk.Chunk.TheVariants.{Place}
-use Rattle.qoi.specs.declared.types.Style.{Style}
-use Rattle.qoi.specs.declared.types.Style.TheVariants.{Reference, Places, Tight}
-use Rattle.qoi.specs.Qoi.{RgbaPixel, Past, previous, hash, IsChunk, bytes_of, seen}
+use Rattle.qoi.specs.Qoi.{Chunk, Place, RgbaPixel, Past, previous, hash, IsChunk, bytes_of, seen}
 use Rattle.qoi.specs.inner.Table.{Holds}
 use Rattle.qoi.specs.Written.{fresh, IsFirst}
-use Rattle.qoi.specs.Styles.{names, choice_in}
+use Rattle.qoi.specs.Styles.{Style, Reference, Places, Tight, names, choice_in}
 use Rattle.qoi.specs.inner.Coder.{held_in}
 use Rattle.qoi.specs.inner.block.Storing.{chunk_of}
 use Rattle.qoi.proofs.format.ChunkSteps.{previous_repeats}

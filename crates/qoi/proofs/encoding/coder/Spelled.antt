@@ -1,9 +1,7 @@
 -- The first chunk that spells a pixel out, by the steps that an encoder computes.
 use Rattle.std.proofs.Common.{◌≡◌, ◌≢◌, ◌↔◌, ⊎_elim, ℕ, ◌+◌, ◌-◌, ◌*◌, ◌/◌, ◌%◌, ◌<◌, ◌≤◌, Bool, true, false, IsTrue, ◌==◌, eqb-true, eq-eqb, refl, sym, ap, ◌∙◌, arith}
 use Rattle.std.proofs.lemmas.Bool.{cases_lt, true≢false}
-use Rattle.qoi.specs.declared.chunk.Chunk.{Chunk}
-use Rattle.qoi.specs.declared.chunk.Chunk.TheVariants.{Diff, Luma, Rgb, Rgba}
-use Rattle.qoi.specs.Qoi.{RgbaPixel, pixel_eq, IsPixel, Past, previous, IsChunk, pixel_after, after_diff, after_luma}
+use Rattle.qoi.specs.Qoi.{Chunk, Diff, Luma, Rgb, Rgba, RgbaPixel, pixel_eq, IsPixel, Past, previous, IsChunk, pixel_after, after_diff, after_luma}
 use Rattle.qoi.specs.Written.{rank, IsFirst}
 use Rattle.qoi.specs.WrittenList.{steps, diff_steps, luma_steps, diff_bits, luma_bits, diff_of, luma_of, spelled, first_chunk}
 use Rattle.qoi.proofs.format.SamePixels.{same_pixel, pixel_eq-true, pixel_eq-from}

@@ -3,8 +3,7 @@ use Rattle.std.proofs.Common.{◌≡◌, ℕ, ◌+◌, ◌*◌, ◌/◌, ◌%◌
 use Rattle.std.proofs.Math.Bool.{and_assoc}
 use Rattle.std.proofs.lemmas.Bool.{true≢false, and_from, and_left, and_right}
 use lib.Lanes.{digits_l}
-use Rattle.qoi.specs.declared.chunk.Chunk.{Chunk}
-use Rattle.qoi.specs.Qoi.{RgbaPixel, IsPixel}
+use Rattle.qoi.specs.Qoi.{Chunk, RgbaPixel, IsPixel}
 use Rattle.qoi.specs.Raw.{IsChannels}
 use Rattle.qoi.specs.inner.block.Lanes.{Lane, as_diff, as_luma, same_alpha, fits_in_diff, fits_in_luma, fits_diff, fits_luma, first_by, second_by, size_by, diff_of, lane_bytes}
 use Rattle.qoi.specs.inner.Coder.{SpellsOut}

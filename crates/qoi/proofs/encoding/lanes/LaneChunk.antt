@@ -1,7 +1,6 @@
 -- One lane: its bytes are a chunk that spells out its pixel.
 use Rattle.std.proofs.Common.{◌≡◌, ◌↔◌, ℕ, ◌+◌, ◌*◌, ◌%◌, ◌<◌, Bool, true, false, IsTrue, nat_lt, ◌&&◌, ◌==◌, [], ◌∷◌, take, refl, ap, arith, subst, eqb-true, eq-eqb}
-use Rattle.qoi.specs.declared.chunk.Chunk.{Chunk}
-use Rattle.qoi.specs.Qoi.{RgbaPixel, IsPixel, Past, previous, IsChunk, bytes_of}
+use Rattle.qoi.specs.Qoi.{Chunk, RgbaPixel, IsPixel, Past, previous, IsChunk, bytes_of}
 use Rattle.qoi.specs.Written.{IsFirst}
 use Rattle.qoi.specs.WrittenList.{steps, diff_steps, luma_steps, diff_bits, luma_bits, spelled}
 use Rattle.qoi.proofs.format.SamePixels.{same_pixel}

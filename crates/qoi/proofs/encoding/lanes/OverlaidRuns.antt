@@ -6,7 +6,7 @@ use Rattle.std.proofs.lemmas.Nat.{and_comm, and_mask}
 use Rattle.std.specs.List.{AllByRecursion}
 use Rattle.qoi.specs.inner.block.Lanes.{Lane, mask, same_alpha, fits_diff, fits_luma, first_of, size_of, is_rep, goes_on, IsLane}
 use Rattle.qoi.specs.inner.block.Vectors.{AreBy, counts, firsts_in, sizes}
-use Rattle.qoi.specs.declared.types.Style.TheVariants.{Reference}
+use Rattle.qoi.specs.Styles.{Reference}
 use Rattle.qoi.proofs.encoding.blocks.LaneBytes.{repeat_size, size_small}
 use Rattle.qoi.proofs.encoding.lanes.Lanewise.{sum_8, not_8}
 

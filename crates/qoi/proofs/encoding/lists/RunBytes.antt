@@ -6,9 +6,7 @@ use Rattle.std.proofs.Math.Seq.{take-suc-set}
 use borrow.Rule.Slice.PartMut.{put_mid}
 use lib.Lanes.{put_chunk}
 use mir.Val.{bool_byte}
-use Rattle.qoi.specs.declared.chunk.Chunk.{Chunk}
-use Rattle.qoi.specs.declared.chunk.Chunk.TheVariants.{Run}
-use Rattle.qoi.specs.Qoi.{bytes_of, chunk_bytes}
+use Rattle.qoi.specs.Qoi.{Chunk, Run, bytes_of, chunk_bytes}
 use Rattle.qoi.specs.Runs.{last_by, runs_by}
 use Rattle.qoi.proofs.format.LaneBytes.{bytes_put}
 use Rattle.qoi.proofs.encoding.lists.GroupRuns.{not_one}

@@ -2,12 +2,10 @@
 -- for each: it grows at its end by the runs of a group of repeats, and by a fresh pixel's chunk.
 use Rattle.std.proofs.Common.{◌≡◌, ◌≢◌, ℕ, zero, suc, ◌+◌, ◌*◌, ◌/◌, ◌%◌, ◌<◌, false, List, [], ◌∷◌, ◌++◌, reverse, replicate, refl, sym, ap, ◌∙◌, subst, subst₂, arith, append_assoc, append-nil, inl, inr, Some}
 use Rattle.std.proofs.lemmas.List.{reverse-reverse, reverse-append}
-use Rattle.qoi.specs.declared.chunk.Chunk.{Chunk}
-use Rattle.qoi.specs.declared.chunk.Chunk.TheVariants.{Run, Place}
-use Rattle.qoi.specs.Qoi.{RgbaPixel, Past, previous, IsChunk, AreChunks, pixel_after, then_chunks, Each, IsPixel, pixel_eq, start, seen, hash}
+use Rattle.qoi.specs.Qoi.{Chunk, Run, Place, RgbaPixel, Past, previous, IsChunk, AreChunks, pixel_after, then_chunks, Each, IsPixel, pixel_eq, start, seen, hash}
 use Rattle.qoi.specs.Runs.{last_by, runs_by}
 use Rattle.qoi.specs.Written.{IsAllowedAfter, IsFullBefore, RunsFollowFull, WrittenBy, noted, rank, IsFirst, IsChoice}
-use Rattle.qoi.specs.Styles.{is_run, names}
+use Rattle.qoi.specs.Styles.{Reference, is_run, names}
 use Rattle.qoi.proofs.format.ChunkSteps.{all_append, previous_repeats, repeats_after, right_from, full_other, full_before, then_other, then_chunks-append, each_append}
 use Rattle.std.proofs.lemmas.Bool.{cond-true, cond-false}
 use Rattle.std.specs.List.{AllByRecursion}
@@ -15,7 +13,6 @@ use Rattle.qoi.proofs.format.SamePixels.{cases_pixel, hash_below, pixel_eq-from,
 use Rattle.qoi.proofs.encoding.lists.NotedPixels.{noted_seen}
 use Rattle.qoi.proofs.encoding.coder.Spelled.{first_is}
 use Rattle.qoi.specs.WrittenList.{first_chunk, chosen, list_after}
-use Rattle.qoi.specs.declared.types.Style.TheVariants.{Reference}
 use Rattle.qoi.proofs.encoding.lists.WrittenOnce.{choice_unique}
 
 -- a run of any length may follow the list

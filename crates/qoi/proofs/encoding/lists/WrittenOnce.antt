@@ -2,9 +2,7 @@
 -- pixel.
 use Rattle.std.proofs.Common.{◌≡◌, ◌⊎◌, inl, inr, ℕ, zero, suc, ◌+◌, ◌-◌, false, ◌/◌, ◌%◌, ◌<◌, ◌≤◌, List, [], ◌∷◌, ◌++◌, length, replicate, refl, sym, ap, ◌∙◌, arith, append_assoc}
 use Rattle.std.proofs.lemmas.List.{append_cancel_left, length-replicate, length-append, replicate-append-replicate}
-use Rattle.qoi.specs.declared.chunk.Chunk.{Chunk}
-use Rattle.qoi.specs.declared.chunk.Chunk.TheVariants.{Diff, Luma, Run, Rgb, Rgba}
-use Rattle.qoi.specs.Qoi.{RgbaPixel, Past, previous, hash, IsChunk, AreChunks, pixel_after, times, then_chunk, after_diff, after_luma, Each}
+use Rattle.qoi.specs.Qoi.{Chunk, Diff, Luma, Run, Rgb, Rgba, RgbaPixel, Past, previous, hash, IsChunk, AreChunks, pixel_after, times, then_chunk, after_diff, after_luma, Each}
 use Rattle.qoi.specs.Written.{noted, rank, IsFirst, IsChoice, GivesFresh, IsAllowedAfter, RunsFollowFull, WrittenBy}
 use Rattle.qoi.proofs.format.SamePixels.{cases_pixel}
 use Rattle.qoi.specs.Styles.{is_run}

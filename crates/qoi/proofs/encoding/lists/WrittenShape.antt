@@ -3,9 +3,7 @@
 use Rattle.std.proofs.Common.{◌≡◌, inl, inr, ℕ, ◌+◌, ◌*◌, ◌<◌, ◌≤◌, List, [], ◌∷◌, ◌++◌, length, reverse, refl, sym, ap, ◌∙◌, eqb, add-mul, arith}
 use Rattle.std.proofs.lemmas.List.{reverse-reverse, length-append, length-replicate}
 use Rattle.std.proofs.lemmas.Bool.{cond_both}
-use Rattle.qoi.specs.declared.chunk.Chunk.{Chunk}
-use Rattle.qoi.specs.declared.chunk.Chunk.TheVariants.{Place, Diff, Luma, Run, Rgb, Rgba}
-use Rattle.qoi.specs.Qoi.{RgbaPixel, Past, previous, start, seen, hash, IsChunk, AreChunks, bytes_of, chunk_bytes, times, then_chunk, then_chunks, meaning, Each}
+use Rattle.qoi.specs.Qoi.{Chunk, Place, Diff, Luma, Run, Rgb, Rgba, RgbaPixel, Past, previous, start, seen, hash, IsChunk, AreChunks, bytes_of, chunk_bytes, times, then_chunk, then_chunks, meaning, Each}
 use Rattle.qoi.specs.Raw.{AreOpaque, HasChannels}
 use Rattle.qoi.specs.Written.{IsAllowedAfter, WrittenBy}
 use Rattle.qoi.proofs.format.SamePixels.{same_pixel}

@@ -1,13 +1,11 @@
 -- The file of an image, from one state to the next, and whole pixels of raw bytes.
 use Rattle.std.proofs.Common.{◌≡◌, inl, ℕ, ◌*◌, ◌/◌, ◌%◌, ◌<◌, ◌≤◌, List, [], ◌++◌, length, length-append, arith, Option, refl, sym, ap, ◌∙◌, append_assoc, subst, None}
 use Rattle.std.proofs.Math.Nat.{mul-mod_left}
-use Rattle.qoi.specs.declared.header.Header.{Header}
-use Rattle.qoi.specs.declared.types.Channels.{Channels}
-use Rattle.qoi.specs.declared.types.Style.{Style}
+use Rattle.qoi.specs.Styles.{Style}
 use Rattle.qoi.specs.declared.encode.chunks.Pending.{Pending}
 use Rattle.qoi.specs.declared.encode.pixels.Pixels.{Pixels}
 use Rattle.qoi.specs.declared.encode.piece.TheConstants.{SPARE}
-use Rattle.qoi.specs.Qoi.{AreBytes, start, channels_number, pixel_count, header_bytes, chunk_bytes, end_marker}
+use Rattle.qoi.specs.Qoi.{Header, Channels, AreBytes, start, channels_number, pixel_count, header_bytes, chunk_bytes, end_marker}
 use Rattle.qoi.specs.Raw.{IsChannels, pixels_of, image_byte_count}
 use Rattle.qoi.specs.inner.Coder.{pixels_in, CoderAfter}
 use Rattle.qoi.specs.WrittenList.{written_list}

@@ -2,9 +2,7 @@
 -- in a row.
 use Rattle.std.proofs.Common.{◌≡◌, ℕ, Bool, true, false, not, ◌&&◌, ◌==◌, if◌then◌else◌, List, [], ◌∷◌, ◌++◌, length, drop, Option, Some, refl, sym, ap, ◌∙◌, subst, arith, length-append}
 use Rattle.std.proofs.lemmas.Bool.{and_parts, cond_both, eqb-true, eq-eqb, true≢false}
-use Rattle.qoi.specs.declared.chunk.Chunk.{Chunk}
-use Rattle.qoi.specs.declared.chunk.Chunk.TheVariants.{Place, Run}
-use Rattle.qoi.specs.Qoi.{RgbaPixel, Past, previous, seen, hash, IsChunk, AreChunks, bytes_of, chunk_bytes, then_chunk, then_chunks, Each}
+use Rattle.qoi.specs.Qoi.{Chunk, Place, Run, RgbaPixel, Past, previous, seen, hash, IsChunk, AreChunks, bytes_of, chunk_bytes, then_chunk, then_chunks, Each}
 use Rattle.qoi.specs.Written.{IsAllowedAfter}
 use Rattle.qoi.specs.Regular.{NamesPixelThere}
 use Rattle.qoi.specs.Styles.{fresh_next, some_fresh, names, is_placed, place_for, placed_after}

@@ -2,17 +2,13 @@
 use Rattle.std.specs.List.{AllByRecursion}
 use Rattle.std.proofs.Common.{◌≡◌, ◌≢◌, ℕ, List, [], ◌∷◌, ◌++◌, length, reverse, None, refl, sym, ap, ◌∙◌, subst, arith, ◌+◌, ◌*◌, ◌≤◌}
 use Rattle.std.proofs.lemmas.List.{length-reverse}
-use Rattle.qoi.specs.declared.chunk.Chunk.{Chunk}
-use Rattle.qoi.specs.declared.chunk.Chunk.TheVariants.{Place}
-use Rattle.qoi.specs.declared.types.Style.{Style}
-use Rattle.qoi.specs.declared.types.Style.TheVariants.{Reference, Places, Tight}
 use Rattle.qoi.specs.Raw.{HasChannels}
 use Rattle.qoi.specs.Shortest.{floor, slack}
 use Rattle.qoi.specs.Tight.{floor0}
-use Rattle.qoi.specs.Qoi.{RgbaPixel, IsPixel, AreChunks, chunk_bytes, Reaches, meaning, then_chunks}
+use Rattle.qoi.specs.Qoi.{Chunk, Place, RgbaPixel, IsPixel, AreChunks, chunk_bytes, Reaches, meaning, then_chunks}
 use Rattle.qoi.specs.Written.{IsChoice, WrittenBy, Written}
 use Rattle.qoi.specs.Regular.{Regular}
-use Rattle.qoi.specs.Styles.{choice_in, in_style, placed_after, WrittenIn}
+use Rattle.qoi.specs.Styles.{Style, Reference, Places, Tight, choice_in, in_style, placed_after, WrittenIn}
 use Rattle.qoi.specs.WrittenList.{chosen, list_after, written_list}
 use Rattle.qoi.proofs.encoding.styles.PlacedLists.{placed_chunks, placed_then, placed_length, placed_regular, placed_apart}
 use Rattle.qoi.proofs.encoding.styles.TightChoice.{tight_chooses}

@@ -2,13 +2,9 @@
 -- fresh pixel after it.
 use Rattle.std.proofs.Common.{◌≡◌, ℕ, zero, suc, ◌+◌, ◌*◌, ◌/◌, ◌%◌, true, false, not, Bool, ◌&&◌, nat_eq, nat_lt, ◌<◌, ◌⊎◌, inl, inr, if◌then◌else◌, List, [], ◌∷◌, ◌++◌, replicate, Option, Some, refl, sym, ap, ◌∙◌, arith, append_assoc}
 use Rattle.std.proofs.lemmas.Bool.{lt-ltb, ne_eqb}
-use Rattle.qoi.specs.declared.chunk.Chunk.{Chunk}
-use Rattle.qoi.specs.declared.chunk.Chunk.TheVariants.{Place, Run}
-use Rattle.qoi.specs.declared.types.Style.{Style}
-use Rattle.qoi.specs.declared.types.Style.TheVariants.{Reference, Places, Tight}
-use Rattle.qoi.specs.Qoi.{RgbaPixel, Past, previous, hash, pixel_after, then_chunk}
+use Rattle.qoi.specs.Qoi.{Chunk, Place, Run, RgbaPixel, Past, previous, hash, pixel_after, then_chunk}
 use Rattle.qoi.specs.Runs.{last_by, runs_by}
-use Rattle.qoi.specs.Styles.{is_run, fresh_next, has_pixel, some_fresh, names, place_for, placed_after, styled}
+use Rattle.qoi.specs.Styles.{Style, Reference, Places, Tight, is_run, fresh_next, has_pixel, some_fresh, names, place_for, placed_after, styled}
 use Rattle.qoi.specs.inner.Coder.{single_chunk, last_chunk}
 use Rattle.qoi.proofs.format.ChunkSteps.{previous_repeats, repeats_after, then_other}
 use Rattle.qoi.proofs.encoding.coder.CoderTable.{fresh_repeats}

@@ -3,17 +3,14 @@ use Rattle.std.proofs.Common.{◌≡◌, ◌≢◌, ◌⊎◌, inl, inr, ℕ, ze
 use Rattle.std.specs.List.{find, range_with_len}
 use Rattle.std.proofs.lemmas.Option.{same_Some}
 use Rattle.std.proofs.lemmas.Bool.{cases_eq, cond-true, cond-false, ne_eqb, true≢false}
-use Rattle.qoi.specs.declared.chunk.Chunk.{Chunk}
-use Rattle.qoi.specs.declared.chunk.Chunk.TheVariants.{Place}
-use Rattle.qoi.specs.Qoi.{RgbaPixel, IsPixel, Past, pixel_eq, blank, positions, previous, seen, hash, IsChunk}
+use Rattle.qoi.specs.Qoi.{Chunk, Place, RgbaPixel, IsPixel, Past, pixel_eq, blank, positions, previous, seen, hash, IsChunk}
 use Rattle.qoi.specs.Written.{IsFirst}
-use Rattle.qoi.specs.Styles.{names}
+use Rattle.qoi.specs.Styles.{Tight, names}
 use Rattle.qoi.specs.Tight.{first_and_fresh, is_unseen, least_unseen, IsTightChoice}
 use Rattle.qoi.specs.inner.Table.{first_blank}
 use Rattle.qoi.proofs.format.SamePixels.{cases_pixel, hash_below, pixel_eq-from, pixel_eq-true, pixel_eq-ne}
 use Rattle.qoi.proofs.encoding.coder.Spelled.{first_is}
 use Rattle.qoi.specs.WrittenList.{first_chunk, place_or, chosen}
-use Rattle.qoi.specs.declared.types.Style.TheVariants.{Tight}
 use Rattle.qoi.proofs.encoding.lists.WrittenExists.{SeenOrFirst, by_first, Chooses}
 use Rattle.qoi.proofs.encoding.lists.WrittenOnce.{first_unique}
 

@@ -2,8 +2,7 @@
 use Rattle.std.specs.Prelude.{◌≡◌, ◌≢◌, List, slice_index}
 use Rattle.qoi.specs.declared.encode.block.steps.Changes.{Changes}
 use Rattle.qoi.specs.declared.encode.block.planes.Planes.{Planes}
-use Rattle.qoi.specs.declared.types.Style.{Style}
-use Rattle.qoi.specs.declared.types.Style.TheVariants.{Tight}
+use Rattle.qoi.specs.Styles.{Style, Tight}
 use Rattle.qoi.specs.Qoi.{RgbaPixel, pixel}
 use Rattle.qoi.specs.inner.block.Lanes.{fresh_marks, State, NoneBlank, lanes_of}
 use Rattle.qoi.specs.inner.block.Vectors.{AreChanges}

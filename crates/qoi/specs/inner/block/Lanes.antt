@@ -1,9 +1,8 @@
 -- Sixteen pixels, a block, in lanes: the bytes of the chunk that gives each after the one before it,
 -- and the state between two pixels with repeats that are still to be written.
 use Rattle.std.specs.Prelude.{ℕ, Bool, ◌+◌, ◌*◌, ◌%◌, ◌&&◌, ◌||◌, ◌==◌, nat_lt, List, [], ◌∷◌, take, if◌then◌else◌, ◌≢◌, suc, true, false, ◌++◌}
-use Rattle.qoi.specs.Qoi.{RgbaPixel, IsPixel, hash, Past, pixel_eq, blank, seen, bytes_of}
-use Rattle.qoi.specs.declared.chunk.Chunk.TheVariants.{Run}
-use Rattle.qoi.specs.declared.types.Style.{Style}
+use Rattle.qoi.specs.Qoi.{Run, RgbaPixel, IsPixel, hash, Past, pixel_eq, blank, seen, bytes_of}
+use Rattle.qoi.specs.Styles.{Style}
 use Rattle.qoi.specs.inner.Coder.{single_chunk}
 use Rattle.qoi.specs.WrittenList.{steps, diff_steps, luma_steps}
 

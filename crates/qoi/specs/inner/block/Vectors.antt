@@ -7,8 +7,7 @@ use Rattle.qoi.specs.declared.encode.block.planes.Planes.{Planes}
 use Rattle.qoi.specs.declared.encode.block.steps.Changes.{Changes}
 use Rattle.qoi.specs.declared.encode.block.spelling.Fits.{Fits}
 use Rattle.qoi.specs.declared.encode.block.spelling.Spelled.{Spelled}
-use Rattle.qoi.specs.declared.types.Style.{Style}
-use Rattle.qoi.specs.declared.types.Style.TheVariants.{Reference, Places, Tight}
+use Rattle.qoi.specs.Styles.{Style, Reference, Places, Tight}
 use Rattle.qoi.specs.Qoi.{RgbaPixel, hash, IsPixel}
 use Rattle.qoi.specs.inner.block.Lanes.{Lane, mask, step_of, same_alpha, fits_diff, fits_luma, is_rep, first_of, size_of, goes_on, second_of, State, lanes_of, IsLane}
 use Rattle.qoi.specs.inner.block.Planes.{AreSixteen}

@@ -2,12 +2,9 @@
 ghost use Rattle.std.specs.Prelude.{◌≡◌, ℕ, ◌+◌, ◌-◌, ◌*◌, ◌/◌, ◌<◌, ◌≤◌, List, ◌++◌, ◌⊎◌, max, min, length, drop, Some, Ok, Err, false, IsOk, IfOk, IfErr, OnOk, IsErrOf};
 ghost use Rattle.qoi.specs.Decoded.{HasRefusedFile};
 ghost use Rattle.qoi.specs.Images.{front_image, file_image};
-ghost use Rattle.qoi.specs.Qoi.{channels_number, header_of, header_size, pixel_count, IsValid};
+ghost use Rattle.qoi.specs.Qoi.{Error, Header, Channels, channels_number, header_of, header_size, pixel_count, IsValid};
 ghost use Rattle.qoi.specs.Reading.{StandsAhead};
 ghost use Rattle.qoi.specs.Rectangles.{rectangle};
-ghost use Rattle.qoi.specs.declared.error.Error.{Error};
-ghost use Rattle.qoi.specs.declared.header.Header.{Header};
-ghost use Rattle.qoi.specs.declared.types.Channels.{Channels};
 ghost use Rattle.qoi.specs.pieces.PixelReader.{pixels_left, HasRows};
 ghost use Rattle.qoi.specs.pieces.RowIndex.{file_decoder, row_size, ArePlaces, ReadsFile, IsRowIndex, IsDecoderOf};
 

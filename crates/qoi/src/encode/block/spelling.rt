@@ -2,8 +2,7 @@
 //! specification 1.0, "Chunks"). A repeat has a run's byte, and size 0 unless a fresh pixel follows.
 ghost use Rattle.std.specs.Prelude.{◌≡◌, ◌<◌, ℕ, Bool, List, map, IsTrue};
 ghost use Rattle.qoi.specs.Qoi.{RgbaPixel, IsPixel, run_max, hash};
-ghost use Rattle.qoi.specs.declared.types.Style.{Style};
-ghost use Rattle.qoi.specs.declared.types.Style.TheVariants.{Reference};
+ghost use Rattle.qoi.specs.Styles.{Style, Reference};
 ghost use Rattle.qoi.specs.inner.block.Vectors.{firsts_in, sizes, counts, AreFull, AreBy, AreMasks, ArePlanesBy, AreFits, AreChanges, IsBlock, HasSpelled};
 ghost use Rattle.qoi.specs.inner.block.Lanes.{Lane, mask, step_of, diff_of, as_diff, as_luma, same_alpha, fits_luma, first_of, second_of, size_of, State, lanes_of, is_rep};
 ghost use Rattle.qoi.specs.inner.block.Planes.{AreSixteen};

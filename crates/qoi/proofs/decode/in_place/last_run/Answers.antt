@@ -1,7 +1,6 @@
 -- The first copies of the run fill the output.
 use Rattle.std.proofs.Common.{◌-◌, ◌++◌, length, slice_index, arith, refl, ap, ◌∙◌}
-use Rattle.qoi.specs.declared.chunk.Chunk.TheVariants.{Run}
-use Rattle.qoi.specs.Qoi.{bytes_of}
+use Rattle.qoi.specs.Qoi.{Run, bytes_of}
 use Rattle.qoi.proofs.decoding.InPlace.{piece_ends, next_taken, times_rest}
 use Rattle.qoi.proofs.decoding.PieceSteps.{piece_stops}
 use Rattle.qoi.proofs.decode.in_place.last_run.Goals as goal

@@ -1,7 +1,7 @@
 -- A small image, from the first chunk on, and then the marker.
 use Rattle.std.proofs.Common.{◌+◌, Some, true, length, arith}
 use Rattle.std.proofs.lemmas.Result.{IfErr-weaker, IfOk-weaker}
-use Rattle.qoi.specs.declared.error.Error.TheVariants.{UnexpectedBufferEnd}
+use Rattle.qoi.specs.Qoi.{UnexpectedBufferEnd}
 use Rattle.qoi.proofs.decoding.Progress.{reads_rest, refuses_slice, reads_all_of, refuses_all_of}
 use Rattle.qoi.proofs.decode.slice.slice_image.Goals as goal
 

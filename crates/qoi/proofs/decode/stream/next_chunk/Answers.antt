@@ -3,7 +3,7 @@ use Rattle.std.proofs.Common.{◌≡◌, ℕ, ◌<◌, ◌≤◌, ◌⊎◌, inl
 use Rattle.std.specs.Io.KnownBytes.{Consumes}
 use Rattle.std.proofs.lemmas.Bool.{cases_lt}
 use Rattle.std.proofs.lemmas.Bool.Decides.{nat_tests}
-use Rattle.qoi.specs.declared.chunk.Chunk.TheVariants.{Luma}
+use Rattle.qoi.specs.Qoi.{Luma}
 use Rattle.qoi.specs.Verdicts.{IsPartOfChunk}
 use Rattle.std.proofs.KnownBytes.{Consumes-nil, Consumes-trans}
 use Rattle.qoi.proofs.format.PartOfChunk.{part_empty}

@@ -3,10 +3,9 @@ use Rattle.std.proofs.Common.{◌≡◌, ◌≢◌, [], inl, inr, Some, ℕ, ◌
 use Rattle.std.proofs.lemmas.List.{take-take, drop-drop}
 use Rattle.std.specs.List.{slice_get}
 use Rattle.std.proofs.lemmas.Bool.{eq-eqb}
-use Rattle.qoi.specs.declared.types.Style.TheVariants.{Places}
 use Rattle.qoi.specs.Qoi.{RgbaPixel, IsPixel, hash, Past}
 use Rattle.qoi.specs.Raw.{IsChannels, AreOpaque}
-use Rattle.qoi.specs.Styles.{names, style_of}
+use Rattle.qoi.specs.Styles.{Places, names, style_of}
 use Rattle.qoi.specs.inner.block.Lanes.{State, group_bytes, lanes_of, mask, step_of, fits_diff, fits_luma, same_alpha, size_by, lane_of, is_rep, goes_on}
 use Rattle.qoi.specs.inner.block.Vectors.{sizes}
 use Rattle.qoi.specs.inner.Coder.{held_in, kept_bytes, Ahead}

@@ -3,11 +3,10 @@
 use Rattle.std.proofs.Common.{◌≡◌, ℕ, zero, suc, Some, ◌+◌, ◌*◌, ◌<◌, ◌≤◌, ◌&&◌, nat_eq, nat_lt, List, ◌++◌, replicate, refl, sym, ap, ◌∙◌, arith, append_assoc, inl, inr, ◌-◌, ◌%◌, ◌/◌, take, drop, subst}
 use Rattle.std.proofs.lemmas.Bool.{le-ltb, lt-ltb, ne_eqb}
 use Rattle.std.specs.List.{slice_get}
-use Rattle.qoi.specs.declared.chunk.Chunk.TheVariants.{Run}
+use Rattle.qoi.specs.Styles.{Style}
 use Rattle.qoi.specs.declared.encode.carry.Carry.{Carry}
 use Rattle.qoi.specs.declared.encode.coder.LastPixel.{LastPixel}
-use Rattle.qoi.specs.declared.types.Style.{Style}
-use Rattle.qoi.specs.Qoi.{RgbaPixel, chunk_bytes}
+use Rattle.qoi.specs.Qoi.{Run, RgbaPixel, chunk_bytes}
 use Rattle.qoi.specs.inner.block.Block.{last_pixel}
 use Rattle.qoi.specs.inner.BlockLoop.{InBlocks}
 use Rattle.qoi.proofs.format.ChunkSteps.{previous_repeats}

@@ -2,11 +2,10 @@
 use Rattle.std.proofs.Common.{◌≡◌, ℕ, List, ◌++◌, ◌-◌, ◌%◌, ◌<◌, inl, inr, length, sym, ap, ◌∙◌, arith, subst}
 use Rattle.std.proofs.lemmas.Bool.{true≢false, cases_lt}
 use Rattle.std.proofs.lemmas.Result.{err_from_is_err_and}
-use Rattle.qoi.specs.declared.types.Style.{Style}
 use Rattle.qoi.specs.Qoi.{channels_number}
 use Rattle.qoi.specs.Raw.{pixels_of}
 use Rattle.qoi.specs.writers.Writes.{WroteBut}
-use Rattle.qoi.specs.Styles.{style_of}
+use Rattle.qoi.specs.Styles.{Style, style_of}
 use Rattle.qoi.specs.inner.Coder.{pixels_in, kept_bytes, CoderBetween}
 use Rattle.qoi.proofs.encoding.piece.BytesAhead.{CoderGoes, then_on, then_breaks, sent_on, sent_part, room_kept, still_ready}
 use Rattle.qoi.proofs.encoding.piece.ImagePieces.{bytes_in, few_bytes, fewer_bytes, whole_ahead}

@@ -2,8 +2,7 @@
 use Rattle.std.proofs.Common.{◌∙◌, arith, ◌≡◌, ℕ, ◌+◌, ◌*◌, ◌/◌, ◌%◌, ◌<◌, List, [], ◌∷◌, take, map, ap}
 use Rattle.std.specs.Int.{byte_at}
 use lib.Lanes.{number_l, digits_l}
-use Rattle.qoi.specs.declared.header.Header.{Header}
-use Rattle.qoi.specs.Qoi.{magic_number, channels_number, colorspace_number, header_bytes}
+use Rattle.qoi.specs.Qoi.{Header, magic_number, channels_number, colorspace_number, header_bytes}
 use Rattle.qoi.proofs.encoding.stores.Shuffles.{at, four_bytes}
 use Rattle.qoi.proofs.header.Header.encode.Goals as goal
 

@@ -1,9 +1,6 @@
 -- A header and an image behind it are a file, and conversely.
 use Rattle.std.proofs.Common.{◌≡◌, ℕ, List, ◌++◌, length, drop, Some, Ok, refl, sym, ap, ◌∙◌, subst, length-append}
-use Rattle.qoi.specs.declared.chunk.Chunk.{Chunk}
-use Rattle.qoi.specs.declared.header.Header.{Header}
-use Rattle.qoi.specs.declared.types.Channels.{Channels}
-use Rattle.qoi.specs.Qoi.{file, header_bytes, header_of, header_size, pixel_count, IsFile}
+use Rattle.qoi.specs.Qoi.{Chunk, Header, Channels, file, header_bytes, header_of, header_size, pixel_count, IsFile}
 use Rattle.qoi.specs.Verdicts.{IsWhole}
 use Rattle.qoi.specs.DecoderState.{DecoderState}
 use Rattle.qoi.specs.Decoded.{HasHeader, HasDecoded}

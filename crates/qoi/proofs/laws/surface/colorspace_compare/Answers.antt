@@ -1,6 +1,6 @@
 -- The numbers of color spaces that a hasher is fed are apart.
 use Rattle.std.proofs.Common.{refl}
-use Rattle.qoi.specs.declared.types.ColorSpace.TheVariants.{Srgb, Linear}
+use Rattle.qoi.specs.Qoi.{Srgb, Linear}
 use Rattle.std.specs.Hash.{le_bytes}
 use Rattle.qoi.proofs.laws.surface.colorspace_compare.Goals as goal
 

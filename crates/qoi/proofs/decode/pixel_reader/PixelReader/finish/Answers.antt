@@ -1,6 +1,6 @@
 -- More bytes of the image are read, until none are left.
 use Rattle.std.proofs.Common.{List, ℕ, [], ◌++◌, Bool, true, false, Option, Some, refl, sym, subst, arith}
-use Rattle.qoi.specs.declared.error.Error.{Error}
+use Rattle.qoi.specs.Qoi.{Error}
 use Rattle.qoi.specs.Decoded.{HasDecoded, HasRefused}
 use Rattle.qoi.specs.DecoderState.{DecoderState}
 use Rattle.qoi.specs.Reading.{StandsAhead}

@@ -3,11 +3,8 @@ use Rattle.std.proofs.Common.{◌≡◌, ◌++◌, List, ℕ, Option, Some, None
 use Rattle.std.proofs.lemmas.List.{length-append, length-drop, length-take, length-take-le, drop_at, drop-take, take_all}
 use Rattle.std.proofs.Math.Nat.{mul-add}
 use lib.Seq.{take-append_seam}
-use Rattle.qoi.specs.declared.error.Error.{Error}
-use Rattle.qoi.specs.declared.header.Header.{Header}
-use Rattle.qoi.specs.declared.types.Channels.{Channels}
 use Rattle.qoi.specs.Images.{front_image}
-use Rattle.qoi.specs.Qoi.{IsValid, channels_number, pixel_count}
+use Rattle.qoi.specs.Qoi.{Error, Header, Channels, IsValid, channels_number, pixel_count}
 use Rattle.qoi.specs.pieces.PixelReader.{PixelsState, HasGiven, HasRows}
 use Rattle.qoi.specs.pieces.Unread.{KeepsPixels, IsUnread}
 use Rattle.qoi.specs.inner.Chunks.{RefusesChunks}

@@ -1,7 +1,6 @@
 -- More bytes of the file's image were read, and no fewer are unread than wanted, nor more than before.
 use Rattle.std.proofs.Common.{◌≤◌, min, List, ℕ}
-use Rattle.qoi.specs.declared.header.Header.{Header}
-use Rattle.qoi.specs.declared.types.Channels.{Channels}
+use Rattle.qoi.specs.Qoi.{Header, Channels}
 use Rattle.qoi.specs.pieces.PixelReader.{pixels_left}
 use Rattle.qoi.specs.pieces.RowIndex.{ReadsFile}
 use Rattle.qoi.proofs.decode.pixel_reader.row_index.skip_to.Given as goal

@@ -5,7 +5,7 @@ use lib.Lanes.{zip2}
 use Rattle.qoi.specs.Qoi.{hash}
 use Rattle.qoi.specs.inner.block.Lanes.{Lane, mask, lanes_of, is_rep}
 use Rattle.qoi.specs.inner.block.Vectors.{counts, first_in, firsts_in}
-use Rattle.qoi.specs.declared.types.Style.TheVariants.{Reference, Places}
+use Rattle.qoi.specs.Styles.{Reference, Places}
 use Rattle.qoi.proofs.encoding.lanes.LaneTests.{themselves}
 use Rattle.qoi.proofs.encoding.blocks.SpelledBlock.{lanes_long, stands_lanes}
 use Rattle.qoi.proofs.encoding.lanes.Lanewise.{not_8}

@@ -4,7 +4,7 @@ use Rattle.std.specs.List.{AllByRecursion}
 use Rattle.qoi.specs.declared.encode.block.planes.Planes.{Planes}
 use Rattle.qoi.specs.declared.encode.block.planes.Words.{Words}
 use Rattle.qoi.specs.declared.encode.block.spelling.Spelled.{Spelled}
-use Rattle.qoi.specs.declared.types.Style.{Style}
+use Rattle.qoi.specs.Styles.{Style}
 use Rattle.qoi.specs.Qoi.{RgbaPixel, IsPixel, run_max, Past, pixel_eq}
 use Rattle.qoi.specs.inner.block.Lanes.{Lane, State, lanes_of, block_bytes, mask, fits_diff, fits_luma, same_alpha, size_by, size_of, lane_of, goes_on}
 use Rattle.qoi.specs.inner.block.Storing.{HaveCodes, HasCode, sixteen_chunks}

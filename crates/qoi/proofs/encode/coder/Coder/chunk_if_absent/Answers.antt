@@ -1,8 +1,7 @@
 -- Transparent black by the first position that holds it, or else as it is spelled out.
 use Rattle.std.proofs.Common.{◌≢◌, sym, ◌∙◌}
 use Rattle.std.proofs.lemmas.Bool.{true≢false}
-use Rattle.qoi.specs.declared.chunk.Chunk.TheVariants.{Place}
-use Rattle.qoi.specs.Qoi.{seen, hash, blank}
+use Rattle.qoi.specs.Qoi.{Place, seen, hash, blank}
 use Rattle.qoi.proofs.encoding.coder.CoderTable.{place_bytes, spelled_out}
 use Rattle.qoi.proofs.encoding.styles.TightChoice.{blank_chosen, spelled_chosen}
 use Rattle.qoi.proofs.encode.coder.Coder.chunk_if_absent.Goals as goal

@@ -1,13 +1,11 @@
 -- The chunk is chosen by the table.
 use Rattle.std.proofs.Common.{◌≡◌, inl, inr, ◌≢◌, ◌/◌, ◌^◌, refl, sym, ap, ◌∙◌, arith, subst, take, ◌++◌, [], ◌∷◌, if◌then◌else◌}
 use lib.Lanes.{digits_l}
-use Rattle.qoi.specs.declared.types.Style.TheVariants.{Reference, Places, Tight}
-use Rattle.qoi.specs.Qoi.{Past, IsPixel, hash, seen}
+use Rattle.qoi.specs.Qoi.{Place, Past, IsPixel, hash, seen}
 use Rattle.qoi.specs.Runs.{runs_by}
-use Rattle.qoi.specs.Styles.{has_pixel}
+use Rattle.qoi.specs.Styles.{Reference, Places, Tight, has_pixel}
 use Rattle.qoi.specs.inner.Coder.{held_in, kept_bytes}
 use Rattle.std.proofs.lemmas.Bool.{eq-eqb}
-use Rattle.qoi.specs.declared.chunk.Chunk.TheVariants.{Place}
 use Rattle.qoi.specs.inner.Table.{Holds}
 use Rattle.qoi.proofs.format.SamePixels.{hash_below}
 use Rattle.qoi.proofs.format.SeenTable.{holds_again}

@@ -1,7 +1,6 @@
 -- The rest was refused.
 use Rattle.std.proofs.Common.{◌≡◌, ◌-◌, length, inl, inr, ap, ◌∙◌, subst, arith}
-use Rattle.qoi.specs.declared.error.Error.TheVariants.{InvalidImageLength}
-use Rattle.qoi.specs.declared.header.Header.{Header}
+use Rattle.qoi.specs.Qoi.{InvalidImageLength, Header}
 use Rattle.qoi.specs.Raw.{image_byte_count}
 use Rattle.qoi.specs.pieces.PixelWriter.{HasTaken}
 use Rattle.qoi.proofs.decoding.Refusals.{handed_on}

@@ -1,8 +1,7 @@
 -- Before the first raw byte.
 use Rattle.std.proofs.Common.{[], ◌++◌, ◌≡◌, length, refl, sym, ap, ◌∙◌, subst, arith, append-nil}
 use Rattle.std.specs.Io.KnownBytes.{Appends}
-use Rattle.qoi.specs.declared.header.Header.{Header}
-use Rattle.qoi.specs.Qoi.{header_bytes, IsValid}
+use Rattle.qoi.specs.Qoi.{Header, header_bytes, IsValid}
 use Rattle.qoi.specs.Raw.{image_byte_count}
 use Rattle.qoi.specs.declared.encode.pixel_writer.kept.Kept.{Kept}
 use Rattle.qoi.specs.EncoderState.{EncoderState}

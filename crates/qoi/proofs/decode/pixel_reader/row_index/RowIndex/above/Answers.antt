@@ -1,7 +1,6 @@
 -- The place is one of the index; and all pixels come after the first row.
 use Rattle.std.proofs.Common.{◌≡◌, ◌≤◌, ◌-◌, ◌*◌, ◌∙◌, Ok, ap, subst, length, arith}
-use Rattle.qoi.specs.declared.header.Header.{Header}
-use Rattle.qoi.specs.Qoi.{channels_number, pixel_count}
+use Rattle.qoi.specs.Qoi.{Header, channels_number, pixel_count}
 use Rattle.qoi.proofs.decoding.Places.{goes_on_in_file, goes_on_left, place_within}
 use Rattle.qoi.proofs.decoding.RowIndexes.{place_found, enough_left, reads_first, first_left}
 use Rattle.qoi.proofs.decode.pixel_reader.row_index.RowIndex.above.Goals as goal

@@ -1,8 +1,7 @@
 -- The image is that of the file, of so many bytes, in the file's own channels.
 use Rattle.std.proofs.Common.{◌≡◌, Some, IfOk, sym, ap, subst, drop}
-use Rattle.qoi.specs.declared.header.Header.{Header}
 use Rattle.qoi.specs.Images.{file_image, front_image, behind_header}
-use Rattle.qoi.specs.Qoi.{header_size}
+use Rattle.qoi.specs.Qoi.{Header, header_size}
 use Rattle.qoi.specs.pieces.PixelReader.{HasRows}
 use Rattle.qoi.specs.pieces.RowIndex.{file_decoder, row_size}
 use Rattle.qoi.proofs.decoding.RowIndexes.{image_size}

@@ -1,8 +1,7 @@
 -- The reader stands before the row that many bytes stand behind, and an image of an index isn't refused.
 use Rattle.std.proofs.Common.{◌≡◌, ◌≤◌, ◌∙◌, ◌-◌, ◌*◌, List, ℕ, Some, Ok, drop, ap, subst, arith}
-use Rattle.qoi.specs.declared.header.Header.{Header}
 use Rattle.qoi.specs.DecoderState.{DecoderState}
-use Rattle.qoi.specs.Qoi.{channels_number, header_of, header_size}
+use Rattle.qoi.specs.Qoi.{Header, channels_number, header_of, header_size}
 use Rattle.qoi.specs.pieces.PixelReader.{pixels_left, HasRows}
 use Rattle.qoi.specs.pieces.RowIndex.{file_decoder, row_size, ReadsFile}
 use Rattle.qoi.proofs.decoding.RowIndexes.{at_row, index_whole}
