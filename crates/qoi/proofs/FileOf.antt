@@ -4,7 +4,6 @@ use Rattle.std.proofs.Math.Nat.{mul_comm}
 use lib.Seq.{take-append_seam}
 use Rattle.qoi.specs.Qoi.{Header, Chunk, AreBytes, channels_number, header_bytes, pixel_count, IsValid, RgbaPixel, bytes_of, chunk_bytes, Reaches, meaning, file, file_pixels, end_marker, IsFile}
 use Rattle.qoi.specs.Raw.{IsChannels, output, HasChannels, image_byte_count}
-use Rattle.qoi.specs.EncoderState.{EncoderState}
 use Rattle.qoi.specs.Written.{Written}
 use Rattle.qoi.specs.Regular.{Regular}
 use Rattle.qoi.specs.Shortest.{floor}
@@ -14,9 +13,10 @@ use Rattle.qoi.specs.WrittenList.{written_list}
 use Rattle.qoi.proofs.encoding.coder.CoderSteps.{all_bytes}
 use Rattle.qoi.specs.Encoded.{max_file_len, image_header, image_pixels, image_file, Spans, IsNearShortest, IsFileBy, IsAsReference, IsShortIn, IsReadBack, IsFileOf, IsShortest}
 use Rattle.std.specs.Prelude.{Option, drop, Ok}
+use Rattle.qoi.specs.Writers.{AppendsBeginning}
 use Rattle.std.specs.Io.KnownBytes.{Appends}
-use Rattle.qoi.specs.writers.Writes.{AppendsBeginning}
 use Rattle.qoi.specs.Sent.{HasFileLength, MakesFile, PutsFile, SendsFile, SendsPart}
+use Rattle.qoi.specs.EncoderState.{EncoderState}
 use Rattle.qoi.proofs.format.ChunkSteps.{length-bytes_of}
 use Rattle.qoi.proofs.format.WholePixels.{by_channels, take_whole}
 use Rattle.qoi.proofs.decoding.Ahead.{stands_after}
@@ -122,14 +122,14 @@ module _ (h : Header) (raw : List ℕ) (valid : IsValid h) (size : length raw �
         let most = style_upper style image each cs has w in
         let size_is = length-file h cs in
         let least : (others : List Chunk) → Spans h raw others → Regular others → floor image + 22 ≤ length (file h others)
-        = λ others s regular. omega (arith, lower image others s.covers.0 regular s.covers.1, length-file h others) in
+        = λ others s regular. omega (arith, lower image others s.covers regular, length-file h others) in
         record {
-          floor_is_below = λ others s regular. lower image others s.covers.0 regular s.covers.1;
+          floor_is_below = λ others s regular. lower image others s.covers regular;
           near_floor = omega arith;
           near_others = λ others s regular. omega (arith, least others s regular);
           four_at_most = λ others s regular. grind (arith, least others s regular, slack_most image each, channels);
           none_shorter = λ other others s regular. omega (arith, least others s regular, slack_opens image each other);
-          all_regular = λ no_blank others s. no_blank_regular image others (subst (λ n. Reaches n others) (sym count) s.reaches) s.covers.1 no_blank;
+          all_regular = λ no_blank others s. no_blank_regular image others (subst (λ n. Reaches n others) (sym count) s.reaches) s.covers no_blank;
         }
 
     -- except in style Tight the list is regular, and as long as that of `Written`
@@ -148,7 +148,7 @@ module _ (h : Header) (raw : List ℕ) (valid : IsValid h) (size : length raw �
   short_in Tight cs w =
       let size_is = length-file h cs in
       let exact = style_exact image cs w in
-      record { floor0_is = omega arith; shortest = λ others s. omega (arith, lower0 image others s.covers.0 s.covers.1, length-file h others) }
+      record { floor0_is = omega arith; shortest = λ others s. omega (arith, lower0 image others s.covers, length-file h others) }
 
   -- the list that is written
   list_is : (style : Style) → AreBytes raw → WrittenIn style (image_pixels h raw) (written_list style (image_pixels h raw))
@@ -185,7 +185,7 @@ file_spans style h raw bytes f =
     let image = image_pixels h raw in
     let e = f.is_file.encoded in
     record {
-      covers = (style_chunks style image e.cs e.written, ([], style_means style image e.cs e.written ∙ sym (append-nil image)));
+      covers = (style_chunks style image e.cs e.written, [], style_means style image e.cs e.written ∙ sym (append-nil image));
       reaches = style_reaches style image (pixel_count h) e.cs e.written (count h raw f.is_file.valid f.is_file.size);
     }
 

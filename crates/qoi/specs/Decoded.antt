@@ -9,7 +9,7 @@ use Rattle.qoi.specs.Encoded.{IsFileOf}
 use Rattle.qoi.specs.Qoi.{Error, UnexpectedBufferEnd, InvalidPadding, Channels, Chunk, Header, channels_number, pixel_count, chunk_max, marker_size, header_size, run_max, header_of, IsFile, file}
 use Rattle.qoi.specs.Raw.{without_fourth, HasImageLength, capped_byte_count}
 use Rattle.qoi.specs.Verdicts.{IsWhole, AreCut, AreWrong}
-use Rattle.qoi.specs.Decoding.{DecodesFile, ReadsImage, RefusesImage, RefusesFile, TakesHeader, RefusesStreamHeader, least_byte_count}
+use Rattle.qoi.specs.Decoding.{DecodesFile, ReadsImage, RefusesImage, RefusesFile, TakesBytes, TakesHeader, RefusesTakenHeader, least_byte_count}
 use Rattle.qoi.specs.EncoderState.{EncoderState}
 use Rattle.qoi.specs.Sent.{MakesFile}
 use Rattle.qoi.specs.Tiles.{HasTile}
@@ -39,7 +39,7 @@ pub record HasHeader {R : Type 0} (d : DecoderState R) (old new : Option (List �
 -- The header of a stream was refused with the error e. How the stream is left isn't said.
 pub record HasRefusedHeader (old : Option (List ℕ)) (e : Error) : Type 0 where
   -- `header_of` refuses the fourteen bytes at the front with e, or e is an i/o error
-  pub why : RefusesStreamHeader old e
+  pub why : (new : Option (List ℕ)) × TakesBytes old new (λ taken. RefusesTakenHeader taken e)
   -- a valid header is refused only for a fault of the reader
   pub fault : IfSome old (λ bytes. (h : Header) → header_of bytes ≡ Ok h → IsIoError e)
 

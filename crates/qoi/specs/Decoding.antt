@@ -1,5 +1,5 @@
 -- What decoding an image returns and takes, and what its refusals say.
-use Rattle.std.specs.Prelude.{◌≡◌, ◌≢◌, ℕ, ◌+◌, ◌-◌, ◌/◌, ◌<◌, ◌⊎◌, List, [], ◌++◌, length, take, drop, Bool, true, false, Option, Result, Ok, Err, IfSome}
+use Rattle.std.specs.Prelude.{◌≡◌, ℕ, ◌+◌, ◌-◌, ◌/◌, ◌<◌, ◌⊎◌, List, [], ◌++◌, length, take, drop, Bool, true, false, Option, Result, Ok, Err, IfSome}
 use Rattle.std.specs.Io.KnownBytes.{Consumes, Keeps}
 use Rattle.qoi.specs.Qoi.{Error, OutputBufferTooSmall, UnexpectedBufferEnd, InvalidPadding, IoError, Header, Chunk, header_size, run_max, AreChunks, chunk_bytes, Reaches, meaning, IsFile, marker_size, end_marker, file, file_pixels, channels_number, header_bytes, header_of, pixel_count, IsValid}
 use Rattle.qoi.specs.Raw.{output}
@@ -18,37 +18,25 @@ pub record ReadsImage (file_channels channels n : ℕ) (old new : Option (List �
 abbrev pub TakesBytes : Option (List ℕ) → Option (List ℕ) → (List ℕ → Type 0) → Type 0
 TakesBytes old new P = (taken : List ℕ) × Consumes old new taken × P taken
 
--- why the bytes after the chunks are refused: fewer than eight, or eight other than the end marker
-abbrev pub RefusesMarker : List ℕ → Error → Type 0
-RefusesMarker bytes UnexpectedBufferEnd = length bytes < marker_size
-RefusesMarker bytes InvalidPadding = (eight : List ℕ) × (rest : List ℕ) × (length eight ≡ marker_size) × (eight ≢ end_marker) × (bytes ≡ eight ++ rest)
-RefusesMarker bytes _ = ⊥
-
--- why bytes in memory are refused: cut is UnexpectedBufferEnd, and wrong is InvalidPadding
+-- Why bytes in memory are refused: cut is UnexpectedBufferEnd, and wrong is InvalidPadding. For 0 pixels
+-- no chunk comes: the end marker had to stand at the front.
 abbrev pub RefusesBytes : ℕ → List ℕ → Error → Type 0
 RefusesBytes n bytes UnexpectedBufferEnd = AreCut n bytes
 RefusesBytes n bytes InvalidPadding = AreWrong n bytes
 RefusesBytes n bytes _ = ⊥
 
--- why a stream is refused, by the bytes that were taken
+-- why a stream is refused, by the bytes that were taken: they are cut, or wrong and end with the eight
 abbrev pub RefusesTaken : ℕ → List ℕ → Error → Type 0
 RefusesTaken n taken (IoError e) = AreCut n taken
 RefusesTaken n taken InvalidPadding = AreWrongThen n taken []
 RefusesTaken n taken _ = ⊥
-
--- why the bytes after a stream's chunks are refused, by those that were taken
-abbrev pub RefusesTakenMarker : List ℕ → Error → Type 0
-RefusesTakenMarker taken (IoError e) = length taken < marker_size
-RefusesTakenMarker taken InvalidPadding = (length taken ≡ marker_size) × (taken ≢ end_marker)
-RefusesTakenMarker taken _ = ⊥
 
 -- how many bytes the chunks of n pixels and the end marker have at least: a chunk has a byte or
 -- more, and gives 62 pixels at most
 abbrev pub least_byte_count : ℕ → ℕ
 least_byte_count n = (n + (run_max - 1)) / run_max + marker_size
 
--- A refused image. In memory nothing is taken, and the bytes ahead are cut or wrong. On a stream
--- the bytes that were taken are cut, or they are wrong and end with the eight bytes.
+-- a refused image: in memory nothing is taken; on a stream the bytes that were taken say why
 abbrev pub RefusesImage : Bool → ℕ → Option (List ℕ) → Option (List ℕ) → Error → Type 0
 RefusesImage true n old new e = Keeps old new × IfSome old (λ bytes. RefusesBytes n bytes e)
 RefusesImage false n old new e = TakesBytes old new (λ taken. RefusesTaken n taken e)
@@ -59,23 +47,17 @@ abbrev pub RefusesTakenHeader : List ℕ → Error → Type 0
 RefusesTakenHeader taken (IoError e) = length taken < header_size
 RefusesTakenHeader taken e = (length taken ≡ header_size) × (header_of taken ≡ Err e)
 
--- What reading a header returns and takes. A success takes the fourteen bytes of a valid header. In
--- memory a refusal takes nothing, and is that of `header_of` on the bytes ahead; on a stream it is
--- that of `header_of` on the fourteen that were taken, or an i/o error after fewer.
-abbrev pub ReadsHeader : Bool → Option (List ℕ) → Option (List ℕ) → Result Header Error → Type 0
-ReadsHeader in_memory old new (Ok h) = (taken : List ℕ) × Consumes old new taken × (length taken ≡ header_size) × (header_of taken ≡ Ok h)
-    × (taken ≡ header_bytes h) × IsValid h
-ReadsHeader true old new (Err e) = Keeps old new × IfSome old (λ bytes. header_of bytes ≡ Err e)
-ReadsHeader false old new (Err e) = TakesBytes old new (λ taken. RefusesTakenHeader taken e)
-
 -- the fourteen bytes of a valid header were taken
 abbrev pub TakesHeader : Option (List ℕ) → Option (List ℕ) → Header → Type 0
-TakesHeader old new h = ReadsHeader false old new (Ok h)
+TakesHeader old new h = (taken : List ℕ) × Consumes old new taken × (length taken ≡ header_size) × (header_of taken ≡ Ok h)
+    × (taken ≡ header_bytes h) × IsValid h
 
--- why a stream's header is refused: `header_of` refuses the fourteen bytes at its front with e, or
--- e is an i/o error
-abbrev pub RefusesStreamHeader : Option (List ℕ) → Error → Type 0
-RefusesStreamHeader old e = (new : Option (List ℕ)) × ReadsHeader false old new (Err e)
+-- What reading a header returns and takes. In memory a refusal takes nothing, and is that of
+-- `header_of` on the bytes ahead.
+abbrev pub ReadsHeader : Bool → Option (List ℕ) → Option (List ℕ) → Result Header Error → Type 0
+ReadsHeader in_memory old new (Ok h) = TakesHeader old new h
+ReadsHeader true old new (Err e) = Keeps old new × IfSome old (λ bytes. header_of bytes ≡ Err e)
+ReadsHeader false old new (Err e) = TakesBytes old new (λ taken. RefusesTakenHeader taken e)
 
 -- The bytes are a file with this header and then the rest, and `out` are its pixels in the file's
 -- channels. The bytes begin with no other file, so what follows never changes the reading.
@@ -97,3 +79,8 @@ RefusesBuffer size required e = (size < required) × (e ≡ OutputBufferTooSmall
 abbrev pub RefusesFile : List ℕ → Error → Type 0
 RefusesFile bytes e = (header_of bytes ≡ Err e)
     ⊎ ((h : Header) × (header_of bytes ≡ Ok h) × RefusesBytes (pixel_count h) (drop header_size bytes) e)
+
+-- No file stands at the front of the bytes, and they are refused with the error e. It is no
+-- abbreviation, so that the prover passes it on whole.
+unfoldable pub IsNoFile : List ℕ → Error → Type 0
+IsNoFile bytes e = RefusesFile bytes e

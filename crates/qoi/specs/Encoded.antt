@@ -1,11 +1,12 @@
 -- The file of an image (QOI specification 1.0, "File Format" and "Data").
 use Rattle.std.specs.Prelude.{◌≡◌, ◌≢◌, ℕ, ◌+◌, ◌-◌, ◌*◌, ◌/◌, ◌%◌, ◌^◌, ◌≤◌, List, ◌∷◌, ◌++◌, drop, length, min, slice_get, slice_set, IsTrue, Result, Ok, Err, ◌==◌, if◌then◌else◌}
 use Rattle.std.specs.List.{AllByRecursion}
+use Rattle.std.specs.Result.{result_and, result_map_both}
 use Rattle.qoi.specs.declared.types.Channels.TheVariants.{Rgb}
 use Rattle.qoi.specs.Qoi.{Error, InvalidImageLength, Channels, ColorSpace, Srgb, Header, Chunk, Place, header_size, marker_size, colorspace_at, channels_number, channels_of, colorspace_number, pixel_count, tried_header, header_of, IsValid, RgbaPixel, blank, chunk_bytes, Reaches, file}
 use Rattle.qoi.specs.Raw.{pixels_of, image_byte_count}
 use Rattle.qoi.specs.Written.{Written}
-use Rattle.qoi.specs.Styles.{Style, Reference, Places, Tight, WrittenIn}
+use Rattle.qoi.specs.Styles.{Style, Tight, WrittenIn}
 use Rattle.qoi.specs.WrittenList.{written_list}
 use Rattle.qoi.specs.Tight.{floor0}
 use Rattle.qoi.specs.Regular.{Regular, Covers}
@@ -26,22 +27,18 @@ max_file_len h = max_len h.width h.height (channels_number h.channels)
 abbrev pub IsFileLength : Header → ℕ → Type 0
 IsFileLength h n = (header_size + 1 + marker_size ≤ n) × (n ≤ max_file_len h)
 
--- a header with these channels, or their refusal
-abbrev pub with_number : Header → Result Channels Error → Result Header Error
-with_number h (Err e) = Err e
-with_number h (Ok channels) = Ok (record h { channels = channels })
+-- the channels of an image of this size that has these raw bytes; or the refusal of the length, or of the
+-- number of channels, given as 255 if it is greater
+abbrev pub measured_channels : List ℕ → ℕ → ℕ → Result Channels Error
+measured_channels raw width height =
+    if length raw % (width * height) == 0 then channels_of (min (length raw / (width * height)) 255)
+    else Err (InvalidImageLength (length raw) width height)
 
--- the header with the channels that the raw bytes have, or its first refusal
-abbrev pub measured_header : List ℕ → Result Header Error → Result Header Error
-measured_header raw (Err e) = Err e
-measured_header raw (Ok h) =
-    if length raw % pixel_count h == 0 then with_number h (channels_of (min (length raw / pixel_count h) 255))
-    else Err (InvalidImageLength (length raw) h.width h.height)
-
--- The header of an image of raw bytes, or the first refusal: the dimensions, the length, the number
--- of channels, given as 255 if it is greater.
+-- the header of an image of raw bytes; or the first refusal, of the dimensions or of the channels
 abbrev pub image_header : List ℕ → ℕ → ℕ → Result Header Error
-image_header raw width height = measured_header raw (tried_header width height Rgb Srgb)
+image_header raw width height =
+    let found : Channels → Header = (λ channels. record { width = width; height = height; channels = channels; colorspace = Srgb }) in
+    result_and (tried_header width height Rgb Srgb) (result_map_both found (λ e. e) (measured_channels raw width height))
 
 -- the pixels of an image's raw bytes
 abbrev pub image_pixels : Header → List ℕ → List RgbaPixel
@@ -115,9 +112,8 @@ pub record IsShortest (h : Header) (raw : List ℕ) (n : ℕ) : Type 0 where
 
 -- how short the file is in a style
 abbrev pub IsShortIn : Style → Header → List ℕ → List ℕ → Type 0
-IsShortIn Reference h raw bytes = IsAsReference Reference h raw bytes
-IsShortIn Places h raw bytes = IsAsReference Places h raw bytes
 IsShortIn Tight h raw bytes = IsShortest h raw (length bytes)
+IsShortIn style h raw bytes = IsAsReference style h raw bytes
 
 -- What is read of the file, as functions of its bytes: its header, its image, and what follows it.
 pub record IsReadBack (h : Header) (raw bytes : List ℕ) : Type 0 where

@@ -1,6 +1,7 @@
 -- The texts that errors print.
-use Rattle.std.specs.Prelude.{ℕ, List, ◌++◌, Option, Some, None, codes, slice_index}
+use Rattle.std.specs.Prelude.{ℕ, List, ◌++◌, Option, Some, None, codes}
 use Rattle.std.specs.Int.{w32, to_be_bytes}
+use Rattle.std.specs.List.{join_by}
 use Rattle.std.specs.Fmt.{decimal}
 use Rattle.qoi.specs.Qoi.{Error, InvalidMagic, InvalidChannels, InvalidColorSpace, InvalidImageDimensions, InvalidImageLength, OutputBufferTooSmall, UnexpectedBufferEnd, InvalidPadding, IoError, OutOfMemory, magic_number}
 
@@ -8,14 +9,9 @@ use Rattle.qoi.specs.Qoi.{Error, InvalidMagic, InvalidChannels, InvalidColorSpac
 abbrev pub size_text : ℕ → ℕ → List ℕ
 size_text width height = decimal width ++ (codes "x" ++ decimal height)
 
--- byte i of a number of 32 bits, the highest one first
-abbrev pub byte_text : ℕ → ℕ → List ℕ
-byte_text n i = decimal (slice_index (to_be_bytes w32 n) i)
-
--- four bytes, the highest one first, as a list in brackets
+-- the four bytes of a number, the highest one first, as a list in brackets
 abbrev pub bytes_text : ℕ → List ℕ
-bytes_text n = codes "[" ++ (byte_text n 0 ++ (codes ", " ++ (byte_text n 1
-    ++ (codes ", " ++ (byte_text n 2 ++ (codes ", " ++ (byte_text n 3 ++ codes "]")))))))
+bytes_text n = codes "[" ++ (join_by decimal (codes ", ") (to_be_bytes w32 n) ++ codes "]")
 
 -- The text of an error, but for the words of an i/o error, which are the library's own.
 abbrev pub printed : Error → Option (List ℕ)

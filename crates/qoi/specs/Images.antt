@@ -1,7 +1,7 @@
--- The image at the front of bytes, as a function of them. If no image stands there, the value says
--- nothing.
-use Rattle.std.specs.Prelude.{ℕ, zero, suc, ◌-◌, List, [], ◌∷◌, length, take, drop, slice_index, nat_lt, nat_le, if◌then◌else◌, Result, Ok, Err}
-use Rattle.qoi.specs.Qoi.{Error, Channels, Header, Chunk, Place, Diff, Luma, Run, Rgb, Rgba, positions, luma_tag, run_tag, rgb_tag, rgba_tag, Past, bytes_of, chunk_bytes, then_chunk, meaning, marker_size, header_size, header_of, channels_number, pixel_count}
+-- The image and the file at the front of bytes, as functions of them. If none stands there, the value
+-- says nothing.
+use Rattle.std.specs.Prelude.{◌≡◌, ℕ, zero, suc, ◌+◌, ◌-◌, List, [], ◌∷◌, ◌++◌, length, take, drop, slice_index, nat_lt, nat_le, if◌then◌else◌, Result, Ok, Err}
+use Rattle.qoi.specs.Qoi.{Error, Channels, Header, Chunk, Place, Diff, Luma, Run, Rgb, Rgba, positions, luma_tag, run_tag, rgb_tag, rgba_tag, Past, bytes_of, chunk_bytes, then_chunk, meaning, marker_size, header_size, header_of, channels_number, pixel_count, IsFile, file}
 use Rattle.qoi.specs.Raw.{output}
 
 -- the chunk that the bytes begin with
@@ -51,3 +51,16 @@ file_rest bytes = behind_header front_rest (header_of bytes) (drop header_size b
 -- the raw bytes, in these channels, of the file that the bytes begin with
 unfoldable pub file_image_in : Channels → List ℕ → List ℕ
 file_image_in channels bytes = behind_header (front_image channels) (header_of bytes) (drop header_size bytes)
+
+-- A file stands at the front of the bytes, and `file_rest` follows it.
+pub record BeginsWithFile (bytes : List ℕ) : Type 0 where
+  pub header : Header
+  pub cs : List Chunk
+  pub is_file : IsFile header cs
+  pub split : bytes ≡ file header cs ++ file_rest bytes
+  pub size : length (file header cs) + length (file_rest bytes) ≡ length bytes
+
+-- A file with this header stands at the front of the bytes, and n bytes follow it. It is no
+-- abbreviation, so that the prover passes it on whole.
+unfoldable pub HasFrontFile : Header → ℕ → List ℕ → Type 0
+HasFrontFile h n bytes = (cs : List Chunk) × (rest : List ℕ) × IsFile h cs × (bytes ≡ file h cs ++ rest) × (length rest ≡ n)

@@ -8,7 +8,6 @@ pub mod Decoding
 pub mod DecoderState
 pub mod Reading
 pub mod Images
-pub mod FrontFile
 pub mod Decoded
 -- Rows and rectangles of raw bytes.
 pub mod Rectangles
@@ -26,13 +25,12 @@ pub mod Encoded
 pub mod EncoderState
 pub mod Sent
 pub mod Tiles
-pub mod Frames
 -- Images piece by piece.
 pub mod pieces
 -- Errors and their texts.
 pub mod Errors
 pub mod ErrorText
--- Writers' calls and words.
-pub mod writers
+-- Writers' relations.
+pub mod Writers
 -- States of loops.
 pub mod inner

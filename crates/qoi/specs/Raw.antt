@@ -64,7 +64,7 @@ HasImageLength n bytes = (length bytes ≡ n) × (3 ≤ length bytes)
 
 -- `image_byte_count`, or the greatest usize if that is less; for a valid header it never is
 abbrev pub capped_byte_count : Header → ℕ
-capped_byte_count h = min (pixel_count h * channels_number h.channels) (2 ^ 64 - 1)
+capped_byte_count h = min (image_byte_count h) (2 ^ 64 - 1)
 
 -- every pixel is opaque
 abbrev pub AreOpaque : List RgbaPixel → Type 0

@@ -1,4 +1,5 @@
--- What a decoder reads if the bytes that stand ahead of it are known.
+-- What a decoder reads if the bytes that stand ahead of it are known. What is `unfoldable` is no
+-- abbreviation, so that the prover passes it on whole.
 use Rattle.std.specs.Prelude.{◌≡◌, ◌⊎◌, ℕ, List, ◌++◌, take}
 use Rattle.qoi.specs.Qoi.{Error, UnexpectedBufferEnd, InvalidPadding, Channels, Header, Chunk, channels_number, header_bytes, IsValid, pixel_count, meaning}
 use Rattle.qoi.specs.Raw.{output}
@@ -12,17 +13,15 @@ pub record IsImage (channels : Channels) (bytes : List ℕ) (h : Header) (rest o
   pub whole : IsWhole (pixel_count h) bytes cs rest
   pub out_is : out ≡ output (channels_number h.channels) (channels_number channels) (take (pixel_count h) (meaning cs))
 
--- An image of this header, and the end marker, stand at the front of the bytes. It is no
--- abbreviation, so that the prover passes it on whole; nor is IsDecoderOf.
+-- an image of this header, and the end marker, stand at the front of the bytes
 unfoldable pub StandsAhead : Header → List ℕ → Type 0
 StandsAhead h bytes = (cs : List Chunk) × (rest : List ℕ) × IsWhole (pixel_count h) bytes cs rest
 
--- The bytes end before an image of this header does, or within the eight bytes after its chunks. It
--- is no abbreviation, so that the prover passes it on whole; nor is IsWrongAhead.
+-- the bytes end before an image of this header does, or within the eight bytes after its chunks
 unfoldable pub IsCutAhead : Header → List ℕ → Type 0
 IsCutAhead h bytes = AreCut (pixel_count h) bytes
 
--- An image of this header stands at the front of the bytes, and eight bytes other than the end marker follow it.
+-- an image of this header stands at the front of the bytes, and eight bytes other than the end marker follow it
 unfoldable pub IsWrongAhead : Header → List ℕ → Type 0
 IsWrongAhead h bytes = AreWrong (pixel_count h) bytes
 

@@ -13,10 +13,6 @@ NamesPixelThere past _ = Unit {0}
 abbrev pub Regular : List Chunk → Type 0
 Regular cs = Each NamesPixelThere [] cs
 
--- the pixels begin with those of the image
-abbrev pub Begins : List RgbaPixel → List RgbaPixel → Type 0
-Begins pixels image = (more : List RgbaPixel) × (pixels ≡ image ++ more)
-
 -- chunks whose pixels are those of the image, and then perhaps others
 abbrev pub Covers : List RgbaPixel → List Chunk → Type 0
-Covers image cs = AreChunks cs × Begins (meaning cs) image
+Covers image cs = AreChunks cs × (more : List RgbaPixel) × (meaning cs ≡ image ++ more)

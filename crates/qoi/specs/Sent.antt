@@ -3,7 +3,6 @@
 -- (`MakesFile`), `new_is` (`PutsFile`), `sent` (`SendsFile`, `SendsPart`), all (`SendsSomeFile`)
 -- and `makes` (`IsFileFor`). The other fields follow from these; callers need them at hand.
 use Rattle.std.specs.Prelude.{◌≡◌, ℕ, ◌≤◌, List, ◌++◌, take, drop, length, slice_set, Option, Some, IfSome, Ok}
-use Rattle.std.specs.Io.KnownBytes.{Appends}
 use Rattle.qoi.specs.Styles.{Style, Reference, Places, Tight}
 use Rattle.qoi.specs.Qoi.{ColorSpace, Srgb, Header, colorspace_at, colorspace_number}
 use Rattle.qoi.specs.Encoded.{image_file, image_header, IsFileLength, IsFileOf, IsShortest}
@@ -11,7 +10,8 @@ use Rattle.qoi.specs.Images.{file_image}
 use Rattle.qoi.specs.Raw.{image_byte_count}
 use Rattle.qoi.specs.EncoderState.{EncoderState, free_encoder}
 use Rattle.qoi.specs.Tiles.{HasTile}
-use Rattle.qoi.specs.writers.Writes.{AppendsBeginning}
+use Rattle.qoi.specs.Writers.{AppendsBeginning}
+use Rattle.std.specs.Io.KnownBytes.{Appends}
 
 -- The encoder's file has n bytes.
 pub record HasFileLength (e : EncoderState) (n : ℕ) : Type 0 where

@@ -1,21 +1,16 @@
 -- The fewest bytes that the pixels of an image take.
-use Rattle.std.specs.Prelude.{ℕ, zero, suc, ◌+◌, ◌%◌, List, [], ◌∷◌, Bool, false, ◌==◌, ◌&&◌, ◌||◌, if◌then◌else◌, reverse, Option, None, Some, slice_get}
-use Rattle.std.specs.List.{find}
+use Rattle.std.specs.Prelude.{ℕ, suc, ◌+◌, ◌%◌, List, [], ◌∷◌, Bool, false, ◌==◌, ◌&&◌, ◌||◌, if◌then◌else◌, reverse, Option, None, Some, slice_get}
+use Rattle.std.specs.List.{find, list_any, range_with_len}
 use Rattle.qoi.specs.Qoi.{RgbaPixel, Past, pixel_eq, start, hash, previous, seen, diff_tag, luma_tag, run_max, after_diff, after_luma}
 use Rattle.qoi.specs.Written.{fresh}
 
--- some number below n passes the test
-abbrev pub some_below : ℕ → (ℕ → Bool) → Bool
-some_below zero test = false
-some_below (suc n) test = test n || some_below n test
-
 -- some Diff gives p after q
 unfoldable pub some_diff : RgbaPixel → RgbaPixel → Bool
-some_diff q p = some_below 64 (λ d. pixel_eq (after_diff q (diff_tag + d)) p)
+some_diff q p = list_any (λ d. pixel_eq (after_diff q d) p) (range_with_len diff_tag 64)
 
 -- some Luma gives p after q
 unfoldable pub some_luma : RgbaPixel → RgbaPixel → Bool
-some_luma q p = some_below 64 (λ d. some_below 256 (λ e. pixel_eq (after_luma q (luma_tag + d) e) p))
+some_luma q p = list_any (λ d. list_any (λ e. pixel_eq (after_luma q d e) p) (range_with_len 0 256)) (range_with_len luma_tag 64)
 
 -- how many bytes the shortest chunk has that gives the fresh pixel p, if a chunk list is regular; an
 -- Rgb keeps alpha

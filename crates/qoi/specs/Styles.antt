@@ -1,5 +1,6 @@
 -- What an encoder writes in each style.
 use Rattle.std.specs.Prelude.{◌≡◌, ℕ, Bool, true, false, not, ◌==◌, ◌&&◌, if◌then◌else◌, List, [], ◌∷◌, Option, None, Some}
+use Rattle.std.specs.List.{list_any}
 pub use Rattle.qoi.specs.declared.types.Style.{Style}
 pub use Rattle.qoi.specs.declared.types.Style.TheVariants.{Reference, Places, Tight}
 use Rattle.qoi.specs.Qoi.{Chunk, Place, Run, RgbaPixel, Past, previous, hash, then_chunk}
@@ -20,14 +21,9 @@ abbrev pub fresh_next : List Chunk → Bool
 fresh_next [] = false
 fresh_next (c ∷ cs) = not (is_run c)
 
--- there is a pixel
-abbrev pub has_pixel : Past → Bool
-has_pixel [] = false
-has_pixel (p ∷ past) = true
-
--- one of them is fresh
+-- one of the pixels is fresh
 abbrev pub some_fresh : Past → Bool
-some_fresh past = has_pixel (fresh past)
+some_fresh past = list_any (λ p. true) (fresh past)
 
 -- there is a chunk, and it is this index position
 abbrev pub names : Option Chunk → ℕ → Bool
@@ -52,16 +48,14 @@ placed_after past before (c ∷ cs) = place_for past before c cs ∷ placed_afte
 
 -- how a style gives each fresh pixel
 abbrev pub choice_in : Style → Past → RgbaPixel → Chunk → Type 0
-choice_in Reference = IsChoice
-choice_in Places = IsChoice
 choice_in Tight = IsTightChoice
+choice_in _ = IsChoice
 
 -- what a style makes of a list by its choices, after these pixels and after the chunk before it, if
 -- there is one
 abbrev pub styled : Style → Past → Option Chunk → List Chunk → List Chunk
-styled Reference past before cs = cs
 styled Places past before cs = placed_after past before cs
-styled Tight past before cs = cs
+styled _ past before cs = cs
 
 -- what a style makes of that list
 abbrev pub in_style : Style → List Chunk → List Chunk

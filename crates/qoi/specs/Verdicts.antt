@@ -24,23 +24,21 @@ pub record IsCut (n : ℕ) (bytes : List ℕ) (cs : List Chunk) (part : List ℕ
   pub has : HasChunks n bytes cs part
   pub ends : ((length (meaning cs) < n) × IsPartOfChunk part) ⊎ ((n ≤ length (meaning cs)) × (length part < marker_size))
 
--- wrong: the chunks reach n pixels, and eight bytes other than the end marker follow, and then any
--- bytes
+-- wrong: the chunks reach n pixels, and eight bytes other than the end marker follow, and then the rest
 pub record IsWrong (n : ℕ) (bytes : List ℕ) (cs : List Chunk) (eight rest : List ℕ) : Type 0 where
   pub has : HasChunks n bytes cs (eight ++ rest)
   pub enough : n ≤ length (meaning cs)
   pub length_is : length eight ≡ marker_size
   pub other : eight ≢ end_marker
 
--- cut: the bytes end before n pixels, between chunks or inside one, or within the eight bytes after
--- them
+-- the bytes are cut: they end before n pixels, or within the eight bytes after them
 abbrev pub AreCut : ℕ → List ℕ → Type 0
 AreCut n bytes = (cs : List Chunk) × (part : List ℕ) × IsCut n bytes cs part
 
--- the bytes are wrong, and the rest follows the eight bytes that aren't the end marker
+-- the bytes are wrong, and the rest follows the eight that aren't the end marker
 abbrev pub AreWrongThen : ℕ → List ℕ → List ℕ → Type 0
 AreWrongThen n bytes rest = (cs : List Chunk) × (eight : List ℕ) × IsWrong n bytes cs eight rest
 
--- wrong: chunks reach n pixels, eight bytes other than the end marker follow, and then any bytes
+-- the bytes are wrong, whatever follows the eight
 abbrev pub AreWrong : ℕ → List ℕ → Type 0
 AreWrong n bytes = (rest : List ℕ) × AreWrongThen n bytes rest

@@ -19,8 +19,7 @@ rank (Diff d) = 1
 rank (Luma d e) = 2
 rank (Rgb r g b) = 3
 rank (Rgba r g b a) = 4
-rank (Place i) = 0
-rank (Run n) = 0
+rank _ = 0
 
 -- the chunk is the first of Diff, Luma, Rgb and Rgba that gives the pixel
 pub record IsFirst (past : Past) (p : RgbaPixel) (c : Chunk) : Type 0 where

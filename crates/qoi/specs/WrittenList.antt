@@ -1,11 +1,11 @@
 -- The chunk list that is written for an image in a style, as a function of its pixels. What it must
 -- be, `WrittenIn` says; `laws::writing::written_is_one` ties the two.
-use Rattle.std.specs.Prelude.{ℕ, suc, ◌+◌, ◌-◌, ◌*◌, ◌%◌, Bool, ◌==◌, if◌then◌else◌, List, [], ◌∷◌, ◌++◌, replicate, Option, None, Some}
+use Rattle.std.specs.Prelude.{ℕ, suc, ◌+◌, ◌-◌, ◌*◌, ◌%◌, Bool, ◌==◌, ◌&&◌, nat_lt, if◌then◌else◌, List, [], ◌∷◌, ◌++◌, replicate, Option, None, Some}
 use Rattle.qoi.specs.Qoi.{Chunk, Place, Diff, Luma, Run, Rgb, Rgba, RgbaPixel, Past, pixel, moved, pixel_eq, blank, previous, seen, hash, diff_tag, luma_tag}
 use Rattle.qoi.specs.Runs.{runs_by}
 use Rattle.qoi.specs.Written.{noted}
 use Rattle.qoi.specs.Tight.{least_unseen}
-use Rattle.qoi.specs.Styles.{Style, Reference, Places, Tight, in_style}
+use Rattle.qoi.specs.Styles.{Style, Tight, in_style}
 
 -- what is added to q's channels for p's; it wraps at 256
 abbrev pub steps : RgbaPixel → RgbaPixel → RgbaPixel
@@ -19,19 +19,19 @@ diff_steps s = moved s 2 2 2
 abbrev pub luma_steps : RgbaPixel → RgbaPixel
 luma_steps s = pixel ((s.r + (264 - s.g)) % 256) ((s.g + 32) % 256) ((s.b + (264 - s.g)) % 256) s.a
 
--- the steps of a Diff, cut to its bits
-abbrev pub diff_bits : RgbaPixel → RgbaPixel
-diff_bits s = pixel (s.r % 4) (s.g % 4) (s.b % 4) 0
+-- such steps fit in a Diff
+abbrev pub fits_in_diff : RgbaPixel → Bool
+fits_in_diff d = (nat_lt d.r 4 && (nat_lt d.g 4 && nat_lt d.b 4)) && d.a == 0
 
--- the steps of a Luma, cut to its bits
-abbrev pub luma_bits : RgbaPixel → RgbaPixel
-luma_bits s = pixel (s.r % 16) (s.g % 64) (s.b % 16) 0
+-- such steps fit in a Luma
+abbrev pub fits_in_luma : RgbaPixel → Bool
+fits_in_luma l = (nat_lt l.r 16 && (nat_lt l.g 64 && nat_lt l.b 16)) && l.a == 0
 
--- the Diff of such bits
+-- the Diff of such steps
 abbrev pub diff_of : RgbaPixel → Chunk
 diff_of d = Diff (diff_tag + d.r * 16 + d.g * 4 + d.b)
 
--- the Luma of such bits
+-- the Luma of such steps
 abbrev pub luma_of : RgbaPixel → Chunk
 luma_of l = Luma (luma_tag + l.g) (l.r * 16 + l.b)
 
@@ -40,13 +40,12 @@ abbrev pub spelled : Bool → Bool → Bool → RgbaPixel → RgbaPixel → Rgba
 spelled is_diff is_luma keeps d l p =
     if is_diff then diff_of d else (if is_luma then luma_of l else (if keeps then Rgb p.r p.g p.b else Rgba p.r p.g p.b p.a))
 
--- the first of Diff, Luma, Rgb and Rgba that gives p after q; steps fit if the cut leaves them as
--- they are
+-- the first of Diff, Luma, Rgb and Rgba that gives p after q
 unfoldable pub first_chunk : RgbaPixel → RgbaPixel → Chunk
 first_chunk q p =
     let small = diff_steps (steps q p) in
     let wide = luma_steps (steps q p) in
-    spelled (pixel_eq (diff_bits small) small) (pixel_eq (luma_bits wide) wide) ((steps q p).a == 0) (diff_bits small) (luma_bits wide) p
+    spelled (fits_in_diff small) (fits_in_luma wide) ((steps q p).a == 0) small wide p
 
 -- the index position of p if that holds it, else another chunk
 abbrev pub by_position : RgbaPixel → RgbaPixel → Chunk → Chunk
@@ -59,10 +58,9 @@ place_or (Some i) other = Place i
 
 -- the chunk of a fresh pixel
 abbrev pub chosen : Style → Past → RgbaPixel → Chunk
-chosen Reference past p = by_position (noted past (hash p)) p (first_chunk (previous past) p)
-chosen Places past p = by_position (noted past (hash p)) p (first_chunk (previous past) p)
 chosen Tight past p = by_position (seen past (hash p)) p
     (if pixel_eq p blank then place_or (least_unseen past) (first_chunk (previous past) p) else first_chunk (previous past) p)
+chosen style past p = by_position (noted past (hash p)) p (first_chunk (previous past) p)
 
 -- The chunks of pixels, with the chunk that `choose` gives for each fresh one. The pixels `past`
 -- and n repeats of the last of them stand before; the repeats are still to be written.

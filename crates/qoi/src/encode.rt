@@ -1,13 +1,12 @@
 //! Encoding, into buffers, vectors and writers.
 ghost use Rattle.std.specs.Prelude.{◌≡◌, ◌*◌, ◌<◌, ◌≤◌, length, ◌⊎◌, Ok, Err, IsErrOf, IsOk, IsOkUnless, IfOk, IfErr};
 ghost use Rattle.qoi.specs.Styles.{Style, Reference};
-ghost use Rattle.qoi.specs.declared.encode.piece.TheConstants.{FULL_ROOM};
 ghost use Rattle.qoi.specs.Qoi.{Header, Error, Channels, ColorSpace, IsValid, AreBytes, pixels_max};
 ghost use Rattle.qoi.specs.Raw.{image_byte_count};
-ghost use Rattle.qoi.specs.Encoded.{max_len, max_file_len, image_header, measured_header, with_number};
+ghost use Rattle.qoi.specs.Encoded.{max_len, max_file_len, image_header, measured_channels};
 ghost use Rattle.qoi.specs.Errors.{IsIoError};
-ghost use Rattle.qoi.specs.EncoderState.{EncoderState, free_encoder};
 ghost use Rattle.qoi.specs.Sent.{IsFileFor, MakesFile, PutsFile, SendsFile, SendsPart};
+ghost use Rattle.qoi.specs.EncoderState.{EncoderState, free_encoder};
 ghost use Rattle.qoi.specs.inner.Sending.{WritesImage};
 
 mod block;
@@ -39,7 +38,7 @@ use std::marker::Model;
 // The channels that an image of this size has in these raw bytes. Only a refusal takes a division.
 fn channels_found(data: &[u8], header: &Header) -> Result<Channels>
     requires { IsValid header.now }
-    ensures { with_number header.now result ≡ measured_header «data».now (Ok header.now) }
+    ensures { result ≡ measured_channels «data».now header.now.width header.now.height }
 {
     let size = data.len();
     let n_pixels = header.n_pixels();
@@ -327,11 +326,9 @@ impl<'a> Encoder<'a> {
             × SendsPart self.now (W.contents writer.old) (W.contents writer.new)) }
     {
         let mut writer = GenericWriter::new(writer);
-        let n = if self.data.len() < FEW_BYTES {
-            encode_few(&mut writer, self)?
-        } else {
-            encode_file::<_, FULL_ROOM>(&mut writer, self)?
-        };
-        Ok(n)
+        if self.data.len() < FEW_BYTES {
+            return encode_few(&mut writer, self);
+        }
+        encode_file::<_, FULL_ROOM>(&mut writer, self)
     }
 }

@@ -2,7 +2,7 @@
 //! Encoder and decoders keep their pixels as numbers (`packed`, `decode/hashed`).
 ghost use Rattle.std.specs.Prelude.{◌≡◌, ◌+◌, ◌<◌, ◌≤◌, OnOk, IfErr, ℕ, List, [], ◌∷◌, ◌++◌, length, take, drop, replicate, slice_index, slice_index_or};
 ghost use Rattle.qoi.specs.Written.{Spells};
-ghost use Rattle.qoi.specs.writers.Writes.{WroteBeginning};
+ghost use Rattle.qoi.specs.Writers.{WroteBeginning};
 ghost use Rattle.qoi.specs.Qoi.{Chunk, bytes_of, rgba, hash, positions, after_diff, after_luma, moved};
 ghost use Rattle.qoi.specs.Raw.{IsChannels};
 

@@ -1,6 +1,6 @@
 //! Helpers on slices and values.
 ghost use Rattle.std.specs.Prelude.{◌≡◌, ◌+◌, ◌≤◌, length, drop, if◌then◌else◌};
-ghost use Rattle.qoi.specs.writers.Writes.{StandsAfter};
+ghost use Rattle.qoi.specs.Writers.{StandsAfter};
 
 /// The bytes after the first `n`.
 #[inline(always)]

@@ -1,7 +1,6 @@
 //! Where the encoder writes.
 ghost use Rattle.std.specs.Prelude.{◌≡◌, ℕ, ◌+◌, ◌-◌, ◌<◌, ◌≤◌, List, [], ◌∷◌, length, OnOk, IfErr};
 ghost use Rattle.std.specs.Vec.{vec_len, vec_capacity};
-ghost use Rattle.qoi.specs.writers.Writes.{WriterLaws, WroteBeginning};
 ghost use Rattle.qoi.specs.Errors.{IsIoError};
 
 use crate::error::{Error, Result};
@@ -13,6 +12,7 @@ use std::io::{ErrorKind, Write};
 ///
 /// A caller sees to it that the capacity suffices.
 pub trait Writer: Sized {
+    ghost use Rattle.qoi.specs.Writers.{WriterLaws, WroteBeginning};
     ghost use Rattle.qoi.specs.declared.error.Error.{Error};
 
     /// `wrote a bytes b`: the writer `a` became `b` by writing the bytes.
@@ -56,12 +56,12 @@ pub struct BytesMut<'a> {
 }
 
 impl<'a> BytesMut<'a> {
-    ghost use Rattle.qoi.specs.writers.BytesMut.{BufferWrote, buffer_name, written_bytes, bytes_left};
+    ghost use Rattle.qoi.specs.Writers.{BufferWrote, written_bytes, bytes_left};
 
     /// A writer over the whole buffer, in which nothing is written yet.
     #[inline]
     pub fn new(buf: &'a mut [u8]) -> BytesMut<'a>
-        ensures same_buffer { buffer_name result ≡ buf.entry.ghost_name }
+        ensures same_buffer { result.buf.ghost_name ≡ buf.entry.ghost_name }
         ensures written { written_bytes result ≡ [] }
         ensures left { bytes_left result ≡ buf.old }
     {
@@ -88,7 +88,7 @@ impl<'a> BytesMut<'a> {
 }
 
 impl<'a> Writer for BytesMut<'a> {
-    ghost use Rattle.qoi.specs.writers.BytesMut.{BufferWrote, bytes_left, buffer_laws};
+    ghost use Rattle.qoi.specs.Writers.{BufferWrote, bytes_left, wrote_laws};
 
     ghost wrote = { BufferWrote };
 
@@ -96,7 +96,7 @@ impl<'a> Writer for BytesMut<'a> {
 
     ghost IsFault = { λ _. ⊥ };
 
-    ghost laws = { buffer_laws };
+    ghost laws = { wrote_laws _ _ _ _ };
 
     #[inline]
     fn write_one(&mut self, v: u8) -> Result<()> {
@@ -139,7 +139,7 @@ impl<'a> VecMut<'a> {
 }
 
 impl<'a> Writer for VecMut<'a> {
-    ghost use Rattle.qoi.specs.writers.VecMut.{VecWrote, vec_laws};
+    ghost use Rattle.qoi.specs.Writers.{VecWrote, wrote_laws};
 
     ghost wrote = { VecWrote };
 
@@ -147,7 +147,7 @@ impl<'a> Writer for VecMut<'a> {
 
     ghost IsFault = { λ _. ⊥ };
 
-    ghost laws = { vec_laws };
+    ghost laws = { wrote_laws _ _ _ _ };
 
     #[inline]
     fn write_one(&mut self, v: u8) -> Result<()> {
@@ -175,13 +175,11 @@ pub struct GenericWriter<'a, W> {
 }
 
 impl<'a, W: Write> GenericWriter<'a, W> {
-    ghost use Rattle.qoi.specs.writers.GenericWriter.{stream_name, stream_writer, stream_room};
-
     /// A writer that can still take the greatest `usize` of bytes.
     pub fn new(writer: &'a mut W) -> GenericWriter<'a, W>
-        ensures same_writer { stream_name result ≡ writer.entry.ghost_name }
-        ensures value { stream_writer result ≡ writer.old }
-        ensures room { stream_room result ≡ usize.MAX }
+        ensures same_writer { result.writer.ghost_name ≡ writer.entry.ghost_name }
+        ensures value { result.writer.now ≡ writer.old }
+        ensures room { result.room ≡ usize.MAX }
     {
         GenericWriter {
             writer,
@@ -191,15 +189,15 @@ impl<'a, W: Write> GenericWriter<'a, W> {
 }
 
 impl<'a, W: Write> Writer for GenericWriter<'a, W> {
-    ghost use Rattle.qoi.specs.writers.GenericWriter.{StreamWrote, stream_room, stream_laws};
+    ghost use Rattle.qoi.specs.Writers.{StreamWrote, wrote_laws};
 
     ghost wrote = { StreamWrote W.contents };
 
-    ghost room = { stream_room };
+    ghost room = { λ s. s.room };
 
     ghost IsFault = { IsIoError };
 
-    ghost laws = { stream_laws W.contents };
+    ghost laws = { wrote_laws _ _ _ _ };
 
     /// Writes by one call of `write`. A write that takes no byte is a fault of kind `WriteZero`,
     /// and an interruption is a fault.

@@ -15,7 +15,7 @@ use Rattle.qoi_tool.specs.Lines.{header_line}
 use Rattle.qoi_tool.specs.Words.{Asks, IsUsage}
 use Rattle.qoi_tool.specs.Transfers.{TakesAll, TakesCount, TakesFewer, IsIoOrMemory}
 use Rattle.qoi.specs.Errors.{IsIoError}
-use Rattle.qoi.specs.writers.Writes.{AppendsBeginning}
+use Rattle.qoi.specs.Writers.{AppendsBeginning}
 
 -- what a command takes of its input: the bytes of a header, or all
 abbrev pub Takes : Command → Option (List ℕ) → Option (List ℕ) → List ℕ → Type 0

@@ -1,7 +1,7 @@
 //! The line that tells of a fault.
 ghost use Rattle.std.specs.Prelude.{◌≡◌, ◌≤◌, length, take, Some, OnOk, OnErr, IfOk, IfSome};
 ghost use Rattle.std.specs.Io.KnownBytes.{Appends};
-ghost use Rattle.qoi.specs.writers.Writes.{AppendsBeginning};
+ghost use Rattle.qoi.specs.Writers.{AppendsBeginning};
 ghost use Rattle.qoi_tool.specs.Faults.{error_line, fault_line};
 
 use crate::Fault;

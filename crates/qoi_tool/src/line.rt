@@ -3,7 +3,7 @@ ghost use Rattle.std.specs.Prelude.{◌≡◌, ◌+◌, ◌≤◌, ◌++◌, Lis
 ghost use Rattle.std.specs.Fmt.{decimal};
 ghost use Rattle.std.specs.Io.KnownBytes.{Appends};
 ghost use Rattle.qoi_tool.specs.Lines.{header_line};
-ghost use Rattle.qoi.specs.writers.Writes.{AppendsBeginning};
+ghost use Rattle.qoi.specs.Writers.{AppendsBeginning};
 ghost use Rattle.qoi.specs.Errors.{IsIoError};
 
 use crate::transfer::write_all;

@@ -14,7 +14,7 @@ ghost use Rattle.qoi_tool.specs.declared.Fault.{Fault};
 ghost use Rattle.qoi_tool.specs.declared.command.Command.TheVariants.{Decode, DecodeInto, Encode, Info};
 ghost use Rattle.qoi_tool.specs.Words.{IsUsage};
 ghost use Rattle.qoi_tool.specs.Faults.{status_of, fault_line};
-ghost use Rattle.qoi.specs.writers.Writes.{AppendsBeginning};
+ghost use Rattle.qoi.specs.Writers.{AppendsBeginning};
 ghost use Rattle.qoi_tool.specs.Transfers.{IsIoOrMemory};
 ghost use Rattle.qoi_tool.specs.Answers.{Finishes, StopsAt, Stops, Does};
 

@@ -3,7 +3,7 @@ ghost use Rattle.std.specs.Prelude.{◌≡◌, ℕ, ◌+◌, ◌<◌, ◌≤◌,
 ghost use Rattle.std.specs.Io.KnownBytes.{Appends, Consumes, IsAtEnd, Keeps};
 ghost use Rattle.qoi_tool.specs.Transfers.{TakesAll, TakesFewer, IsIoOrMemory};
 ghost use Rattle.qoi.specs.Errors.{IsIoError};
-ghost use Rattle.qoi.specs.writers.Writes.{AppendsBeginning};
+ghost use Rattle.qoi.specs.Writers.{AppendsBeginning};
 
 use qoi::Error;
 use std::alloc::Global;

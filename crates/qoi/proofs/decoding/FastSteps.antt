@@ -1,19 +1,18 @@
 -- A chunk more, while there is room ahead.
-use Rattle.std.proofs.Common.{◌≡◌, ◌⊎◌, ℕ, ◌+◌, ◌-◌, ◌*◌, ◌/◌, ◌%◌, ◌<◌, ◌≤◌, inl, inr, List, ◌++◌, length, take, drop, get_or, Bool, true, false, cond, nat_eq, nat_le, arith, refl, sym, ap, ◌∙◌, subst, ◌∷◌, append_assoc}
+use Rattle.std.proofs.Common.{◌≡◌, ◌⊎◌, ℕ, Option, Some, None, take-append-drop, ◌+◌, ◌-◌, ◌*◌, ◌/◌, ◌%◌, ◌<◌, ◌≤◌, inl, inr, List, ◌++◌, length, take, drop, get_or, Bool, true, false, cond, nat_eq, nat_le, arith, refl, sym, ap, ◌∙◌, subst, ◌∷◌, append_assoc}
 use Rattle.std.proofs.lemmas.Bool.{cases_lt}
 use Rattle.std.proofs.lemmas.Bool.Decides.{nat_tests}
-use Rattle.std.proofs.lemmas.List.{get_or-drop, get_or-take, take-take, length-take-le, length-drop}
-use Rattle.std.proofs.Math.Seq.{take-add}
+use Rattle.std.proofs.lemmas.List.{get_or-drop, get_or-take, length-take-le, length-drop, drop-drop, drop-append-le}
+use Rattle.std.specs.Io.KnownBytes.{Consumes}
 use mir.Val.{bool_byte}
-use Rattle.qoi.specs.declared.decode.fast.Progress.{Progress}
-use Rattle.qoi.specs.Qoi.{Past, AreBytes}
+use Rattle.qoi.specs.Qoi.{Past, AreBytes, chunk_bytes}
 use Rattle.qoi.specs.Raw.{IsChannels}
-use Rattle.qoi.specs.inner.Filling.{upto, reached, filling, taken_further, HasCopies, HasFilled, HasAhead, DecodesChunk, DecoderBetween, IsFrontAfter, FastStep, FastBetween, FastChunks, IsAdvance, IsPlainTag}
+use Rattle.qoi.specs.inner.Filling.{Progress, reached, filling, taken_further, HasCopies, HasFilled, HasAhead, DecodesChunk, DecoderBetween, FastStep, FastChunks, IsAdvance, IsPlainTag}
 use Rattle.qoi.specs.inner.Hashed.{pixel_of_lanes, HoldsSeen, IsAfterShort, IsAfterFull}
 use Rattle.qoi.proofs.format.WholePixels.{by_channels, take_whole}
 use Rattle.qoi.proofs.decoding.FilledBuffer.{filled_copies, block_fits}
 use Rattle.qoi.proofs.decoding.FirstChunk.{PutsCopies, HasSize, decodes_short, decodes_full}
-use Rattle.qoi.proofs.decoding.Progress.{goes_on, taken_as}
+use Rattle.qoi.proofs.decoding.Progress.{goes_on, taken_as, split_taken}
 
 -- how many pixels a short chunk has, by its first byte and its number of output bytes
 record ShortCount (c b size : ℕ) : Type 0 where
@@ -98,17 +97,16 @@ pub fast_step : {N F room : ℕ} {bytes table table' out out' : List ℕ} (now n
     → DecodesChunk F N (take k (drop now.taken bytes)) (filling table (reached now.last now.at) out) (filling table' (reached new.last (now.at + N * count)) out'))
     → FastStep k k room bytes now table out new table' out'
 fast_step {N} {F} {bytes = bytes} {table} {table'} {out} {out'} now new count k is whole inside fits size end few put written next byte taken decodes =
-    let copies = λ (m : ℕ) (past : Past) (s : HasFilled F N m (upto out now.at) past). filled_copies F N m out out' now.at count (pixel_of_lanes new.last) past is inside fits size written s in
+    let copies = λ (m : ℕ) (past : Past) (s : HasFilled F N m out now.at past). filled_copies F N m out out' now.at count (pixel_of_lanes new.last) past is inside fits size written s in
     let ends_whole = whole_after N now.at count is whole in
     record {
-      between = λ gone n front h.
+      between = λ gone n start h.
           let first : now.next ≡ get_or (drop now.taken bytes) 0 0 = h.next_is ∙ ap (λ i. get_or bytes i 0) (omega arith) ∙ sym (get_or-drop now.taken bytes 0 0) in
           let decoded = decodes first (record { last_is = refl; table = put; filled = copies }) in
           record {
-            between = subst (λ at. DecoderBetween F N gone n (IsFrontAfter front bytes new.taken) (filling table' (reached new.last at) out')) (sym end)
+            between = subst (λ at. DecoderBetween F N gone n start (Some (drop new.taken bytes)) (filling table' (reached new.last at) out')) (sym end)
                 (goes_on {old = filling table (reached now.last now.at) out} {new = filling table' (reached new.last (now.at + N * count)) out'} is h.between inside decoded
-                (λ before is_front. ap (λ z. z ++ take k (drop now.taken bytes)) is_front ∙ append_assoc front (take now.taken bytes) (take k (drop now.taken bytes))
-                ∙ ap (λ z. front ++ z) (sym (take-add now.taken k bytes) ∙ ap (λ m. take m bytes) (sym taken))));
+                (split_taken k (ap (λ m. drop m bytes) taken ∙ sym (drop-drop k now.taken bytes))));
             next_is = next;
           };
       taken = (omega (arith, taken), omega (arith, taken));
@@ -170,7 +168,7 @@ pub step_on : {N F i j k l m n r s t : ℕ} {bytes table table' table'' out out'
     → FastStep j m s bytes middle table' out' new table'' out'' → old.taken + k ≤ new.taken → new.taken ≤ old.taken + n → new.at ≤ old.at + t
     → FastStep k n t bytes old table out new table'' out''
 step_on a b least most room = record {
-  between = λ gone n front h. b.between gone n front (a.between gone n front h);
+  between = λ gone n start h. b.between gone n start (a.between gone n start h);
   taken = (least, most);
   written = (omega (arith, a.written, b.written), room);
   whole = b.whole;
@@ -192,10 +190,16 @@ pub chunks_then : {N F : ℕ} {bytes table table' table'' out out' out'' : List 
     → FastChunks bytes middle table' out' new table'' out'' → FastChunks bytes old table out new table'' out''
 chunks_then size a b = step_on a b (omega (arith, a.taken, b.taken)) (omega (arith, a.taken, b.taken)) (omega (arith, a.written, b.written, size))
 
--- the same between chunks of other bytes that begin so
-same_front : {N F : ℕ} {gone : Past} {n : ℕ} {front bytes other table out : List ℕ} {now : Progress N F} → take now.taken bytes ≡ take now.taken other
-    → get_or bytes now.taken 0 ≡ get_or other now.taken 0 → FastBetween gone n front bytes now table out → FastBetween gone n front other now table out
-same_front {front = front} taken next h = record { between = taken_as h.between (h.between.taken ∙ ap (λ z. front ++ z) taken); next_is = h.next_is ∙ next }
+-- what follows chunks of the front of the bytes
+front_follows : (start : Option (List ℕ)) (before all bytes : List ℕ) (k from to : ℕ) → k ≤ length bytes → from ≤ k → to ≤ k → Consumes start (Some (drop from bytes)) before
+    → before ++ drop from (take k bytes) ≡ all ++ drop to (take k bytes) → Consumes start (Some (drop to bytes)) all
+front_follows None before all bytes k from to within first last taken e = tt
+front_follows (Some whole) before all bytes k from to within first last taken e =
+    taken ∙ ap (λ z. before ++ z) (parts from first) ∙ sym (append_assoc before (drop from (take k bytes)) (drop k bytes)) ∙ ap (λ z. z ++ drop k bytes) e
+    ∙ append_assoc all (drop to (take k bytes)) (drop k bytes) ∙ ap (λ z. all ++ z) (sym (parts to last))
+  where
+    parts : (i : ℕ) → i ≤ k → drop i bytes ≡ drop i (take k bytes) ++ drop k bytes
+    parts i less = ap (drop i) (sym (take-append-drop k bytes)) ∙ drop-append-le i (take k bytes) (drop k bytes) (omega (arith, less, length-take-le k bytes within))
 
 -- chunks of the front of the bytes are chunks of all of them
 pub front_chunks : {N F : ℕ} {bytes table table' out out' : List ℕ} {old new : Progress N F} (k : ℕ) → k ≤ length bytes → old.taken < k
@@ -204,9 +208,15 @@ front_chunks {bytes = bytes} {old = old} {new = new} k within first s =
     let size = length-take-le k bytes within in
     let last : new.taken < k = omega (arith, s.taken, size, first) in
     record {
-      between = λ gone n front h.
-          same_front (take-take new.taken k bytes (omega (arith, last))) (get_or-take k bytes new.taken 0 last)
-          (s.between gone n front (same_front (sym (take-take old.taken k bytes (omega (arith, first)))) (sym (get_or-take k bytes old.taken 0 first)) h));
+      between = λ gone n start h.
+          let before = chunk_bytes h.between.after.cs in
+          let t = s.between gone n (Some (before ++ drop old.taken (take k bytes)))
+          (record { between = taken_as h.between refl; next_is = h.next_is ∙ sym (get_or-take k bytes old.taken 0 first) }) in
+          record {
+            between = taken_as t.between
+                (front_follows start before (chunk_bytes t.between.after.cs) bytes k old.taken new.taken within (omega (arith, first)) (omega (arith, last)) h.between.after.taken t.between.after.taken);
+            next_is = t.next_is ∙ get_or-take k bytes new.taken 0 last;
+          };
       taken = (s.taken.0, omega (arith, last, within));
       written = s.written;
       whole = s.whole;

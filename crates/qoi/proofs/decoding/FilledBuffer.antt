@@ -5,7 +5,7 @@ use Rattle.std.proofs.lemmas.Bool.{cases_lt}
 use Rattle.std.proofs.lemmas.Grind.{flat_map-append}
 use Rattle.qoi.specs.Qoi.{RgbaPixel, Past}
 use Rattle.qoi.specs.Raw.{IsChannels, pixel_bytes, output}
-use Rattle.qoi.specs.inner.Filling.{Buffer, upto, HasWritten, HasFilled}
+use Rattle.qoi.specs.inner.Filling.{HasWritten, HasFilled}
 use Rattle.qoi.proofs.format.WholePixels.{by_channels, length-output, take-output, take_whole}
 use Rattle.qoi.proofs.format.ChunkSteps.{repeats_after, reverse-replicate}
 
@@ -32,7 +32,7 @@ output-append f c more past = ap (output f c) (reverse-append more past) ∙ fla
 -- pixels written at the offset after the others, whatever stands after them
 filled_list : (f c n : ℕ) (out new : List ℕ) (at : ℕ) (past : Past) (ps : List RgbaPixel) → IsChannels c → at < length out → at + c * length ps ≤ length out
     → length new ≡ length out → take (at + c * length ps) new ≡ take at out ++ output f c ps
-    → HasFilled f c n (upto out at) past → HasFilled f c n (upto new (at + c * length ps)) (reverse ps ++ past)
+    → HasFilled f c n out at past → HasFilled f c n new (at + c * length ps) (reverse ps ++ past)
 filled_list f c n out new at past ps is inside fits size e h =
     let at_now = counts c n (length past) (length ps) at (length out) is h.room h.at_is inside fits in
     let bytes = output f c ps in
@@ -50,8 +50,8 @@ filled_list f c n out new at past ps is inside fits size e h =
     }
 
 -- if the buffer is full, further pixels change nothing
-filled_full : (f c n : ℕ) (out : List ℕ) (at : ℕ) (past more : Past) → IsChannels c → HasFilled f c n (upto out at) past → length out ≤ at
-    → HasFilled f c n (upto out at) (more ++ past)
+filled_full : (f c n : ℕ) (out : List ℕ) (at : ℕ) (past more : Past) → IsChannels c → HasFilled f c n out at past → length out ≤ at
+    → HasFilled f c n out at (more ++ past)
 filled_full f c n out at past more is h full =
     let all = full_counts c n (length past) at (length out) is h.room h.at_is full in
     let size = length-append more past in
@@ -70,8 +70,8 @@ filled_full f c n out at past more is h full =
 
 -- copies of a pixel that were written count as filled
 pub filled_copies : (f c n : ℕ) (out new : List ℕ) (at count : ℕ) (p : RgbaPixel) (past : Past) → IsChannels c → at < length out
-    → at + c * count ≤ length out → length new ≡ length out → HasWritten f c (upto out at) (upto new (at + c * count)) (replicate count p)
-    → HasFilled f c n (upto out at) past → HasFilled f c n (upto new (at + c * count)) (replicate count p ++ past)
+    → at + c * count ≤ length out → length new ≡ length out → HasWritten f c out at new (at + c * count) (replicate count p)
+    → HasFilled f c n out at past → HasFilled f c n new (at + c * count) (replicate count p ++ past)
 filled_copies f c n out new at count p past is inside fits size w h =
     let many : length (replicate count p) ≡ count = length-replicate count p in
     let listed = filled_list f c n out new at past (replicate count p) is inside (rw many fits) size (rw many w.same) h in
@@ -101,21 +101,21 @@ copies_end c at count len is = by_channels (λ k. len % k ≡ 0 → at % k ≡ 0
 
 -- of `count` copies, the ones past those that fit change nothing
 pub filled_end : (f c n : ℕ) (out : List ℕ) (at all count : ℕ) (p : RgbaPixel) (past : Past) → IsChannels c → all ≤ count → (all ≡ count) ⊎ (length out ≤ at)
-    → HasFilled f c n (upto out at) (replicate all p ++ past) → HasFilled f c n (upto out at) (replicate count p ++ past)
-filled_end f c n out at all count p past is le (inl e) h = subst (λ k. HasFilled f c n (upto out at) (replicate k p ++ past)) e h
+    → HasFilled f c n out at (replicate all p ++ past) → HasFilled f c n out at (replicate count p ++ past)
+filled_end f c n out at all count p past is le (inl e) h = subst (λ k. HasFilled f c n out at (replicate k p ++ past)) e h
 filled_end f c n out at all count p past is le (inr full) h =
     let sum : count - all + all ≡ count = omega arith in
-    subst (λ z. HasFilled f c n (upto out at) z) (repeats_after (count - all) all p past ∙ ap (λ k. replicate k p ++ past) sum)
+    subst (λ z. HasFilled f c n out at z) (repeats_after (count - all) all p past ∙ ap (λ k. replicate k p ++ past) sum)
     (filled_full f c n out at (replicate all p ++ past) (replicate (count - all) p) is h full)
 
 -- if the buffer is full it has the bytes of the first n pixels
-pub filled_all : (f c n : ℕ) (b : Buffer) (past : Past) → IsChannels c → HasFilled f c n b past → length b.out ≤ b.at
-    → (n ≤ length past) × (b.out ≡ output f c (take n (reverse past)))
-filled_all f c n b past is h full =
-    let all = full_counts c n (length past) b.at (length b.out) is h.room h.at_is full in
+pub filled_all : (f c n : ℕ) (out : List ℕ) (at : ℕ) (past : Past) → IsChannels c → HasFilled f c n out at past → length out ≤ at
+    → (n ≤ length past) × (out ≡ output f c (take n (reverse past)))
+filled_all f c n out at past is h full =
+    let all = full_counts c n (length past) at (length out) is h.room h.at_is full in
     let enough : n ≤ length (reverse past) = omega (arith, all.0, length-reverse past) in
-    let at_all : b.at ≡ c * n = all.1 ∙ h.room in (
+    let at_all : at ≡ c * n = all.1 ∙ h.room in (
       all.0,
-      sym (take_whole b.at b.out (sym all.1)) ∙ h.same ∙ ap (λ k. take k (output f c (reverse past))) at_all
+      sym (take_whole at out (sym all.1)) ∙ h.same ∙ ap (λ k. take k (output f c (reverse past))) at_all
           ∙ take-output f c n (reverse past) is enough,
     )

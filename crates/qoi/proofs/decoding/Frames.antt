@@ -8,10 +8,8 @@ use Rattle.qoi.specs.Qoi.{Header, Chunk, channels_number, file, file_pixels, IsF
 use Rattle.qoi.specs.Sent.{SendsFile}
 use Rattle.qoi.specs.Raw.{output}
 use Rattle.qoi.specs.Decoding.{DecodesFile}
-use Rattle.qoi.specs.Images.{file_image, file_rest}
-use Rattle.qoi.specs.FrontFile.{BeginsWithFile}
-use Rattle.qoi.specs.Frames.{AreFrames, none, more}
-use Rattle.qoi.specs.Tiles.{HasTile}
+use Rattle.qoi.specs.Images.{file_image, file_rest, BeginsWithFile}
+use Rattle.qoi.specs.Tiles.{HasTile, AreFrames, none, more}
 use Rattle.qoi.proofs.decoding.Ahead.{file_ahead}
 use Rattle.qoi.proofs.decoding.FrontImage.{file_image_is, file_rest_is, decodes_file}
 use Rattle.qoi.proofs.decoding.Tiles.{file_put, sent_known, tile_kept, tile_within}

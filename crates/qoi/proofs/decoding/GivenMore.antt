@@ -3,17 +3,13 @@ use Rattle.std.proofs.Common.{◌≡◌, ℕ, ◌+◌, ◌-◌, ◌*◌, ◌/◌
 use Rattle.std.proofs.lemmas.List.{length-take-le, take_at}
 use Rattle.std.proofs.lemmas.Result.{MatchResult-weaker}
 use borrow.Rule.Slice.PartMut.{put_mid, mid_of, mid_len, same_len_mid}
-use Rattle.qoi.specs.Qoi.{Error}
-use Rattle.qoi.specs.declared.decode.pixel_reader.unread.Unread.{Unread}
-use Rattle.qoi.specs.declared.decode.pixel_reader.unread.Refused.{Refused}
-use Rattle.qoi.specs.declared.decode.reader.Conversion.{Conversion}
+use Rattle.qoi.specs.Qoi.{Error, channels_number}
 use Rattle.qoi.specs.declared.types.Channels.TheVariants.{Rgb, Rgba}
-use Rattle.qoi.specs.inner.Chunks.{RefusesFilling}
-use Rattle.qoi.specs.declared.decode.reached.Reached.{Reached}
+use Rattle.qoi.specs.inner.Chunks.{Conversion, RefusesFilling}
 use Rattle.qoi.specs.Raw.{IsChannels}
-use Rattle.qoi.specs.inner.Filling.{HasWritten, upto, reached, filling}
+use Rattle.qoi.specs.inner.Filling.{Reached, HasWritten, reached, filling}
 use Rattle.qoi.specs.inner.Hashed.{pixel_of_lanes}
-use Rattle.qoi.specs.pieces.Unread.{kept_raw, bytes_left, KeepsPixels, IsUnread, GivesMore, RefusesMore, Asks, Steps, StepsIn, TakesInPlace, IsInPlace}
+use Rattle.qoi.specs.pieces.Unread.{Refused, Unread, kept_raw, bytes_left, KeepsPixels, IsUnread, GivesMore, RefusesMore, Asks, Steps, TakesInPlace, IsInPlace}
 use Rattle.qoi.proofs.decoding.PieceSteps.{Lent, gives, kept_long, minus_whole, piece_lent, piece_read, placed_most, read_two}
 use Rattle.qoi.proofs.format.WholePixels.{by_channels}
 use Rattle.qoi.proofs.decoding.PixelPieces.{in_three}
@@ -72,7 +68,8 @@ refused_after one two = record { refused = λ n start given h. two.refused n sta
 
 -- a step into three channels of a file of four
 pub steps_in_three : (in_memory : Bool) (ahead rest : Option (List ℕ)) (old new : Unread) (out : List ℕ) (result : Result ℕ Refused) (k : Conversion)
-    → k.channels ≡ Rgb → k.file_channels ≡ Rgba → Steps 3 3 in_memory ahead rest old new out result → StepsIn k in_memory ahead rest old new out result
+    → k.channels ≡ Rgb → k.file_channels ≡ Rgba → Steps 3 3 in_memory ahead rest old new out (λ size. size) result
+    → Steps (channels_number k.file_channels) (channels_number k.channels) in_memory ahead rest old new out (λ size. size) result
 steps_in_three in_memory ahead rest old new out result k three four h =
     rw (three, four) (MatchResult-weaker result h
     (λ size m. record {
@@ -108,12 +105,12 @@ gives_after_none {f} {c} {ahead} {middle} {rest} {old} {between} {new} {out} {si
 -- a piece in place gives what it filled
 pub gives_placed : {f c : ℕ} {ahead rest : Option (List ℕ)} {p : Unread} {before out table : List ℕ} {to : Reached} {run : ℕ} (now behind : List ℕ)
     → IsChannels c → Asks c p (length before) → 512 ≤ length before → length before + 256 ≤ p.undecoded → length out ≡ length before
-    → HasWritten f c (upto before 0) (upto out (0 + c * (p.run / c))) (replicate (p.run / c) (pixel_of_lanes p.last))
+    → HasWritten f c before 0 out (0 + c * (p.run / c)) (replicate (p.run / c) (pixel_of_lanes p.last))
     → TakesInPlace f c ahead rest (filling p.table (reached p.last p.run) (take (length before / c * c) out)) table now to run
     → IsInPlace c (length now) to run → length now ≡ length (take (length before / c * c) out)
     → GivesMore f c ahead rest p (record p { table = table; last = to.last; run = run; undecoded = p.undecoded - to.at }) (now ++ behind) to.at
 gives_placed {f} {c} {ahead} {rest} {p} {before} {out} {table} {to} {run} now behind is asks long fits same written takes sizes size =
-    let whole = asks.pixels.1 in
+    let whole = asks.pixels in
     let room : to.at + 256 ≤ p.undecoded = omega (arith, sizes.within, size, placed_most c before out is, fits) in
     let short : run ≤ 248 = by_channels (λ d. run ≤ d * 62 → run ≤ 248) is (λ a. omega (arith, a)) (λ a. omega (arith, a)) sizes.run_short in
     record {
@@ -121,7 +118,7 @@ gives_placed {f} {c} {ahead} {rest} {p} {before} {out} {table} {to} {run} now be
           let l = piece_lent p before out is h asks.none whole long fits same written in
           piece_read l.gone now behind to run h asks.none l.so_far (takes l.gone _ _ l.before) sizes.within (omega (arith, room));
       within = omega (arith, sizes.within, length-append now behind);
-      pixels = (asks.pixels.0, (minus_whole c p.undecoded to.at is whole.0 sizes.whole, sizes.run_whole, sizes.run_short, λ some. omega (arith, short, room)));
+      pixels = (whole.0, minus_whole c p.undecoded to.at is whole.1 sizes.whole, sizes.run_whole, sizes.run_short, λ some. omega (arith, short, room));
       left = omega (arith, room);
       fault = refl;
     }
@@ -138,7 +135,7 @@ gives_kept {f} {c} {ahead} p new old out k pixels few out_is is =
     subst (λ q. GivesMore f c ahead ahead p q out k) (sym is) (record {
       read = λ n start given h. subst (λ z. IsUnread f c n start ahead (given ++ z) then) (sym same) (gives p then k refl (omega (arith, few)) within h);
       within = omega (arith, ap length out_is, length-append front (drop k old), size);
-      pixels = ((omega (arith, few, within), within.1), pixels.1);
+      pixels = ((omega (arith, few, within), within.1), pixels.1, pixels.2, pixels.3, pixels.4);
       left = omega (arith, few, within);
       fault = refl;
     })

@@ -4,12 +4,11 @@ use Rattle.std.specs.Io.KnownBytes.{Consumes}
 use Rattle.std.proofs.lemmas.List.{length-replicate, take-append-le}
 use lib.Seq.{take-append_seam}
 use Rattle.qoi.specs.declared.decode.chunks.TheConstants.{GROWTH}
-use Rattle.qoi.specs.declared.decode.reached.Reached.{Reached}
 use Rattle.qoi.specs.Qoi.{IoError, Past, chunk_bytes, start, then_chunks}
 use Rattle.qoi.specs.Raw.{IsChannels}
 use Rattle.qoi.specs.Verdicts.{IsPartOfChunk}
 use Rattle.qoi.specs.inner.Hashed.{pixel_of_lanes, HoldsSeen}
-use Rattle.qoi.specs.inner.Filling.{Filling, reached, filling, IsFillable, DecoderBetween}
+use Rattle.qoi.specs.inner.Filling.{Reached, Filling, reached, filling, IsFillable, DecoderBetween}
 use Rattle.qoi.specs.inner.Chunks.{TakesMore, RefusesFilling}
 use Rattle.qoi.proofs.format.WholePixels.{by_channels, whole_pixels}
 use Rattle.qoi.proofs.decoding.TakenBytes.{pixels_most}
@@ -22,9 +21,9 @@ more_pixels : (c m n size more : ℕ) → IsChannels c → size ≡ c * m → si
 more_pixels c m n size more is = by_channels (λ k. size ≡ k * m → size + more ≡ k * n → m ≤ n) is (λ a b. omega arith) (λ a b. omega arith)
 
 -- a buffer that isn't full may have bytes more
-pub grows : {f c : ℕ} {gone : Past} {m : ℕ} {Taken : List ℕ → Type 0} {table out : List ℕ} {now : Reached} → IsChannels c
-    → DecoderBetween f c gone m Taken (filling table now out) → now.at < length out → (n : ℕ) (more : List ℕ) → length out + length more ≡ c * n
-    → DecoderBetween f c gone n Taken (filling table now (out ++ more))
+pub grows : {f c : ℕ} {gone : Past} {m : ℕ} {start ahead : Option (List ℕ)} {table out : List ℕ} {now : Reached} → IsChannels c
+    → DecoderBetween f c gone m start ahead (filling table now out) → now.at < length out → (n : ℕ) (more : List ℕ) → length out + length more ≡ c * n
+    → DecoderBetween f c gone n start ahead (filling table now (out ++ more))
 grows {c = c} {gone = gone} {m = m} {out = out} {now = now} is s inside n more size =
     let past = s.recent in
     let below : length past < m = fewer is s.filled inside in
@@ -32,51 +31,47 @@ grows {c = c} {gone = gone} {m = m} {out = out} {now = now} is s inside n more s
     let same : min m (length past) ≡ min n (length past) = omega (arith, below, most) in
     let size_is = length-append out more in
     record {
-      cs = s.cs;
-      chunks = s.chunks;
       recent = s.recent;
-      pixels = s.pixels;
-      stays_below = stays_more (length gone + m) (length gone + n) (omega (arith, most)) [] s.cs s.stays_below;
-      taken = s.taken;
+      after = s.after;
+      stays_below = stays_more (length gone + m) (length gone + n) (omega (arith, most)) [] s.after.cs s.stays_below;
       filled = record {
         room = size_is ∙ size;
         at_is = s.filled.at_is ∙ ap (λ k. c * k) same;
         same = take-append-le now.at out more (omega (arith, inside)) ∙ s.filled.same;
       };
-      has_seen = record { table_is = s.has_seen.table_is; last_is = s.has_seen.last_is };
     }
 
 -- what stands between two chunks, however many bytes the buffer gets
-abbrev pub Growing : ℕ → ℕ → (List ℕ → Type 0) → List ℕ → Reached → List ℕ → Type 0
-Growing f c Taken table now out = (n : ℕ) (more : List ℕ) → length out + length more ≡ c * n
-    → DecoderBetween f c [] n Taken (filling table now (out ++ more))
+abbrev pub Growing : ℕ → ℕ → Option (List ℕ) → Option (List ℕ) → List ℕ → Reached → List ℕ → Type 0
+Growing f c start ahead table now out = (n : ℕ) (more : List ℕ) → length out + length more ≡ c * n
+    → DecoderBetween f c [] n start ahead (filling table now (out ++ more))
 
 -- before the first chunk
-pub growing_start : (f c : ℕ) (Taken : List ℕ → Type 0) (table : List ℕ) (last : ℕ) (out : List ℕ) → IsChannels c → length out ≡ 0
-    → HoldsSeen table [] → pixel_of_lanes last ≡ start → Taken [] → Growing f c Taken table (reached last 0) out
-growing_start f c Taken table last [] is empty blank opaque none n more size =
+pub growing_start : (f c : ℕ) (ahead : Option (List ℕ)) (table : List ℕ) (last : ℕ) (out : List ℕ) → IsChannels c → length out ≡ 0
+    → HoldsSeen table [] → pixel_of_lanes last ≡ start → Growing f c ahead ahead table (reached last 0) out
+growing_start f c ahead table last [] is empty blank opaque n more size =
     let many : length more / c ≡ n = by_channels (λ k. 0 + length more ≡ k * n → length more / k ≡ n) is (λ e. omega arith) (λ e. omega arith) size in
     let whole : length more % c ≡ 0 = by_channels (λ k. 0 + length more ≡ k * n → length more % k ≡ 0) is (λ e. omega arith) (λ e. omega arith) size in
-    subst (λ k. DecoderBetween f c [] k Taken (filling table (reached last 0) more)) many (start_between f c Taken table last more is whole blank opaque none)
-growing_start f c Taken table last (x ∷ out) is empty blank opaque none n more size = absurd (omega arith)
+    subst (λ k. DecoderBetween f c [] k ahead ahead (filling table (reached last 0) more)) many (start_between f c ahead table last more is whole blank opaque)
+growing_start f c ahead table last (x ∷ out) is empty blank opaque n more size = absurd (omega arith)
 
 -- with zeros up to a size
-pub grown : {f c : ℕ} {Taken : List ℕ → Type 0} {table : List ℕ} {now : Reached} (old new : List ℕ) (len size : ℕ) → IsChannels c → Growing f c Taken table now old
-    → len ≡ length old → len ≤ size → size % c ≡ 0 → new ≡ old ++ replicate (size - len) 0 → DecoderBetween f c [] (size / c) Taken (filling table now new)
-grown {f} {c} {Taken} {table} {now} old new len size is g len_is within whole new_is =
+pub grown : {f c : ℕ} {start ahead : Option (List ℕ)} {table : List ℕ} {now : Reached} (old new : List ℕ) (len size : ℕ) → IsChannels c → Growing f c start ahead table now old
+    → len ≡ length old → len ≤ size → size % c ≡ 0 → new ≡ old ++ replicate (size - len) 0 → DecoderBetween f c [] (size / c) start ahead (filling table now new)
+grown {f} {c} {start} {ahead} {table} {now} old new len size is g len_is within whole new_is =
     let zeros : List ℕ = replicate (size - len) 0 in
     let all : length old + length zeros ≡ c * (size / c) = omega (arith, len_is, within, length-replicate {A = ℕ} (size - len) 0) ∙ whole_pixels c size is whole in
-    subst (λ z. DecoderBetween f c [] (size / c) Taken (filling table now z)) (sym new_is) (g (size / c) zeros all)
+    subst (λ z. DecoderBetween f c [] (size / c) start ahead (filling table now z)) (sym new_is) (g (size / c) zeros all)
 
 -- a vector that lent itself whole holds what was written
 pub lent_back : (len : ℕ) (buf items : List ℕ) → len ≡ length buf → take len (buf ++ drop (length buf) items) ≡ buf
 lent_back len buf items size = ap (λ k. take k (buf ++ drop (length buf) items)) size ∙ take-append_seam buf (drop (length buf) items)
 
 -- what stands between two chunks can be filled
-pub between_fillable : {f c : ℕ} {gone : Past} {n : ℕ} {Taken : List ℕ → Type 0} {now : Filling} → IsChannels c → DecoderBetween f c gone n Taken now → IsFillable c now.buffer
+pub between_fillable : {f c : ℕ} {gone : Past} {n : ℕ} {start ahead : Option (List ℕ)} {now : Filling} → IsChannels c → DecoderBetween f c gone n start ahead now → IsFillable c now.out now.at
 between_fillable {c = c} {n = n} {now = now} is s =
-    let P : ℕ → Type 0 = λ k. length now.buffer.out ≡ k * n → now.buffer.at ≡ k * min n (length s.recent) → (now.buffer.at ≤ length now.buffer.out)
-    × (length now.buffer.out % k ≡ 0) × (now.buffer.at % k ≡ 0) in
+    let P : ℕ → Type 0 = λ k. length now.out ≡ k * n → now.at ≡ k * min n (length s.recent) → (now.at ≤ length now.out)
+    × (length now.out % k ≡ 0) × (now.at % k ≡ 0) in
     let all = by_channels P is (λ room at. (omega arith, omega arith, omega arith)) (λ room at. (omega arith, omega arith, omega arith)) s.filled.room s.filled.at_is in
     record { three_or_four = is; within = all.0; whole = (all.1, all.2) }
 
@@ -90,32 +85,32 @@ fewer_pixels c few many is = by_channels (λ k. few ≤ many → few / k ≤ man
 
 -- if a stream gives no whole chunk, it is refused
 pub stream_refused : {f c : ℕ} {fits : Bool} {ahead middle : Option (List ℕ)} {old now : Filling} (new : Option (List ℕ)) (part : List ℕ) → TakesMore f c fits ahead middle old now
-    → now.buffer.at < length now.buffer.out → Consumes middle new part → IsPartOfChunk part → (e : _) → RefusesFilling f c false ahead new old (IoError e)
+    → now.at < length now.out → Consumes middle new part → IsPartOfChunk part → (e : _) → RefusesFilling f c false ahead new old (IoError e)
 stream_refused {middle = middle} new part on inside took is_part e gone n first h all more =
     let s = on.between gone n first h in (
-      chunk_bytes s.cs ++ part,
-      Consumes-trans first middle new (chunk_bytes s.cs) part s.taken took,
+      chunk_bytes s.after.cs ++ part,
+      Consumes-trans first middle new (chunk_bytes s.after.cs) part s.after.taken took,
       (
-        s.cs,
+        s.after.cs,
         part,
         record {
-          has = record { chunks = s.chunks; stays_below = stays_more (length gone + n) all more [] s.cs s.stays_below; split = refl };
-          ends = inl (rw length-meaning (omega (arith, fewer on.fillable.three_or_four s.filled inside, ap length s.pixels, length-append s.recent gone, more)), is_part);
+          has = record { chunks = s.after.chunks; stays_below = stays_more (length gone + n) all more [] s.after.cs s.stays_below; split = refl };
+          ends = inl (rw length-meaning (omega (arith, fewer on.fillable.three_or_four s.filled inside, ap length s.after.pixels, length-append s.recent gone, more)), is_part);
         },
       ),
     )
 
 -- what is written is at most 248 bytes for each byte ahead
-pub written_most : {f c : ℕ} {gone : Past} {n : ℕ} {now : Filling} (start new : Option (List ℕ)) → IsChannels c → DecoderBetween f c gone n (Consumes start new) now
-    → IfSome start (λ bytes. now.buffer.at ≤ 248 * length bytes)
+pub written_most : {f c : ℕ} {gone : Past} {n : ℕ} {now : Filling} (start new : Option (List ℕ)) → IsChannels c → DecoderBetween f c gone n start new now
+    → IfSome start (λ bytes. now.at ≤ 248 * length bytes)
 written_most None new is s = tt
-written_most (Some bytes) None is s = absurd s.taken
+written_most (Some bytes) None is s = absurd s.after.taken
 written_most {c = c} {gone = gone} {n = n} {now = now} (Some bytes) (Some rest) is s =
     let past = s.recent in
-    let many = pixels_most [] s.cs s.chunks in
-    let fewer : length past ≤ length (then_chunks [] s.cs) = omega (arith, ap length s.pixels, length-append s.recent gone) in
-    let size : length bytes ≡ length (chunk_bytes s.cs) + length rest = ap length s.taken ∙ length-append (chunk_bytes s.cs) rest in
-    let P : ℕ → Type 0 = λ k. now.buffer.at ≡ k * min n (length past) → now.buffer.at ≤ 248 * length bytes in
+    let many = pixels_most [] s.after.cs s.after.chunks in
+    let fewer : length past ≤ length (then_chunks [] s.after.cs) = omega (arith, ap length s.after.pixels, length-append s.recent gone) in
+    let size : length bytes ≡ length (chunk_bytes s.after.cs) + length rest = ap length s.after.taken ∙ length-append (chunk_bytes s.after.cs) rest in
+    let P : ℕ → Type 0 = λ k. now.at ≡ k * min n (length past) → now.at ≤ 248 * length bytes in
     by_channels P is (λ e. omega (arith, many, fewer, size)) (λ e. omega (arith, many, fewer, size)) s.filled.at_is
 
 -- so is what has some bytes more, and these

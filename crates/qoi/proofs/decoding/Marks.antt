@@ -2,11 +2,10 @@
 -- image.
 use Rattle.std.proofs.Common.{◌≡◌, ◌∙◌, ℕ, List, ◌++◌, Some, false, sym, ap, subst, append_assoc, ◌≤◌, ◌-◌, ◌+◌, length, drop, refl, length-append, arith}
 use Rattle.std.specs.Io.KnownBytes.{Consumes}
-use Rattle.qoi.specs.declared.decode.pixel_reader.unread.Unread.{Unread}
 use Rattle.qoi.specs.Qoi.{channels_number, chunk_bytes, end_marker, IsValid, header_size}
 use Rattle.qoi.specs.DecoderState.{DecoderState}
 use Rattle.qoi.specs.pieces.PixelReader.{PixelsState, HasGiven}
-use Rattle.qoi.specs.pieces.Unread.{KeepsPixels, IsUnread}
+use Rattle.qoi.specs.pieces.Unread.{Unread, KeepsPixels, IsUnread}
 use Rattle.qoi.proofs.decoding.PixelPieces.{byte_bounds, has_given}
 use Rattle.std.proofs.lemmas.List.{drop_at}
 use Rattle.qoi.specs.Decoded.{HasHeader}
@@ -24,7 +23,7 @@ unread_then bytes rest more h = record {
   goes_on = λ some.
       let (gone, s, e) = h.goes_on some in (
         gone,
-        record { cs = s.cs; chunks = s.chunks; pixels = s.pixels; taken = consumes_then bytes rest (chunk_bytes s.cs) more s.taken; table_is = s.table_is; last_is = s.last_is },
+        record { cs = s.cs; chunks = s.chunks; pixels = s.pixels; taken = consumes_then bytes rest (chunk_bytes s.cs) more s.taken; has_seen = s.has_seen },
         e,
       );
   ends = λ none.

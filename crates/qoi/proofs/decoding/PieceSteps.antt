@@ -1,23 +1,24 @@
 -- A piece more: what is unread, before and after chunks are decoded.
 use Rattle.std.proofs.Common.{◌≡◌, ℕ, ◌+◌, ◌-◌, ◌*◌, ◌/◌, ◌%◌, ◌<◌, ◌≤◌, List, [], ◌∷◌, ◌++◌, length, take, drop, replicate, reverse, min, inl, inr, Option, arith, refl, sym, ap, ◌∙◌, subst, append_assoc, append-nil, length-append}
-use Rattle.std.specs.Io.KnownBytes.{Consumes}
 use Rattle.std.proofs.lemmas.List.{length-replicate, length-reverse, reverse-append, length-take, length-take-le, length-drop, take-append-le, take-take, take_all, drop-drop}
 use Rattle.std.proofs.lemmas.Bool.{cases_lt}
 use Rattle.std.proofs.Math.Seq.{take-add}
 use borrow.Rule.Slice.PartMut.{put_mid}
 use Rattle.std.proofs.lemmas.Grind.{flat_map-append}
-use Rattle.qoi.specs.declared.decode.pixel_reader.unread.Unread.{Unread}
-use Rattle.qoi.specs.declared.decode.reached.Reached.{Reached}
 use Rattle.qoi.specs.Qoi.{Chunk, Past, RgbaPixel, Each, AreChunks, pixel_after, times, then_chunk, then_chunks}
 use Rattle.qoi.specs.Raw.{IsChannels, pixel_bytes, output}
 use Rattle.qoi.specs.Decoding.{ReadsImage}
-use Rattle.qoi.specs.inner.Filling.{HasSeen, HasWritten, upto, reached, filling, DecoderBetween}
+use Rattle.qoi.specs.inner.Filling.{Reached, HasWritten, reached, filling, DecoderAfter, DecoderBetween}
 use Rattle.qoi.specs.inner.Hashed.{pixel_of_lanes}
-use Rattle.qoi.specs.pieces.Unread.{kept_raw, bytes_left, copies, KeepsWithin, KeepsNothing, AreWhole, DecoderAfter, IsUnread, TakesPiece}
+use Rattle.qoi.specs.pieces.Unread.{Unread, kept_count, kept_raw, bytes_left, KeepsWithin, KeepsNothing, KeepsPixels, IsUnread, LacksRun}
 use Rattle.qoi.proofs.format.ChunkSteps.{times_some, reverse-replicate, length-then_chunks}
 use Rattle.qoi.proofs.format.LaneBytes.{front_put}
 use Rattle.qoi.proofs.format.WholePixels.{by_channels, whole_pixels, length-output, take_whole}
 use Rattle.qoi.proofs.decoding.Progress.{fewer, none_written}
+
+-- as many copies of a pixel as have so many bytes
+abbrev pub copies : ℕ → ℕ → ℕ → Past
+copies channels size last = replicate (size / channels) (pixel_of_lanes last)
 
 -- chunks give no fewer pixels
 pub longer : (past : Past) (cs : List Chunk) → length past ≤ length (then_chunks past cs)
@@ -33,21 +34,20 @@ stay_within m past (c ∷ cs) are most =
     )
 
 -- what stands after an output that isn't full
-abbrev pub Closed : (f c : ℕ) (gone : Past) (Taken : List ℕ → Type 0) (table : List ℕ) (now : Reached) (given out : List ℕ) → Type 0
-Closed f c gone Taken table now given out = (all : Past) × DecoderAfter Taken table now.last all × (given ++ take now.at out ≡ output f c (reverse all))
+abbrev pub Closed : (f c : ℕ) (gone : Past) (start ahead : Option (List ℕ)) (table : List ℕ) (now : Reached) (given out : List ℕ) → Type 0
+Closed f c gone start ahead table now given out = (all : Past) × DecoderAfter start ahead table now.last all × (given ++ take now.at out ≡ output f c (reverse all))
 
-pub closes : {f c : ℕ} {gone : Past} {m : ℕ} {Taken : List ℕ → Type 0} {table : List ℕ} {now : Reached} (given out : List ℕ) → IsChannels c
-    → DecoderBetween f c gone m Taken (filling table now out) → now.at < length out → given ≡ output f c (reverse gone)
-    → Closed f c gone Taken table now given out
-closes {f} {c} {gone} {m} {Taken} {table} {now} given out is s inside so_far =
+pub closes : {f c : ℕ} {gone : Past} {m : ℕ} {start ahead : Option (List ℕ)} {table : List ℕ} {now : Reached} (given out : List ℕ) → IsChannels c
+    → DecoderBetween f c gone m start ahead (filling table now out) → now.at < length out → given ≡ output f c (reverse gone)
+    → Closed f c gone start ahead table now given out
+closes {f} {c} {gone} {m} {start} {ahead} {table} {now} given out is s inside so_far =
     let recent = s.recent in
     let few : length recent < m = fewer is s.filled inside in
     let many : length (output f c (reverse recent)) ≡ now.at =
     length-output f c (reverse recent) is ∙ ap (λ k. c * k) (length-reverse recent ∙ omega (arith, few)) ∙ sym s.filled.at_is in
-    let front : take now.at out ≡ output f c (reverse recent) = s.filled.same ∙ take_whole now.at (output f c (reverse recent)) many in
-    let seen = subst (HasSeen (filling table now out)) s.pixels s.has_seen in (
+    let front : take now.at out ≡ output f c (reverse recent) = s.filled.same ∙ take_whole now.at (output f c (reverse recent)) many in (
       recent ++ gone,
-      record { cs = s.cs; chunks = s.chunks; pixels = s.pixels; taken = s.taken; table_is = seen.table_is; last_is = seen.last_is },
+      s.after,
       ap (λ z. z ++ take now.at out) so_far ∙ ap (λ z. output f c (reverse gone) ++ z) front
           ∙ sym (flat_map-append (pixel_bytes f c) (reverse gone) (reverse recent)) ∙ sym (ap (output f c) (reverse-append recent gone)),
     )
@@ -59,10 +59,8 @@ output_copies f c k p past =
     ∙ flat_map-append (pixel_bytes f c) (reverse past) (replicate k p)
 
 -- with nothing kept, what was given are the pixels that are gone
-pub none_kept : (p : Unread) (given : List ℕ) → p.from ≡ p.to → given ++ kept_raw p ≡ given
-none_kept p given same =
-    let none : p.to - p.from ≡ 0 = omega (arith, same) in
-    ap (λ k. given ++ take k (drop p.from p.bytes)) none ∙ append-nil given
+pub none_kept : (p : Unread) (given : List ℕ) → kept_count p ≡ 0 → given ++ kept_raw p ≡ given
+none_kept p given same = ap (λ k. given ++ take k (drop p.from p.bytes)) same ∙ append-nil given
 
 -- as many pixels are gone as the given bytes have: those of a rest are all others, and those of fewer bytes no more
 pub gone_count : (f c n m : ℕ) (gone : Past) (given : List ℕ) (undecoded : ℕ) → IsChannels c → given ≡ output f c (reverse gone)
@@ -96,33 +94,29 @@ whole_times c size is = by_channels (λ k. size / k * k ≡ k * (size / k)) is (
 -- an output that is lent with nothing kept, and `at` bytes of a run at its front
 pub record Lent (f c n m : ℕ) (start old : Option (List ℕ)) (given : List ℕ) (p : Unread) (out : List ℕ) (at : ℕ) : Type 0 where
   pub gone : Past
-  pub before : DecoderBetween f c gone m (Consumes start old) (filling p.table (reached p.last at) out)
+  pub before : DecoderBetween f c gone m start old (filling p.table (reached p.last at) out)
   pub so_far : given ≡ output f c (reverse gone)
   pub most : length gone + m ≤ n
 
 -- as many copies of the last pixel as are left of a run, at the front of an output
-begun : {f c : ℕ} {gone : Past} {Taken : List ℕ → Type 0} {table : List ℕ} {last : ℕ} (m run : ℕ) (out : List ℕ) → IsChannels c
-    → DecoderAfter Taken table last (copies c run last ++ gone) → length out ≡ c * m → run % c ≡ 0 → run ≤ length out → take run out ≡ output f c (copies c run last)
-    → DecoderBetween f c gone m Taken (filling table (reached last run) out)
-begun {f} {c} {gone} {Taken} {table} {last} m run out is s size whole fits bytes =
+begun : {f c : ℕ} {gone : Past} {start ahead : Option (List ℕ)} {table : List ℕ} {last : ℕ} (m run : ℕ) (out : List ℕ) → IsChannels c
+    → DecoderAfter start ahead table last (copies c run last ++ gone) → length out ≡ c * m → run % c ≡ 0 → run ≤ length out → take run out ≡ output f c (copies c run last)
+    → DecoderBetween f c gone m start ahead (filling table (reached last run) out)
+begun {f} {c} {gone} {start} {ahead} {table} {last} m run out is s size whole fits bytes =
     let recent = copies c run last in
     let many : run ≡ c * (run / c) = whole_pixels c run is whole in
     let few : run / c ≤ m = by_channels (λ d. run ≤ length out → length out ≡ d * m → run / d ≤ m) is (λ a b. omega (arith, a, b)) (λ a b. omega (arith, a, b)) fits size in
     let count : length recent ≡ run / c = length-replicate (run / c) (pixel_of_lanes last) in
     let long : length (output f c recent) ≡ run = length-output f c recent is ∙ ap (λ k. c * k) count ∙ sym many in
     record {
-      cs = s.cs;
-      chunks = s.chunks;
       recent = recent;
-      pixels = s.pixels;
+      after = s;
       stays_below = stay_within (length gone + m) [] s.cs s.chunks (omega (arith, ap length s.pixels, length-append recent gone, count, few));
-      taken = s.taken;
       filled = record {
         room = size;
         at_is = many ∙ ap (λ k. c * k) (sym (least m (run / c) few) ∙ ap (λ k. min m k) (sym count));
         same = bytes ∙ sym (take_all run (output f c recent) (omega (arith, long))) ∙ ap (λ z. take run (output f c z)) (sym (reverse-replicate (run / c) (pixel_of_lanes last)));
       };
-      has_seen = subst (HasSeen (filling table (reached last run) out)) (sym s.pixels) (record { table_is = s.table_is; last_is = s.last_is });
     }
   where
     least : (m k : ℕ) → k ≤ m → min m k ≡ k
@@ -130,7 +124,7 @@ begun {f} {c} {gone} {Taken} {table} {last} m run out is s size whole fits bytes
 
 -- the same of what is unread
 run_lent : {f c n : ℕ} {start old : Option (List ℕ)} {given : List ℕ} (p : Unread) (m : ℕ) (out : List ℕ) → IsChannels c → IsUnread f c n start old given p
-    → p.from ≡ p.to → 0 < p.undecoded → length out ≡ c * m → length out ≤ p.undecoded → p.run % c ≡ 0 → p.run ≤ length out → take p.run out ≡ output f c (copies c p.run p.last)
+    → kept_count p ≡ 0 → 0 < p.undecoded → length out ≡ c * m → length out ≤ p.undecoded → p.run % c ≡ 0 → p.run ≤ length out → take p.run out ≡ output f c (copies c p.run p.last)
     → Lent f c n m start old given p out p.run
 run_lent {f} {c} {n} {start} {old} {given} p m out is h same some size fits whole inside bytes =
     let (gone, stands, all) = h.goes_on some in
@@ -151,34 +145,34 @@ lent {f} {c} {n} {start} {old} {given} {p} m out is h none some size fits =
 
 -- the whole pixels of an output with a run in front are lent
 pub piece_lent : {f c n : ℕ} {start old : Option (List ℕ)} {given : List ℕ} (p : Unread) (before out : List ℕ) → IsChannels c → IsUnread f c n start old given p
-    → p.from ≡ p.to → AreWhole c p → 512 ≤ length before → length before + 256 ≤ p.undecoded → length out ≡ length before
-    → HasWritten f c (upto before 0) (upto out (0 + c * (p.run / c))) (replicate (p.run / c) (pixel_of_lanes p.last))
+    → kept_count p ≡ 0 → KeepsPixels c p → 512 ≤ length before → length before + 256 ≤ p.undecoded → length out ≡ length before
+    → HasWritten f c before 0 out (0 + c * (p.run / c)) (replicate (p.run / c) (pixel_of_lanes p.last))
     → Lent f c n (length before / c) start old given p (take (length before / c * c) out) p.run
 piece_lent {c = c} p before out is h same whole long fits same_size written =
     let size = length before / c * c in
     let within = whole_within c (length before) is in
     let all : length (take size out) ≡ size = length-take-le size out (omega (arith, same_size, within)) in
     let room : 256 ≤ size = by_channels (λ d. 256 ≤ length before / d * d) is (omega (arith, long)) (omega (arith, long)) in
-    let run : p.run ≤ size = by_channels (λ d. p.run ≤ d * 62 → p.run ≤ size) is (λ a. omega (arith, a, room)) (λ a. omega (arith, a, room)) whole.2 in
-    let stored = take-take p.run size out run ∙ ap (λ k. take k out) (whole_pixels c p.run is whole.1 ∙ from_none (c * (p.run / c))) ∙ written.same in
-    run_lent p (length before / c) (take size out) is h same (omega (arith, fits)) (all ∙ whole_times c (length before) is) (omega (arith, all, within, fits)) whole.1 (omega (arith, all, run)) stored
+    let run : p.run ≤ size = by_channels (λ d. p.run ≤ d * 62 → p.run ≤ size) is (λ a. omega (arith, a, room)) (λ a. omega (arith, a, room)) whole.3 in
+    let stored = take-take p.run size out run ∙ ap (λ k. take k out) (whole_pixels c p.run is whole.2 ∙ from_none (c * (p.run / c))) ∙ written.same in
+    run_lent p (length before / c) (take size out) is h same (omega (arith, fits)) (all ∙ whole_times c (length before) is) (omega (arith, all, within, fits)) whole.2 (omega (arith, all, run)) stored
 
 -- the rest of a run is kept
 pub run_kept : {f c n : ℕ} {start now : Option (List ℕ)} {given : List ℕ} (p : Unread) (bytes : List ℕ) → IsChannels c → IsUnread f c n start now given p
-    → p.from ≡ p.to → 0 < p.run → AreWhole c p → 256 ≤ length bytes
-    → HasWritten f c (upto p.bytes 0) (upto bytes (0 + c * (p.run / c))) (replicate (p.run / c) (pixel_of_lanes p.last))
+    → kept_count p ≡ 0 → 0 < p.run → KeepsPixels c p → 256 ≤ length bytes
+    → HasWritten f c p.bytes 0 bytes (0 + c * (p.run / c)) (replicate (p.run / c) (pixel_of_lanes p.last))
     → IsUnread f c n start now given (record p { bytes = bytes; from = 0; to = p.run; run = 0; undecoded = p.undecoded - p.run })
 run_kept {f} {c} {n} {start} {now} {given} p bytes is h same some whole room written =
-    let fits : p.run < p.undecoded = whole.3 some in
+    let fits : p.run < p.undecoded = whole.4 some in
     let (gone, stands, all) = h.goes_on (omega (arith, fits)) in
     let recent = copies c p.run p.last in
-    let many : p.run ≡ c * (p.run / c) = whole_pixels c p.run is whole.1 in
+    let many : p.run ≡ c * (p.run / c) = whole_pixels c p.run is whole.2 in
     let stored : take (p.run - 0) bytes ≡ output f c recent = ap (λ k. take k bytes) (none_off p.run ∙ many ∙ from_none (c * (p.run / c))) ∙ written.same in
     record {
       size = omega (arith, same, h.size, fits);
       goes_on = λ _. (
         recent ++ gone,
-        subst (DecoderAfter (Consumes start now) p.table p.last) (sym (no_copies c 0 p.last (recent ++ gone) is refl)) stands,
+        subst (DecoderAfter start now p.table p.last) (sym (no_copies c 0 p.last (recent ++ gone) is refl)) stands,
         ap (λ z. given ++ z) stored ∙ ap (λ z. z ++ output f c recent) (sym (none_kept p given same) ∙ all) ∙ sym (output_copies f c (p.run / c) (pixel_of_lanes p.last) gone),
       );
       ends = λ none. absurd (omega (arith, none, fits));
@@ -207,8 +201,8 @@ placed_most c before out is =
 
 -- a piece of what was lent was taken
 pub piece_read : {f c n : ℕ} {start old new : Option (List ℕ)} {given : List ℕ} {p : Unread} {table : List ℕ} (gone : Past)
-    (now rest : List ℕ) (to : Reached) (run : ℕ) → IsUnread f c n start old given p → p.from ≡ p.to → given ≡ output f c (reverse gone)
-    → TakesPiece f c gone (Consumes start new) table now to run → to.at ≤ length now → to.at < p.undecoded
+    (now rest : List ℕ) (to : Reached) (run : ℕ) → IsUnread f c n start old given p → kept_count p ≡ 0 → given ≡ output f c (reverse gone)
+    → LacksRun f c start new table to.last run (output f c (reverse gone) ++ take to.at now) → to.at ≤ length now → to.at < p.undecoded
     → IsUnread f c n start new (given ++ take to.at (now ++ rest))
     (record p { table = table; last = to.last; run = run; undecoded = p.undecoded - to.at })
 piece_read {f} {c} {n} {start} {old} {new} {given} {p} {table} gone now rest to run h same so_far t inside fits =
@@ -219,21 +213,21 @@ piece_read {f} {c} {n} {start} {old} {new} {given} {p} {table} gone now rest to 
     let size : length more ≡ length given + at = length-append given (take at (now ++ rest)) ∙ ap (λ k. length given + k) (ap length front ∙ length-take-le at now inside) in
     record {
       size = omega (arith, size, h.size, fits);
-      goes_on = λ some. (t.all, t.after, none_kept then more same ∙ ap (λ z. given ++ z) front ∙ ap (λ z. z ++ take at now) so_far ∙ t.bytes_are);
+      goes_on = λ some. (t.0, t.1, none_kept then more same ∙ ap (λ z. given ++ z) front ∙ ap (λ z. z ++ take at now) so_far ∙ t.2);
       ends = λ none. absurd (omega (arith, none, fits));
     }
 
 -- chunks that end before the output leave nothing of a run
-pub piece_stops : {f c n : ℕ} {gone : Past} {Taken : List ℕ → Type 0} {table : List ℕ} {now : Reached} (out : List ℕ) → IsChannels c → now.at < length out
-    → DecoderBetween f c gone n Taken (filling table now out) → TakesPiece f c gone Taken table out now 0
-piece_stops {f} {c} {gone = gone} {Taken} {table} {now} out is inside h =
+pub piece_stops : {f c n : ℕ} {gone : Past} {start ahead : Option (List ℕ)} {table : List ℕ} {now : Reached} (out : List ℕ) → IsChannels c → now.at < length out
+    → DecoderBetween f c gone n start ahead (filling table now out) → LacksRun f c start ahead table now.last 0 (output f c (reverse gone) ++ take now.at out)
+piece_stops {f} {c} {gone = gone} {start} {ahead} {table} {now} out is inside h =
     let (all, after, e) = closes (output f c (reverse gone)) out is h inside refl in
-    record { all = all; after = subst (DecoderAfter Taken table now.last) (sym (no_copies c 0 now.last all is refl)) after; bytes_are = e }
+    (all, subst (DecoderAfter start ahead table now.last) (sym (no_copies c 0 now.last all is refl)) after, e)
 
 -- chunks were decoded into what was lent
 pub long_read : {f c n m : ℕ} {start old new : Option (List ℕ)} {given : List ℕ} {p : Unread} {out : List ℕ} {table : List ℕ} {to : Reached}
     (now rest : List ℕ) → IsChannels c → IsUnread f c n start old given p → KeepsNothing p → (l : Lent f c n m start old given p out 0)
-    → DecoderBetween f c l.gone m (Consumes start new) (filling table to now) → to.at < length now → length now ≤ p.undecoded
+    → DecoderBetween f c l.gone m start new (filling table to now) → to.at < length now → length now ≤ p.undecoded
     → IsUnread f c n start new (given ++ take to.at (now ++ rest)) (record p { table = table; last = to.last; undecoded = p.undecoded - to.at })
 long_read {f} {c} {n} {m} {start} {old} {new} {given} {p} {out} {table} {to} now rest is h same l after inside fits =
     subst (λ k. IsUnread f c n start new (given ++ take to.at (now ++ rest)) (record p { table = table; last = to.last; run = k; undecoded = p.undecoded - to.at })) (sym same.1)
@@ -242,13 +236,13 @@ long_read {f} {c} {n} {m} {start} {old} {new} {given} {p} {out} {table} {to} now
 -- chunks were decoded into the front of what is kept
 pub kept_read : {f c n m : ℕ} {start old new : Option (List ℕ)} {given : List ℕ} {p : Unread} {out : List ℕ} {table : List ℕ} {to : Reached}
     (now rest : List ℕ) → IsChannels c → IsUnread f c n start old given p → KeepsNothing p → (l : Lent f c n m start old given p out 0)
-    → DecoderBetween f c l.gone m (Consumes start new) (filling table to now) → to.at < length now → length now < p.undecoded
+    → DecoderBetween f c l.gone m start new (filling table to now) → to.at < length now → length now < p.undecoded
     → IsUnread f c n start new given (record p { table = table; last = to.last; bytes = now ++ rest; from = 0; to = to.at; undecoded = p.undecoded - to.at })
 kept_read {f} {c} {n} {m} {start} {old} {new} {given} {p} {out} {table} {to} now rest is h same l after inside fits =
     let (all, stands, e) = closes given now is after inside l.so_far in
     record {
       size = omega (arith, same, h.size, inside, fits);
-      goes_on = λ some. (all, subst (DecoderAfter (Consumes start new) table to.last) (sym (no_copies c p.run to.last all is same.1)) stands, ap (λ k. given ++ take k (now ++ rest)) (none_off to.at) ∙ ap (λ z. given ++ z) (take-append-le to.at now rest (omega (arith, inside))) ∙ e);
+      goes_on = λ some. (all, subst (DecoderAfter start new table to.last) (sym (no_copies c p.run to.last all is same.1)) stands, ap (λ k. given ++ take k (now ++ rest)) (none_off to.at) ∙ ap (λ z. given ++ z) (take-append-le to.at now rest (omega (arith, inside))) ∙ e);
       ends = λ none. absurd (omega (arith, none, inside, fits));
     }
 
@@ -265,7 +259,7 @@ pub rest_read : {f c n m : ℕ} {start old new : Option (List ℕ)} {given : Lis
     → p.undecoded ≤ length now → p.undecoded ≡ c * m
     → IsUnread f c n start new given (record p { table = table; last = last; bytes = now; from = 0; to = p.undecoded; undecoded = 0 })
 rest_read {f} {c} {n} {m} {start} {old} {new} {given} {p} {out} {table} {last} now is h same l read fits all =
-    let none : p.to - p.from ≡ 0 = omega (arith, same) in
+    let none = same.0 in
     let count : length l.gone + m ≡ n = rest_count is h same l all in
     record {
       size = omega (arith, none, h.size);
@@ -275,7 +269,7 @@ rest_read {f} {c} {n} {m} {start} {old} {new} {given} {p} {out} {table} {last} n
     }
 
 -- the rest of the image are whole pixels
-pub rest_whole : {f c n : ℕ} {start now : Option (List ℕ)} {given : List ℕ} {p : Unread} → IsChannels c → IsUnread f c n start now given p → p.from ≡ p.to
+pub rest_whole : {f c n : ℕ} {start now : Option (List ℕ)} {given : List ℕ} {p : Unread} → IsChannels c → IsUnread f c n start now given p → kept_count p ≡ 0
     → 0 < p.undecoded → p.undecoded ≡ c * (p.undecoded / c)
 rest_whole {f} {c} {n} {start} {now} {given} {p} is h same some =
     let (gone, stands, all) = h.goes_on some in
@@ -308,11 +302,11 @@ pub kept_long : (p : Unread) → KeepsWithin p → length (kept_raw p) ≡ p.to 
 kept_long p within = length-take-le (p.to - p.from) (drop p.from p.bytes) (omega (arith, within, length-drop p.from p.bytes))
 
 -- of an image that isn't decoded whole: the pixels of its chunks so far, and others are missing
-pub record GoesOn (f c n : ℕ) (Taken : List ℕ → Type 0) (table : List ℕ) (last : ℕ) (given : List ℕ) : Type 0 where
+pub record GoesOn (f c n : ℕ) (start ahead : Option (List ℕ)) (table : List ℕ) (last : ℕ) (given : List ℕ) : Type 0 where
   pub all : Past
-  pub stands : DecoderAfter Taken table last all
-  pub ahead : List ℕ
-  pub bytes_are : given ++ ahead ≡ output f c (reverse all)
+  pub stands : DecoderAfter start ahead table last all
+  pub behind : List ℕ
+  pub bytes_are : given ++ behind ≡ output f c (reverse all)
   pub fewer : length all < n
 
 -- no more bytes are kept
@@ -320,11 +314,11 @@ pub kept_most : (p : Unread) → length (kept_raw p) ≤ p.to - p.from
 kept_most p = omega (arith, length-take (p.to - p.from) (drop p.from p.bytes))
 
 -- pixels are missing behind a run
-run_short : (c : ℕ) (p : Unread) → AreWhole c p → 0 < p.undecoded → p.run < p.undecoded
-run_short c p whole some = elim (cases_lt 0 p.run) [ inl run ↦ whole.3 run | inr none ↦ omega (arith, none, some) ]
+run_short : (c : ℕ) (p : Unread) → KeepsPixels c p → 0 < p.undecoded → p.run < p.undecoded
+run_short c p whole some = elim (cases_lt 0 p.run) [ inl run ↦ whole.4 run | inr none ↦ omega (arith, none, some) ]
 
-pub still_goes : {f c n : ℕ} {start now : Option (List ℕ)} {given : List ℕ} (p : Unread) → IsChannels c → IsUnread f c n start now given p → AreWhole c p → 0 < p.undecoded
-    → GoesOn f c n (Consumes start now) p.table p.last given
+pub still_goes : {f c n : ℕ} {start now : Option (List ℕ)} {given : List ℕ} (p : Unread) → IsChannels c → IsUnread f c n start now given p → KeepsPixels c p → 0 < p.undecoded
+    → GoesOn f c n start now p.table p.last given
 still_goes {f} {c} {n} {start} {now} {given} p is h whole some =
     let (gone, stands, e) = h.goes_on some in
     let fewer = run_short c p whole some in
@@ -339,7 +333,7 @@ still_goes {f} {c} {n} {start} {now} {given} p is h whole some =
     record {
       all = replicate k px ++ gone;
       stands = stands;
-      ahead = kept_raw p ++ one;
+      behind = kept_raw p ++ one;
       bytes_are = bytes;
       fewer = by_channels (λ d. length given + length (kept_raw p) ≡ d * length gone → length given + (p.to - p.from + p.undecoded) ≡ d * n → k ≡ p.run / d → length (replicate k px ++ gone) < n) is
           (λ a b e. omega (arith, count, kept_most p, fewer)) (λ a b e. omega (arith, count, kept_most p, fewer)) size h.size refl;

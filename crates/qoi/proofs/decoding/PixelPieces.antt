@@ -5,12 +5,11 @@ use Rattle.std.proofs.lemmas.List.{length-reverse, reverse-append, reverse-rever
 use Rattle.std.proofs.lemmas.Bool.{cases_lt}
 use Rattle.std.proofs.lemmas.Grind.{flat_map-append}
 use Rattle.std.proofs.Math.Seq.{take-append_seam, take-append-add}
-use Rattle.qoi.specs.declared.decode.pixel_reader.unread.Unread.{Unread}
 use Rattle.qoi.specs.Qoi.{Chunk, Header, Channels, Error, Past, chunk_bytes, then_chunks, meaning, channels_number, pixel_count, IsValid}
 use Rattle.qoi.specs.Raw.{IsChannels, pixel_bytes, output, byte_count}
 use Rattle.qoi.specs.Images.{front_image}
 use Rattle.qoi.specs.DecoderState.{TakesAtMost, DecoderState, output_byte_count}
-use Rattle.qoi.specs.pieces.Unread.{kept_raw, AreWhole, IsUnread, bytes_left, KeepsPixels}
+use Rattle.qoi.specs.pieces.Unread.{Unread, kept_count, kept_raw, IsUnread, bytes_left, KeepsPixels}
 use Rattle.qoi.proofs.format.ChunkSteps.{given as pixels_after, then_chunks_given, then_chunks-append}
 use Rattle.qoi.proofs.decoding.Ahead.{image_read}
 use Rattle.qoi.proofs.decoding.FrontImage.{image_begins, image_is}
@@ -32,7 +31,7 @@ seam : {A : Type 0} (xs ys zs : List A) → zs ≡ xs ++ ys → xs ≡ take (len
 seam xs ys zs e = sym (ap (take (length xs)) e ∙ take-append_seam xs ys)
 
 -- for n pixels at most 5n + 8 bytes were taken
-pub unread_within : (f c n : ℕ) (start now : Option (List ℕ)) (given : List ℕ) (p : Unread) → IsChannels c → IsUnread f c n start now given p → AreWhole c p
+pub unread_within : (f c n : ℕ) (start now : Option (List ℕ)) (given : List ℕ) (p : Unread) → IsChannels c → IsUnread f c n start now given p → KeepsPixels c p
     → TakesAtMost (5 * n + 8) start now
 unread_within f c n start now given p is h whole =
     elim (cases_lt 0 p.undecoded) [
@@ -55,7 +54,7 @@ more_pixels n cs more gone is few =
 
 -- the pieces so far are the beginning of the image
 pub front_given : (channels : Channels) (h : Header) (start now : Option (List ℕ)) (given : List ℕ) (p : Unread)
-    → IsUnread (channels_number h.channels) (channels_number channels) (pixel_count h) start now given p → AreWhole (channels_number channels) p
+    → IsUnread (channels_number h.channels) (channels_number channels) (pixel_count h) start now given p → KeepsPixels (channels_number channels) p
     → IfSome start (λ bytes. given ≡ take (length given) (front_image channels h bytes))
 front_given channels h None now given p s whole = tt
 front_given channels h (Some bytes) now given p s whole =
@@ -66,7 +65,7 @@ front_given channels h (Some bytes) now given p s whole =
     ]
   where
     going : (now : Option (List ℕ)) (given : List ℕ) (p : Unread) → IsUnread (channels_number h.channels) (channels_number channels) (pixel_count h) (Some bytes) now given p
-        → AreWhole (channels_number channels) p → 0 < p.undecoded → given ≡ take (length given) (front_image channels h bytes)
+        → KeepsPixels (channels_number channels) p → 0 < p.undecoded → given ≡ take (length given) (front_image channels h bytes)
     going None given p s whole some = let (gone, stands, e) = s.goes_on some in absurd stands.taken
     going (Some left) given p s whole some =
         let f = channels_number h.channels in
@@ -81,7 +80,7 @@ front_given channels h (Some bytes) now given p s whole =
         let image : front_image channels h bytes ≡ output f c (reverse gone) ++ others =
         ap (front_image channels h) stands.taken ∙ is ∙ ap (output f c) (more_pixels n stands.cs more gone stands.pixels few)
         ∙ flat_map-append (pixel_bytes f c) (reverse gone) (take (n - length gone) (pixels_after gone more)) in
-        seam given (so_far.ahead ++ others) _ (image ∙ ap (λ z. z ++ others) (sym so_far.bytes_are) ∙ append_assoc given so_far.ahead others)
+        seam given (so_far.behind ++ others) _ (image ∙ ap (λ z. z ++ others) (sym so_far.bytes_are) ∙ append_assoc given so_far.behind others)
 
 -- how many bytes an image has
 pub byte_bounds : (h : Header) (c : Channels) → IsValid h → (3 ≤ byte_count h (channels_number c)) × (byte_count h (channels_number c) < 2 ^ 64)
@@ -103,11 +102,11 @@ has_given d start now given p h pixels same chosen going some =
       header = same;
       channels = chosen;
       left = all;
-      within = unread_within (channels_number d.header.channels) k n start now given p.unread (channels_are d.channels k refl) h pixels.1;
-      front = front_given d.channels d.header start now given p.unread h pixels.1;
+      within = unread_within (channels_number d.header.channels) k n start now given p.unread (channels_are d.channels k refl) h pixels;
+      front = front_given d.channels d.header start now given p.unread h pixels;
       whole = λ none.
           let q = p.unread in
-          let empty : q.from ≡ q.to = omega (arith, none, pixels.0) in
+          let empty : kept_count q ≡ 0 = omega (arith, none) in
           has_decoded d start now given (omega (arith, all, none), omega (arith, all, none, some))
           (subst (ReadsImage (channels_number d.header.channels) k n start now) (none_kept q given empty) (h.ends (omega (arith, none))));
     }

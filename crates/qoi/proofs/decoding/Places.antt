@@ -1,17 +1,17 @@
 -- Places in the image of a file, and the readers that go on there.
 use Rattle.std.proofs.Common.{◌≡◌, ◌≤◌, ◌<◌, ◌+◌, ◌*◌, ◌/◌, ◌%◌, ◌∙◌, ℕ, List, ◌++◌, length, drop, reverse, replicate, Some, Result, Ok, Err, IfOk, refl, sym, ap, subst, arith, [], append_assoc, length-append, length-drop, length-take}
 use Rattle.std.proofs.lemmas.List.{length-reverse, drop_at, drop-drop, drop-append-le}
-use Rattle.std.specs.Io.KnownBytes.{Consumes}
 use Rattle.qoi.specs.Qoi.{Error, Header, Channels, RgbaPixel, previous, channels_number, pixel_count, header_of, header_size, chunk_bytes, then_chunks}
 use Rattle.qoi.specs.Raw.{IsChannels, output}
 use Rattle.qoi.specs.inner.Hashed.{pixel_of_lanes, HoldsSeen}
 use Rattle.qoi.specs.pieces.PixelReader.{PixelsState, pixels_left, HasGiven}
-use Rattle.qoi.specs.pieces.Unread.{kept_raw, copies, DecoderAfter, IsUnread}
+use Rattle.qoi.specs.pieces.Unread.{kept_raw, IsUnread}
+use Rattle.qoi.specs.inner.Filling.{DecoderAfter}
 use Rattle.qoi.specs.pieces.RowIndex.{PlaceState, StandsAt, ReadsFile, IsPlaceOf, GoesOnAt, file_decoder}
 use Rattle.qoi.proofs.format.HeaderBytes.{header_front}
 use Rattle.qoi.proofs.format.WholePixels.{by_channels, whole_pixels, length-output}
 use Rattle.qoi.proofs.decoding.ImageSize.{channels_are}
-use Rattle.qoi.proofs.decoding.PieceSteps.{none_kept, kept_long, gone_count}
+use Rattle.qoi.proofs.decoding.PieceSteps.{copies, none_kept, kept_long, gone_count}
 use Rattle.qoi.proofs.decoding.PixelPieces.{byte_bounds, has_given}
 
 -- a header has its bytes
@@ -46,8 +46,8 @@ place_stands channels h file p m s (is, given, r) =
       split = stands.taken;
       at = omega (arith, s.at, header_fits file h is, length-drop header_size file, ap length stands.taken, length-append (chunk_bytes stands.cs) p.reader);
       pixels = stands.pixels ∙ ap (λ z. z ++ gone) (sym (copies_of c p.unread.run p.unread.last m.run m.last run s.last));
-      table = s.table (then_chunks [] stands.cs) (subst (HoldsSeen p.unread.table) (sym stands.pixels) stands.table_is);
-      last = s.last ∙ stands.last_is ∙ ap previous (sym stands.pixels);
+      table = s.table (then_chunks [] stands.cs) (subst (HoldsSeen p.unread.table) (sym stands.pixels) stands.has_seen.table_is);
+      last = s.last ∙ stands.has_seen.last_is ∙ ap previous (sym stands.pixels);
       left = (gone_count f c (pixel_count h) m.left gone (given ++ kept_raw p.unread) p.unread.undecoded is_c so_far size).0 some;
     }
 
@@ -85,19 +85,18 @@ place_resumes channels h file m q s is p =
     let reader : q.reader ≡ p.rest = s.reader ∙ rest_at file n m p in
     let same : replicate m.run m.last ≡ copies c q.unread.run q.unread.last = copies_of c q.unread.run q.unread.last m.run m.last (run_back c m.run q.unread.run is_c s.run) (sym s.last) in
     let all : then_chunks [] p.cs ≡ copies c q.unread.run q.unread.last ++ p.gone = p.pixels ∙ ap (λ z. z ++ p.gone) same in
-    let after : DecoderAfter (Consumes start (Some q.reader)) q.unread.table q.unread.last (copies c q.unread.run q.unread.last ++ p.gone) = record {
+    let after : DecoderAfter start (Some q.reader) q.unread.table q.unread.last (copies c q.unread.run q.unread.last ++ p.gone) = record {
       cs = p.cs;
       chunks = p.chunks;
       pixels = all;
       taken = p.split ∙ ap (λ z. chunk_bytes p.cs ++ z) (sym reader);
-      table_is = subst (HoldsSeen q.unread.table) all (s.table (then_chunks [] p.cs) p.table);
-      last_is = s.last ∙ p.last ∙ ap previous all;
+      has_seen = record { table_is = subst (HoldsSeen q.unread.table) all (s.table (then_chunks [] p.cs) p.table); last_is = s.last ∙ p.last ∙ ap previous all };
     } in
     let size : length given ≡ c * length p.gone = length-output f c (reverse p.gone) is_c ∙ ap (λ k. c * k) (length-reverse p.gone) in
     let more : q.unread.run < q.unread.undecoded = fewer_bytes c m.run m.left q.unread.run q.unread.undecoded is_c s.run s.left s.behind in
     let unread : IsUnread f c n start (Some q.reader) given q.unread = record {
       size = omega (arith, all_bytes c (length p.gone) m.left n (length given) q.unread.undecoded is_c size s.left p.left, s.none);
-      goes_on = λ some. (p.gone, after, none_kept q.unread given s.none);
+      goes_on = λ some. (p.gone, after, none_kept q.unread given (omega (arith, s.none)));
       ends = λ none. absurd (omega (arith, none, more));
     } in
     (is, given, has_given (file_decoder channels h file) start (Some q.reader) given q unread s.pixels s.header s.channels s.going (byte_bounds h channels s.valid).0)

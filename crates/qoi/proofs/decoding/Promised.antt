@@ -1,8 +1,8 @@
 -- What a success and a refusal promise follows from what they mean, also which errors refuse known
 -- bytes ahead of a decoder.
-use Rattle.std.proofs.Common.{◌≡◌, ℕ, List, Bool, true, false, Option, Some, inl, inr, refl, subst, ◌≤◌, ◌<◌, ◌+◌, ◌*◌, [], take, length, None, IfSome, Ok, ◌-◌, ◌^◌, min, ◌++◌, drop, sym, ◌∙◌, ap, arith}
+use Rattle.std.proofs.Common.{◌/◌, ◌≡◌, ℕ, List, Bool, true, false, Option, Some, inl, inr, refl, subst, ◌≤◌, ◌<◌, ◌+◌, ◌*◌, [], take, length, None, IfSome, Ok, ◌-◌, ◌^◌, min, ◌++◌, drop, sym, ◌∙◌, ap, arith, Err}
 use Rattle.qoi.specs.Styles.{Style}
-use Rattle.qoi.specs.Decoding.{RefusesBytes, RefusesImage, RefusesTaken, DecodesFile, ReadsImage, TakesHeader, RefusesFile, RefusesStreamHeader}
+use Rattle.qoi.specs.Decoding.{RefusesBytes, RefusesImage, RefusesTaken, DecodesFile, ReadsImage, ReadsHeader, TakesHeader, RefusesFile}
 use Rattle.qoi.specs.Verdicts.{AreWrong, AreCut, IsWhole}
 use Rattle.qoi.specs.Errors.{IsErrorOfCut, IsErrorOfWrong, IsIoError}
 use Rattle.qoi.proofs.decoding.StreamVerdicts.{cut_is_io_error, padding_is_wrong}
@@ -13,8 +13,7 @@ use Rattle.qoi.specs.declared.types.Channels.TheVariants.{Rgb, Rgba}
 use Rattle.qoi.specs.Qoi.{Error, UnexpectedBufferEnd, InvalidPadding, IoError, Chunk, Header, Channels, channels_number, pixel_count, header_size, header_of, IsValid, AreBytes, file}
 use Rattle.qoi.specs.Raw.{HasImageLength, capped_byte_count, image_byte_count, byte_count}
 use Rattle.qoi.specs.DecoderState.{DecoderState, output_byte_count}
-use Rattle.qoi.specs.declared.decode.reader.Conversion.{Conversion}
-use Rattle.qoi.specs.inner.Chunks.{conversion_of, ReadsIn, RefusesIn}
+use Rattle.qoi.specs.inner.Chunks.{Conversion, conversion_of, ReadsIn}
 use Rattle.qoi.specs.Images.{front_image, front_rest, file_image, file_image_in, file_rest}
 use Rattle.qoi.specs.Reading.{IsImage}
 use Rattle.qoi.specs.Decoded.{HasHeader, HasRefusedHeader, HasDecoded, HasRefused, HasDecodedFile, HasRefusedFile}
@@ -103,10 +102,10 @@ has_header d old new takes own =
     }
 
 -- a valid header is refused only for a fault of the reader
-header_fault : (bytes : List ℕ) (e : Error) (h : Header) → RefusesStreamHeader (Some bytes) e → header_of bytes ≡ Ok h → IsIoError e
-header_fault bytes (IoError x) h r read = tt
-header_fault bytes e h (None, (taken, none, why)) read = absurd none
-header_fault bytes e h (Some rest, (taken, split, why)) read =
+header_fault : (bytes : List ℕ) (new : Option (List ℕ)) (e : Error) (h : Header) → ReadsHeader false (Some bytes) new (Err e) → header_of bytes ≡ Ok h → IsIoError e
+header_fault bytes new (IoError x) h r read = tt
+header_fault bytes None e h (taken, none, why) read = absurd none
+header_fault bytes (Some rest) e h (taken, split, why) read =
     let front = header_at_front bytes h read in
     let same : take 14 bytes ≡ taken = ap (take 14) split ∙ take_at taken rest 14 why.0 in
     let refused = why.1 in
@@ -114,10 +113,10 @@ header_fault bytes e h (Some rest, (taken, split, why)) read =
     absurd cc
 
 -- what a refused header of a stream promises
-pub has_refused_header : (old : Option (List ℕ)) (e : Error) → RefusesStreamHeader old e → HasRefusedHeader old e
-has_refused_header old e r = record {
-  why = r;
-  fault = if_known old _ (λ bytes told h read. header_fault bytes e h (subst (λ z. RefusesStreamHeader z e) told r) read);
+pub has_refused_header : (old new : Option (List ℕ)) (e : Error) → ReadsHeader false old new (Err e) → HasRefusedHeader old e
+has_refused_header old new e r = record {
+  why = (new, r);
+  fault = if_known old _ (λ bytes told h read. header_fault bytes new e h (subst (λ z. ReadsHeader false z new (Err e)) told r) read);
 }
 
 -- what a success promises
@@ -160,7 +159,7 @@ has_refused in_memory d old new e r = record {
 
 -- what a refusal in a decoder's channels promises
 pub refused_in : {R : Type 0} {in_memory : Bool} {k : Conversion} {size : ℕ} {start old new : Option (List ℕ)} {e : Error} (d : DecoderState R) → k ≡ conversion_of d
-    → size ≡ output_byte_count d → start ≡ old → RefusesIn k size in_memory start new e → HasRefused in_memory d old new e
+    → size ≡ output_byte_count d → start ≡ old → RefusesImage in_memory (size / channels_number k.channels) start new e → HasRefused in_memory d old new e
 refused_in {in_memory = in_memory} {k} {size} {old = old} {new} {e} d own all ahead why =
     let pixels = pixels_of_size d.header d.channels size (channels_number k.channels) all (ap (λ j. channels_number j.channels) own) in
     has_refused in_memory d old new e (subst (λ z. RefusesImage in_memory (pixel_count d.header) z new e) ahead (rw pixels at why))

@@ -1,10 +1,9 @@
 -- What a refusal says of bytes in memory.
 use Rattle.std.proofs.Common.{◌≡◌, ℕ, List, drop, Bool, true, false, IsTrue, Option, Some, Ok, inl, inr, refl, sym, subst}
 use Rattle.qoi.specs.Qoi.{Error, UnexpectedBufferEnd, InvalidPadding, Header, pixel_count, header_of, header_size}
-use Rattle.qoi.specs.Decoding.{RefusesBytes}
+use Rattle.qoi.specs.Decoding.{RefusesBytes, IsNoFile}
 use Rattle.qoi.specs.DecoderState.{DecoderState}
 use Rattle.qoi.specs.Decoded.{HasHeader, HasDecoded, HasRefused}
-use Rattle.qoi.specs.FrontFile.{IsNoFile}
 use Rattle.qoi.specs.Reading.{IsCutAhead, IsWrongAhead, SaysWhy}
 use Rattle.qoi.proofs.decoding.Promised.{why_after}
 

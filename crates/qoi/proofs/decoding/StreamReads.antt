@@ -1,13 +1,13 @@
 -- What was read from a stream, piece after piece, and why an image is refused.
-use Rattle.std.proofs.Common.{◌≡◌, ◌≢◌, ℕ, zero, suc, ◌+◌, ◌<◌, ◌≤◌, ◌-◌, ◌⊎◌, inl, inr, List, [], ◌∷◌, ◌++◌, length, get_or, take, drop, take-append-drop, Option, arith, refl, sym, ap, ◌∙◌, append-nil}
+use Rattle.std.proofs.Common.{◌≡◌, ℕ, zero, suc, ◌+◌, ◌<◌, ◌≤◌, ◌-◌, ◌⊎◌, inl, inr, List, [], ◌∷◌, ◌++◌, length, get_or, take, drop, take-append-drop, Option, arith, refl, sym, ap, ◌∙◌}
 use Rattle.std.specs.Io.KnownBytes.{Consumes}
 use Rattle.std.proofs.KnownBytes.{Consumes-trans}
 use Rattle.qoi.specs.inner.Filling.{Filling, DecodesChunk}
 use Rattle.qoi.proofs.format.OneVerdict.{chunks_apart}
 use Rattle.std.proofs.lemmas.Bool.{cases_lt}
-use Rattle.qoi.specs.Qoi.{Error, InvalidPadding, IoError, UnexpectedBufferEnd, Chunk, Place, Diff, Run, Rgb, Rgba, AreBytes, IsChunk, AreChunks, bytes_of, chunk_bytes, Reaches, marker_size, end_marker}
-use Rattle.qoi.specs.Verdicts.{IsPartOfChunk, AreCut, AreWrongThen}
-use Rattle.qoi.specs.Decoding.{RefusesBytes, RefusesMarker, RefusesTaken, RefusesTakenMarker}
+use Rattle.qoi.specs.Qoi.{Error, InvalidPadding, IoError, UnexpectedBufferEnd, Chunk, Place, Diff, Run, Rgb, Rgba, AreBytes, IsChunk, AreChunks, bytes_of, chunk_bytes, Reaches, marker_size}
+use Rattle.qoi.specs.Verdicts.{IsPartOfChunk, HasChunks, AreCut, AreWrongThen}
+use Rattle.qoi.specs.Decoding.{RefusesBytes, RefusesTaken}
 use Rattle.qoi.proofs.format.PartOfChunk.{byte_and, part_luma, part_rgb, part_rgba}
 
 -- the front of bytes is bytes
@@ -46,7 +46,7 @@ decodes_taken start middle end bytes size b more one others (c, rest, is_chunk, 
     let same = chunks_apart c first.chunk rest (drop size bytes) is_chunk first.is_chunk (sym bytes_are ∙ split) in (
       b ∷ more,
       Consumes-trans start middle end (b ∷ []) more one others,
-      record { chunk = first.chunk; is_chunk = first.is_chunk; bytes_are = taken_is ∙ ap bytes_of same.0; decodes = first.decodes },
+      record { chunk = first.chunk; is_chunk = first.is_chunk; bytes_are = taken_is ∙ ap bytes_of same.0; has_seen = first.has_seen; filled = first.filled },
     )
 
 -- the byte of an index position, difference or run is a chunk of its own
@@ -77,29 +77,34 @@ pub rgba_ahead : (b : ℕ) (more zeros : List ℕ) → b ≡ 255 → length more
 rgba_ahead x (r ∷ g ∷ b ∷ a ∷ []) zeros is size fits = (Rgba r g b a, zeros, (fits 0, fits 1, fits 2, fits 3), rw is refl, rw is refl)
 rgba_ahead x _ zeros is size fits = absurd (omega arith)
 
--- chunks that reach n pixels are cut behind them if fewer bytes than a marker's follow
-cut_behind : (n : ℕ) (bytes : List ℕ) (cs : List Chunk) (part : List ℕ) → AreChunks cs → Reaches n cs → bytes ≡ chunk_bytes cs ++ part → length part < marker_size → AreCut n bytes
-cut_behind n bytes cs part chunks reaches split few =
-    (cs, part, record { has = record { chunks = chunks; stays_below = reaches.stays_below; split = split }; ends = inr (reaches.enough, few) })
+-- bytes that begin with no chunk, behind chunks that reach n pixels
+has_behind : {n : ℕ} {cs none : List Chunk} {bytes rest : List ℕ} → AreChunks cs → Reaches n cs → HasChunks 0 bytes none rest → HasChunks n (chunk_bytes cs ++ bytes) cs rest
+has_behind {cs = cs} {none = []} chunks reaches has =
+    record { chunks = chunks; stays_below = reaches.stays_below; split = ap (λ z. chunk_bytes cs ++ z) has.split }
+has_behind {none = c ∷ more} chunks reaches has = absurd (omega (arith, has.stays_below.0))
 
--- and wrong if eight others do
-wrong_behind : (n : ℕ) (bytes : List ℕ) (cs : List Chunk) (eight rest : List ℕ) → AreChunks cs → Reaches n cs → bytes ≡ chunk_bytes cs ++ (eight ++ rest) → length eight ≡ marker_size
-    → eight ≢ end_marker → AreWrongThen n bytes rest
-wrong_behind n bytes cs eight rest chunks reaches split size other =
-    (cs, eight, record { has = record { chunks = chunks; stays_below = reaches.stays_below; split = split }; enough = reaches.enough; length_is = size; other = other })
+-- they are cut there if they are cut alone
+cut_behind : (n : ℕ) (cs : List Chunk) → AreChunks cs → Reaches n cs → (bytes : List ℕ) → AreCut 0 bytes → AreCut n (chunk_bytes cs ++ bytes)
+cut_behind n cs chunks reaches bytes (none, part, cut) =
+    let few : length part < marker_size = elim cut.ends [ inl fewer ↦ absurd (omega (arith, fewer.0)) | inr few ↦ few.1 ] in
+    (cs, part, record { has = has_behind chunks reaches cut.has; ends = inr (reaches.enough, few) })
+
+-- and wrong if they are wrong alone
+wrong_behind : (n : ℕ) (cs : List Chunk) → AreChunks cs → Reaches n cs → (bytes rest : List ℕ) → AreWrongThen 0 bytes rest
+    → AreWrongThen n (chunk_bytes cs ++ bytes) rest
+wrong_behind n cs chunks reaches bytes rest (none, eight, wrong) =
+    (cs, eight, record { has = has_behind chunks reaches wrong.has; enough = reaches.enough; length_is = wrong.length_is; other = wrong.other })
 
 -- why an image is refused whose marker is refused
-pub refused_after : (n : ℕ) (cs : List Chunk) → AreChunks cs → Reaches n cs → (taken : List ℕ) (e : Error) → RefusesTakenMarker taken e
+pub refused_after : (n : ℕ) (cs : List Chunk) → AreChunks cs → Reaches n cs → (taken : List ℕ) (e : Error) → RefusesTaken 0 taken e
     → RefusesTaken n (chunk_bytes cs ++ taken) e
-refused_after n cs chunks reaches taken (IoError x) few = cut_behind n _ cs taken chunks reaches refl few
-refused_after n cs chunks reaches taken InvalidPadding (eight, other) =
-    wrong_behind n _ cs taken [] chunks reaches (ap (λ z. chunk_bytes cs ++ z) (sym (append-nil taken))) eight other
+refused_after n cs chunks reaches taken (IoError x) cut = cut_behind n cs chunks reaches taken cut
+refused_after n cs chunks reaches taken InvalidPadding wrong = wrong_behind n cs chunks reaches taken [] wrong
 refused_after n cs chunks reaches taken _ none = none
 
--- why bytes are refused, if what follows their chunks is
-pub bytes_refused : (n : ℕ) (bytes rest : List ℕ) (cs : List Chunk) → AreChunks cs → Reaches n cs → bytes ≡ chunk_bytes cs ++ rest
-    → (e : Error) → RefusesMarker rest e → RefusesBytes n bytes e
-bytes_refused n bytes rest cs chunks reaches split UnexpectedBufferEnd few = cut_behind n bytes cs rest chunks reaches split few
-bytes_refused n bytes rest cs chunks reaches split InvalidPadding (eight, more, size, other, is) =
-    (more, wrong_behind n bytes cs eight more chunks reaches (split ∙ ap (λ z. chunk_bytes cs ++ z) is) size other)
-bytes_refused n bytes rest cs chunks reaches split _ none = none
+-- and in memory
+pub bytes_refused : (n : ℕ) (cs : List Chunk) → AreChunks cs → Reaches n cs → (bytes : List ℕ) (e : Error) → RefusesBytes 0 bytes e
+    → RefusesBytes n (chunk_bytes cs ++ bytes) e
+bytes_refused n cs chunks reaches bytes UnexpectedBufferEnd cut = cut_behind n cs chunks reaches bytes cut
+bytes_refused n cs chunks reaches bytes InvalidPadding (rest, wrong) = (rest, wrong_behind n cs chunks reaches bytes rest wrong)
+bytes_refused n cs chunks reaches bytes _ none = none

@@ -7,7 +7,7 @@ use borrow.Rule.Slice.PartMut.{put_mid}
 use lib.Lanes.{put_chunk}
 use Rattle.qoi.specs.Qoi.{RgbaPixel}
 use Rattle.qoi.specs.Raw.{IsChannels, pixel_bytes, output}
-use Rattle.qoi.specs.inner.Filling.{upto, HasWritten, HasCopies}
+use Rattle.qoi.specs.inner.Filling.{HasWritten, HasCopies}
 use Rattle.qoi.specs.inner.Hashed.{pixel_of_lanes}
 use Rattle.qoi.proofs.format.LaneBytes.{bytes_put}
 use Rattle.qoi.proofs.format.WholePixels.{by_channels, take-output}
@@ -70,13 +70,13 @@ vector_written f c px out bytes at count is room e le =
 -- a pixel of three bytes alone
 pub three_bytes_written : (f c : ℕ) (p : RgbaPixel) (out bytes : List ℕ) (at : ℕ) → c ≡ 3 → at + c ≤ length out
     → bytes ≡ take 16 (output f c (replicate 6 p))
-    → HasWritten f c (upto out at) (upto (set (set (set out at (get_or bytes 0 0)) (at + 1) (get_or bytes 1 0)) (at + 2) (get_or bytes 2 0)) (at + c)) (p ∷ [])
+    → HasWritten f c out at (set (set (set out at (get_or bytes 0 0)) (at + 1) (get_or bytes 1 0)) (at + 2) (get_or bytes 2 0)) (at + c) (p ∷ [])
 three_bytes_written f c p out bytes at e room is = rw (is, e) (record { at_is = omega arith; same = grind (arith, take-set_at, length-set, append_assoc) })
 
 -- a pixel of four bytes alone
 pub four_bytes_written : (f c : ℕ) (p : RgbaPixel) (out bytes : List ℕ) (at : ℕ) → c ≡ 4 → at + c ≤ length out
     → bytes ≡ take 16 (output f c (replicate 6 p))
-    → HasWritten f c (upto out at) (upto (set (set (set (set out at (get_or bytes 0 0)) (at + 1) (get_or bytes 1 0)) (at + 2) (get_or bytes 2 0)) (at + 3) (get_or bytes 3 0)) (at + c)) (p ∷ [])
+    → HasWritten f c out at (set (set (set (set out at (get_or bytes 0 0)) (at + 1) (get_or bytes 1 0)) (at + 2) (get_or bytes 2 0)) (at + 3) (get_or bytes 3 0)) (at + c) (p ∷ [])
 four_bytes_written f c p out bytes at e room is = rw (is, e) (record { at_is = omega arith; same = grind (arith, take-set_at, length-set, append_assoc) })
 
 -- no copies
@@ -84,7 +84,7 @@ pub written_none : (f c : ℕ) (old : List ℕ) (at px : ℕ) → HasCopies f c 
 written_none f c old at px = record { at_is = refl; same = let none : at + c * 0 ≡ at = omega arith in rw none (sym (append-nil (take at old))) }
 
 -- one of them
-pub written_one : {f c : ℕ} {old new : List ℕ} (px at : ℕ) → HasWritten f c (upto old at) (upto new (at + c)) (pixel_of_lanes px ∷ []) → HasCopies f c at 1 px old new
+pub written_one : {f c : ℕ} {old new : List ℕ} (px at : ℕ) → HasWritten f c old at new (at + c) (pixel_of_lanes px ∷ []) → HasCopies f c at 1 px old new
 written_one {c = c} px at w = let one : at + c * 1 ≡ at + c = omega arith in rw one w
 
 -- k copies were written twice; so any number up to both

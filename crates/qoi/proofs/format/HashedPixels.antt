@@ -5,7 +5,8 @@ use Rattle.std.proofs.lemmas.Bool.{cases_lt}
 use Rattle.std.proofs.lemmas.Grind.{and_high_numeral}
 use Rattle.std.proofs.lemmas.Nat.{and_block, and_mask}
 use Rattle.qoi.specs.Qoi.{RgbaPixel, Past, pixel, blank, hash, moved, seen, after_diff, after_luma}
-use Rattle.qoi.specs.inner.Hashed.{pixel_of_lanes, IsHashed, IsPlain, IsAdded, IsAfterShort, HoldsSeen, step, lane_mask, alpha_mask, top_mask}
+use Rattle.qoi.specs.inner.Hashed.{pixel_of_lanes, IsHashed, IsPlain, IsAdded, IsAfterShort, HoldsSeen, step}
+use Rattle.qoi.specs.declared.decode.deltas.TheConstants.{KEEP}
 use Rattle.qoi.proofs.format.SamePixels.{same_pixel}
 
 -- transparent black is zero, and so is its index position
@@ -14,7 +15,7 @@ unfolding blank hash
 blank_is = (refl, refl)
 
 -- the bits of the mask, sixteen by sixteen
-mask_blocks : (a b g r : ℕ) → b < 2 ^ 16 → g < 2 ^ 16 → r < 2 ^ 16 → bit_and (((a * 2 ^ 16 + b) * 2 ^ 16 + g) * 2 ^ 16 + r) lane_mask
+mask_blocks : (a b g r : ℕ) → b < 2 ^ 16 → g < 2 ^ 16 → r < 2 ^ 16 → bit_and (((a * 2 ^ 16 + b) * 2 ^ 16 + g) * 2 ^ 16 + r) KEEP
     ≡ ((a % 2 ^ 16 * 2 ^ 16 + b % 2 ^ 8) * 2 ^ 16 + g % 2 ^ 8) * 2 ^ 16 + r % 2 ^ 8
 mask_blocks a b g r lb lg lr =
     and_block 16 ((a * 2 ^ 16 + b) * 2 ^ 16 + g) 0xffff00ff00ff r 0xff lr (omega arith)
@@ -23,9 +24,9 @@ mask_blocks a b g r lb lg lr =
     ∙ omega (arith, and_mask a 16, and_mask b 8, and_mask g 8, and_mask r 8)
 
 -- the mask takes away what stands above red, green and blue
-masked : (s : ℕ) → s < 2 ^ 64 → bit_and s lane_mask ≡ s % 2 ^ 8 + s / 2 ^ 16 % 2 ^ 8 * 2 ^ 16 + s / 2 ^ 32 % 2 ^ 8 * 2 ^ 32 + s / 2 ^ 48 * 2 ^ 48
+masked : (s : ℕ) → s < 2 ^ 64 → bit_and s KEEP ≡ s % 2 ^ 8 + s / 2 ^ 16 % 2 ^ 8 * 2 ^ 16 + s / 2 ^ 32 % 2 ^ 8 * 2 ^ 32 + s / 2 ^ 48 * 2 ^ 48
 masked s l =
-    ap (λ z. bit_and z lane_mask) split
+    ap (λ z. bit_and z KEEP) split
     ∙ mask_blocks (s / 2 ^ 48) (s / 2 ^ 32 % 2 ^ 16) (s / 2 ^ 16 % 2 ^ 16) (s % 2 ^ 16) (omega arith) (omega arith) (omega arith)
     ∙ omega (arith, l)
   where
@@ -33,9 +34,9 @@ masked s l =
     split = omega arith
 
 -- the other mask leaves alpha alone
-alpha_alone : (s : ℕ) → bit_and s alpha_mask ≡ s / 2 ^ 48 % 2 ^ 8 * 2 ^ 48
+alpha_alone : (s : ℕ) → bit_and s 0xff000000000000 ≡ s / 2 ^ 48 % 2 ^ 8 * 2 ^ 48
 alpha_alone s =
-    ap (λ z. bit_and z alpha_mask) split
+    ap (λ z. bit_and z 0xff000000000000) split
     ∙ and_block 48 (s / 2 ^ 48) 0xff (s % 2 ^ 48) 0 (omega arith) (omega arith)
     ∙ omega (arith, and_mask (s / 2 ^ 48) 8, and_zero_r (s % 2 ^ 48))
   where
@@ -77,7 +78,7 @@ with_alpha t w a la hashed none e =
     }
 
 -- the number after an RGB chunk: three of the four lanes that are read, and the last pixel's alpha
-pub after_rgb : (s keep four read w : ℕ) → keep ≡ alpha_mask → read ≡ 2 ^ 48 - 1 → IsHashed w → pixel_of_lanes w ≡ pixel_of_lanes (bit_and four read)
+pub after_rgb : (s keep four read w : ℕ) → keep ≡ 0xff000000000000 → read ≡ 2 ^ 48 - 1 → IsHashed w → pixel_of_lanes w ≡ pixel_of_lanes (bit_and four read)
     → IsNumberOf ((bit_and s keep * 0x2c01 % 2 ^ 64 + w) % 2 ^ 64) (with_a four (s / 2 ^ 48 % 2 ^ 8))
 after_rgb s keep four read w is_keep is_read hashed same =
     let kept : bit_and s keep ≡ s / 2 ^ 48 % 2 ^ 8 * 2 ^ 48 = ap (λ m. bit_and s m) is_keep ∙ alpha_alone s in
@@ -100,11 +101,11 @@ after_rgba s keep w is_keep hashed =
     omega (arith, kept, hashed)
 
 -- the mask leaves the index position alone
-top_alone : (s : ℕ) → s < 2 ^ 64 → bit_and s top_mask ≡ s / 2 ^ 56 * 2 ^ 56
+top_alone : (s : ℕ) → s < 2 ^ 64 → bit_and s 0xff00000000000000 ≡ s / 2 ^ 56 * 2 ^ 56
 top_alone s l = omega (arith, and_high_numeral s 0xfeffffffffffffff refl l)
 
 -- the index position, which the product has, is added to the lanes
-pub placed_lanes : (l mask : ℕ) → IsPlain l → mask ≡ top_mask → IsNumberOf ((l + bit_and (l * 0x0c0014001c002c00 % 2 ^ 64) mask) % 2 ^ 64) (pixel_of_lanes l)
+pub placed_lanes : (l mask : ℕ) → IsPlain l → mask ≡ 0xff00000000000000 → IsNumberOf ((l + bit_and (l * 0x0c0014001c002c00 % 2 ^ 64) mask) % 2 ^ 64) (pixel_of_lanes l)
 unfolding hash
 placed_lanes l mask plain is =
     let place = l * 0x0c0014001c002c00 % 2 ^ 64 / 2 ^ 56 in
@@ -117,7 +118,7 @@ placed_lanes l mask plain is =
     }
 
 -- three of four lanes, and alpha of the last pixel
-pub lanes_with_alpha : (s four kept read : ℕ) → IsPlain four → kept ≡ alpha_mask → read ≡ 2 ^ 48 - 1
+pub lanes_with_alpha : (s four kept read : ℕ) → IsPlain four → kept ≡ 0xff000000000000 → read ≡ 2 ^ 48 - 1
     → (bit_and s kept + bit_and four read) % 2 ^ 64 ≡ four % 2 ^ 48 + s / 2 ^ 48 % 2 ^ 8 * 2 ^ 48
 lanes_with_alpha s four kept read plain is_kept is_read =
     let alpha : bit_and s kept ≡ s / 2 ^ 48 % 2 ^ 8 * 2 ^ 48 = ap (λ m. bit_and s m) is_kept ∙ alpha_alone s in
@@ -155,7 +156,7 @@ alpha_lane t u a high lu la e = omega arith
 
 -- numbers that are added in their lanes move the pixel, and with it the index position
 pub sum_is : (s t r g b k : ℕ) → s < 2 ^ 64 → IsHashed s → r ≤ 1000 → g ≤ 1000 → b ≤ 1000 → k % 64 ≡ (3 * r + 5 * g + 7 * b) % 64
-    → t ≡ (bit_and s lane_mask + r + g * 2 ^ 16 + b * 2 ^ 32 + 4 * k * 2 ^ 56) % 2 ^ 64 → IsNumberOf t (moved (pixel_of_lanes s) r g b)
+    → t ≡ (bit_and s KEEP + r + g * 2 ^ 16 + b * 2 ^ 32 + 4 * k * 2 ^ 56) % 2 ^ 64 → IsNumberOf t (moved (pixel_of_lanes s) r g b)
 sum_is s t r g b k l h lr lg lb position e =
     let red = s % 2 ^ 8 + r in
     let green = s / 2 ^ 16 % 2 ^ 8 + g in
@@ -175,7 +176,7 @@ sum_is s t r g b k l h lr lg lb position e =
       is_hashed = high ∙ ap (λ i. 4 * i) (sym (ap hash px ∙ hash_moved (pixel_of_lanes s) r g b k position));
     }
   where
-    by_parts : (s r g b k : ℕ) → s < 2 ^ 64 → bit_and s lane_mask + r + g * 2 ^ 16 + b * 2 ^ 32 + 4 * k * 2 ^ 56
+    by_parts : (s r g b k : ℕ) → s < 2 ^ 64 → bit_and s KEEP + r + g * 2 ^ 16 + b * 2 ^ 32 + 4 * k * 2 ^ 56
         ≡ s % 2 ^ 8 + r + (s / 2 ^ 16 % 2 ^ 8 + g) * 2 ^ 16 + (s / 2 ^ 32 % 2 ^ 8 + b) * 2 ^ 32 + s / 2 ^ 48 % 2 ^ 8 * 2 ^ 48 + (s / 2 ^ 56 + 4 * k) * 2 ^ 56
     by_parts s r g b k l = omega (arith, l, masked s l)
 
@@ -183,7 +184,7 @@ sum_is s t r g b k l h lr lg lb position e =
 -- what is kept of that, what the second byte adds, and what the table says
 pub record IsShortSum (b e : ℕ) (table : List ℕ) (s own more entry : ℕ) : Type 0 where
   pub none : b < 64 → own ≡ 0
-  pub kept : 64 ≤ b → own ≡ bit_and s lane_mask
+  pub kept : 64 ≤ b → own ≡ bit_and s KEEP
   pub no_more : (b < 128) ⊎ (192 ≤ b) → more ≡ 0
   pub luma : 128 ≤ b → b < 192 → (e < 256) × (more ≡ step (e / 16) 0 (e % 16))
   pub hashed : b < 64 → IsHashed entry

@@ -7,7 +7,8 @@ use Rattle.std.proofs.Math.Nat.{mod-add-div', mul_comm, mul-mod_right, mul-div_c
 use Rattle.qoi.specs.declared.types.Channels.TheVariants.{Rgb, Rgba}
 use Rattle.qoi.specs.Qoi.{Error, InvalidImageLength, InvalidMagic, InvalidImageDimensions, UnexpectedBufferEnd, IoError, Channels, Srgb, Linear, Header, ColorSpace, channels_number, channels_of, pixel_count, pixels_max, tried_header, IsValid, magic_number, colorspace_number, colorspace_of, AreBytes, header_bytes, number_at, checked_header, with_channels_read, header_of}
 use Rattle.qoi.specs.Raw.{image_byte_count}
-use Rattle.qoi.specs.Encoded.{image_header, measured_header, with_number}
+use Rattle.std.specs.Result.{result_and, result_map_both}
+use Rattle.qoi.specs.Encoded.{image_header, measured_channels}
 use Rattle.std.proofs.lemmas.List.{append-nil, length-take-le, drop_at}
 use Rattle.std.proofs.lemmas.Nat.{from_be_bytes-to_be_bytes_4, be_bytes_4}
 use Rattle.std.specs.Int.{w32, to_be_bytes}
@@ -199,47 +200,46 @@ header_split bytes taken rest h split size read =
 number_from : (n : ℕ) (c : Channels) → channels_of (min n 255) ≡ Ok c → n ≡ channels_number c
 number_from n c e = grind arith
 
--- the header with channels that were found
-found : (k h : Header) (r : Result Channels Error) → with_number k r ≡ Ok h → (c : Channels) × (r ≡ Ok c) × (record k { channels = c } ≡ h)
-found k h (Ok c) e = (c, refl, cc)
-found k h (Err x) e = absurd cc
-
--- raw bytes that are measured by a valid header
-measured_says : (raw : List ℕ) (r : Result Header Error) (h : Header) → ((k : Header) → r ≡ Ok k → IsValid k) → measured_header raw r ≡ Ok h
-    → IsValid h × (length raw ≡ image_byte_count h)
-measured_says raw (Err x) h valid e = absurd cc
-measured_says raw (Ok k) h valid e =
-    let g = guard_true (length raw % pixel_count k == 0) _ _ h e in
-    let f = found k h _ g.1 in
-    let n = pixel_count k in
+-- raw bytes of which channels were found
+measured_says : (raw : List ℕ) (width height : ℕ) (c : Channels) → measured_channels raw width height ≡ Ok c → length raw ≡ width * height * channels_number c
+measured_says raw width height c e =
+    let n = width * height in
+    let g = guard_true (length raw % n == 0) _ _ c e in
     let whole = eqb-true (length raw % n) 0 g.0 in
-    let number = number_from (length raw / n) f.0 f.1 in
     let times : length raw ≡ length raw / n * n = omega (arith, whole, mod-add-div' (length raw) n) in
-    let size : length raw ≡ n * channels_number f.0 = times ∙ ap (λ z. z * n) number ∙ mul_comm (channels_number f.0) n in
-    (subst IsValid f.2 (valid k refl), size ∙ ap image_byte_count f.2)
+    times ∙ ap (λ z. z * n) (number_from (length raw / n) c g.1) ∙ mul_comm (channels_number c) n
+
+-- an image's header in these channels, in sRGB
+abbrev in_channels : ℕ → ℕ → Channels → Header
+in_channels width height c = record { width = width; height = height; channels = c; colorspace = Srgb }
 
 -- the header of raw bytes that an encoder accepts is valid, and says how many they are
 pub accepted_says : (raw : List ℕ) (width height : ℕ) (h : Header) → image_header raw width height ≡ Ok h → IsValid h × (length raw ≡ image_byte_count h)
-accepted_says raw width height h e =
-    measured_says raw (tried_header width height Rgb Srgb) h (λ k is. (tried_says width height Rgb Srgb k is).1) e
+accepted_says raw width height h e = go (tried_header width height Rgb Srgb) (measured_channels raw width height) refl refl e
+  where
+    go : (t : Result Header Error) (r : Result Channels Error) → tried_header width height Rgb Srgb ≡ t → measured_channels raw width height ≡ r
+        → result_and t (result_map_both (in_channels width height) (λ e. e) r) ≡ Ok h → IsValid h × (length raw ≡ image_byte_count h)
+    go (Err x) r t m e = absurd cc
+    go (Ok k) (Err x) t m e = absurd cc
+    go (Ok k) (Ok c) t m e =
+        let tried = tried_says width height Rgb Srgb k t in
+        let is : in_channels width height c ≡ h = cc in
+        let count : pixel_count k ≡ pixel_count h = ap pixel_count (sym tried.0) ∙ ap pixel_count is in
+        (subst (λ n. (1 ≤ n) × (n ≤ pixels_max)) count tried.1, measured_says raw width height c m ∙ ap image_byte_count is)
 
--- the channels of a header are found from their number
-found_channels : (k : Header) (d : Channels) → with_number k (channels_of (min (channels_number d) 255)) ≡ Ok (record k { channels = d })
-found_channels k Rgb = refl
-found_channels k Rgba = refl
-
--- so they are from a number of bytes
-pub found_by : (k : Header) (d : Channels) (m n : ℕ) → m ≡ n * channels_number d → 0 < n
-    → (if m % n == 0 then with_number k (channels_of (min (m / n) 255)) else Err (InvalidImageLength m k.width k.height))
-    ≡ Ok (record k { channels = d })
-found_by k d m n size some = rw (size, mul-mod_right n (channels_number d), mul-div_cancel_left (channels_number d) some) (found_channels k d)
+-- the channels of raw bytes are found from their number
+pub found_by : (d : Channels) (m n width height : ℕ) → m ≡ n * channels_number d → 0 < n
+    → (if m % n == 0 then channels_of (min (m / n) 255) else Err (InvalidImageLength m width height)) ≡ Ok d
+found_by Rgb m n width height size some = rw (size, mul-mod_right n 3, mul-div_cancel_left 3 some) refl
+found_by Rgba m n width height size some = rw (size, mul-mod_right n 4, mul-div_cancel_left 4 some) refl
 
 -- raw bytes of a header's image are accepted with its width and height, and get its header, in sRGB
 pub encoded_again : (h : Header) (raw : List ℕ) → IsValid h → length raw ≡ image_byte_count h
     → image_header raw h.width h.height ≡ Ok (record h { colorspace = Srgb })
 encoded_again h raw valid size =
     let k : Header = record h { channels = Rgb; colorspace = Srgb } in
-    ap (measured_header raw) (tried_valid k valid) ∙ found_by k h.channels (length raw) (pixel_count h) size (omega (arith, valid.0))
+    let channels : measured_channels raw h.width h.height ≡ Ok h.channels = found_by h.channels (length raw) (pixel_count h) h.width h.height size (omega (arith, valid.0)) in
+    rw (tried_valid k valid, channels) refl
 
 -- raw bytes of the right number get the header of their size
 pub size_accepted : (raw : List ℕ) (width height : ℕ) (channels : Channels) → 1 ≤ width * height → width * height ≤ pixels_max

@@ -1,51 +1,53 @@
 -- What a pixel costs: the shortest chunk of a fresh one, and a run of repeats.
-use Rattle.std.proofs.Common.{◌≡◌, ◌≢◌, ℕ, zero, suc, ◌+◌, ◌-◌, ◌/◌, ◌%◌, ◌<◌, ◌≤◌, Bool, true, false, cond, eqb, ◌∷◌, ◌++◌, replicate, refl, sym, arith}
+use Rattle.std.proofs.Common.{◌≡◌, ◌≢◌, ℕ, zero, suc, ◌+◌, ◌-◌, ◌/◌, ◌%◌, ◌<◌, ◌≤◌, Bool, true, false, cond, eqb, ◌∷◌, ◌++◌, replicate, sym, arith, ◌∙◌}
 use Rattle.std.specs.Bool.{Decides}
 use Rattle.std.proofs.lemmas.Bool.{cond-true, cond-false, eq-eqb, ne_eqb}
-use Rattle.std.proofs.lemmas.Bool.Decides.{Decides-below_or}
+use Rattle.std.specs.List.{list_any, range_with_len}
+use Rattle.std.proofs.lemmas.List.FromFn.{length-range_with_len, get_or-range_with_len}
+use Rattle.std.proofs.lemmas.List.Folds.{Any-from_list_any, list_any_at}
 use Rattle.qoi.specs.Qoi.{Diff, Luma, RgbaPixel, Past, pixel_eq, previous, seen, hash, IsChunk, after_diff, after_luma}
-use Rattle.qoi.specs.Shortest.{some_below, some_diff, some_luma, least, trailing_repeats, cost, total_cost}
+use Rattle.qoi.specs.Shortest.{some_diff, some_luma, least, trailing_repeats, cost, total_cost}
 use Rattle.qoi.proofs.format.SamePixels.{pixel_eq-from, pixel_eq-true, pixel_eq-ne}
 use Rattle.qoi.proofs.format.ChunkSteps.{previous_repeats}
 
--- whether some number below n passes
-below : (n : ℕ) (test : ℕ → Bool) → Decides (some_below n test) ((d : ℕ) × (d < n) × (test d ≡ true))
-below n test = Decides-below_or test (λ d. test d ≡ true) (λ k. some_below k test) (λ d. (λ e. e, λ e. e)) refl (λ k. refl) n
+-- whether some number of a range passes
+in_range : (a n : ℕ) (test : ℕ → Bool) → Decides (list_any test (range_with_len a n)) ((d : ℕ) × (a ≤ d) × (d < a + n) × (test d ≡ true))
+in_range a n test = (
+  λ t.
+      let (k, d, within, is, passes) = Any-from_list_any test (range_with_len a n) t in
+      let k_is : k < n = omega (arith, within, length-range_with_len a n) in
+      let d_is : a + k ≡ d = sym (get_or-range_with_len a n k d k_is) ∙ is in
+      (d, omega (arith, d_is), omega (arith, d_is, k_is), passes),
+  λ w.
+      let at : a + (w.0 - a) ≡ w.0 = omega (arith, w.1) in
+      let k_is : w.0 - a < n = omega (arith, w.1, w.2) in
+      list_any_at test (range_with_len a n) (w.0 - a) 0 (rw (length-range_with_len a n) k_is) (rw (get_or-range_with_len a n (w.0 - a) 0 k_is, at) w.3),
+)
 
 -- a Diff that gives the pixel shows that some does
 pub some_diff-from : (q p : RgbaPixel) (d : ℕ) → IsChunk (Diff d) → after_diff q d ≡ p → some_diff q p ≡ true
 unfolding some_diff
-some_diff-from q p d i e =
-    let k : 64 + (d - 64) ≡ d = omega arith in
-    (below 64 (λ d. pixel_eq (after_diff q (64 + d)) p)).1 (d - 64, omega arith, rw k (pixel_eq-from _ p e))
+some_diff-from q p d i e = (in_range 64 64 (λ d. pixel_eq (after_diff q d) p)).1 (d, i.0, i.1, pixel_eq-from _ p e)
 
 -- if some Diff gives the pixel there is one
 pub some_diff-true : (q p : RgbaPixel) → some_diff q p ≡ true → (d : ℕ) × IsChunk (Diff d) × (after_diff q d ≡ p)
 unfolding some_diff
-some_diff-true q p h =
-    let w = (below 64 (λ d. pixel_eq (after_diff q (64 + d)) p)).0 h in
-    let l = w.1 in
-    (64 + w.0, (omega arith, omega arith), pixel_eq-true _ p w.2)
+some_diff-true q p h = let (d, low, high, is) = (in_range 64 64 (λ d. pixel_eq (after_diff q d) p)).0 h in (d, (low, high), pixel_eq-true _ p is)
 
 -- a Luma that gives the pixel shows that some does
 pub some_luma-from : (q p : RgbaPixel) (d e : ℕ) → IsChunk (Luma d e) → after_luma q d e ≡ p → some_luma q p ≡ true
 unfolding some_luma
 some_luma-from q p d e i s =
-    let k : 128 + (d - 128) ≡ d = omega arith in
-    (below 64 (λ d. some_below 256 (λ e. pixel_eq (after_luma q (128 + d) e) p))).1 (
-      d - 128,
-      omega arith,
-      (below 256 (λ e. pixel_eq (after_luma q (128 + (d - 128)) e) p)).1 (e, i.2, rw k (pixel_eq-from _ p s)),
-    )
+    (in_range 128 64 (λ d. list_any (λ e. pixel_eq (after_luma q d e) p) (range_with_len 0 256))).1
+    (d, i.0, i.1, (in_range 0 256 (λ e. pixel_eq (after_luma q d e) p)).1 (e, omega arith, i.2, pixel_eq-from _ p s))
 
 -- if some Luma gives the pixel there is one
 pub some_luma-true : (q p : RgbaPixel) → some_luma q p ≡ true → (d e : ℕ) × IsChunk (Luma d e) × (after_luma q d e ≡ p)
 unfolding some_luma
 some_luma-true q p h =
-    let w = (below 64 (λ d. some_below 256 (λ e. pixel_eq (after_luma q (128 + d) e) p))).0 h in
-    let v = (below 256 (λ e. pixel_eq (after_luma q (128 + w.0) e) p)).0 w.2 in
-    let l = w.1 in
-    (128 + w.0, v.0, (omega arith, omega arith, v.1), pixel_eq-true _ p v.2)
+    let (d, low, high, some) = (in_range 128 64 (λ d. list_any (λ e. pixel_eq (after_luma q d e) p) (range_with_len 0 256))).0 h in
+    let (e, least, most, is) = (in_range 0 256 (λ e. pixel_eq (after_luma q d e) p)).0 some in
+    (d, e, (low, high, most), pixel_eq-true _ p is)
 
 -- the fewest bytes of a fresh pixel, by the kinds of chunks that give it
 pub record Bounds (past : Past) (p : RgbaPixel) : Type 0 where

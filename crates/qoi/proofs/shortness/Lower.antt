@@ -2,9 +2,9 @@
 -- the tight one.
 use Rattle.std.proofs.Common.{◌≡◌, ◌⊎◌, inl, inr, ℕ, ◌+◌, ◌≤◌, true, false, ◌&&◌, List, [], ◌∷◌, length, reverse, None, is_some, refl, sym, ap, ◌∙◌, append-nil, arith, ◌++◌}
 use Rattle.std.proofs.lemmas.Bool.{cond-true, and_from}
-use Rattle.qoi.specs.Qoi.{Chunk, Place, Diff, Luma, Run, Rgb, Rgba, RgbaPixel, Past, pixel_eq, blank, previous, seen, hash, IsChunk, AreChunks, pixel_after, bytes_of, chunk_bytes, then_chunk, meaning, Each, then_chunks}
+use Rattle.qoi.specs.Qoi.{Chunk, Place, Diff, Luma, Run, Rgb, Rgba, RgbaPixel, Past, pixel_eq, blank, previous, seen, hash, IsChunk, AreChunks, pixel_after, bytes_of, chunk_bytes, then_chunk, Each, then_chunks}
 use Rattle.qoi.specs.Raw.{HasChannels}
-use Rattle.qoi.specs.Regular.{Begins, NamesPixelThere, Regular}
+use Rattle.qoi.specs.Regular.{Covers, NamesPixelThere, Regular}
 use Rattle.qoi.specs.Shortest.{least, cost, total_cost, floor}
 use Rattle.qoi.specs.Written.{GivesFresh, IsAllowedAfter, WrittenBy}
 use Rattle.qoi.specs.Styles.{is_run}
@@ -63,9 +63,8 @@ module _ (shortest : Past → RgbaPixel → ℕ) (Allowed : Past → Chunk → T
       omega (arith, cost_chunk past c k.0 a.0, cost_chunks (then_chunk past c) cs k.1 a.1, length-append (bytes_of c) (chunk_bytes cs))
 
   -- so the pixels of an image cost no more than an allowed chunk list that begins with it
-  pub lower_by : (image : List RgbaPixel) (cs : List Chunk) → AreChunks cs → Each Allowed [] cs → Begins (meaning cs) image
-      → total_cost shortest (reverse image) ≤ length (chunk_bytes cs)
-  lower_by image cs k a (more, b) =
+  pub lower_by : (image : List RgbaPixel) (cs : List Chunk) → Covers image cs → Each Allowed [] cs → total_cost shortest (reverse image) ≤ length (chunk_bytes cs)
+  lower_by image cs (k, more, b) a =
       let h = cost_chunks [] cs k a in
       let e : then_chunks [] cs ≡ reverse more ++ reverse image = sym (reverse-reverse (then_chunks [] cs)) ∙ ap reverse b ∙ reverse-append image more in
       let f = cost_front shortest (reverse more) (reverse image) in
@@ -73,8 +72,8 @@ module _ (shortest : Past → RgbaPixel → ℕ) (Allowed : Past → Chunk → T
       omega arith
 
 -- no regular chunk list that begins with an image has fewer bytes than the image's floor
-pub lower : (image : List RgbaPixel) (cs : List Chunk) → AreChunks cs → Regular cs → Begins (meaning cs) image → floor image ≤ length (chunk_bytes cs)
-lower image cs k r b = lower_by least NamesPixelThere least_bounds image cs k r b
+pub lower : (image : List RgbaPixel) (cs : List Chunk) → Covers image cs → Regular cs → floor image ≤ length (chunk_bytes cs)
+lower = lower_by least NamesPixelThere least_bounds
 
 -- a fresh pixel costs at least a byte
 least0_low : (past : Past) (p : RgbaPixel) → 1 ≤ least0 past p
@@ -111,8 +110,8 @@ each_allowed past [] = tt
 each_allowed past (c ∷ cs) = (tt, each_allowed (then_chunk past c) cs)
 
 -- no chunk list that begins with an image has fewer bytes than its pixels cost
-pub lower0 : (image : List RgbaPixel) (cs : List Chunk) → AreChunks cs → Begins (meaning cs) image → floor0 image ≤ length (chunk_bytes cs)
-lower0 image cs k b = lower_by least0 (λ past c. Unit {0}) least0_bounds image cs k (each_allowed [] cs) b
+pub lower0 : (image : List RgbaPixel) (cs : List Chunk) → Covers image cs → floor0 image ≤ length (chunk_bytes cs)
+lower0 image cs covers = lower_by least0 (λ past c. Unit {0}) least0_bounds image cs covers (each_allowed [] cs)
 
 -- a fresh pixel's chunk is no longer than it costs
 tight_cost : (past : Past) (c : Chunk) → IsChunk c → HasChannels (then_chunk past c) 4 → is_run c ≡ false → GivesFresh IsTightChoice past c
@@ -128,7 +127,7 @@ tight_cost past c k h o g r =
 pub tight_exact : (image : List RgbaPixel) (cs : List Chunk) → WrittenBy IsTightChoice image cs → length (chunk_bytes cs) ≡ floor0 image
 tight_exact image cs w =
     let u = upper_by least0 IsTightChoice (λ past. 0) (λ past p. omega arith) 4 tight_cost image cs (inl refl) w in
-    let l = lower0 image cs w.chunks ([], w.means ∙ sym (append-nil image)) in
+    let l = lower0 image cs (w.chunks, [], w.means ∙ sym (append-nil image)) in
     omega arith
 
 -- if a pixel's shortest chunk is no longer, pixels cost no more

@@ -2,9 +2,9 @@
 use Rattle.std.proofs.Common.{◌≡◌, ◌≢◌, inl, inr, ◌+◌, ◌<◌, ◌≤◌, List, [], ◌∷◌, ◌++◌, length, reverse, sym, ap, ◌∙◌, subst, arith}
 use Rattle.std.specs.List.{AllByRecursion}
 use Rattle.std.proofs.lemmas.List.{length-append, length-reverse, reverse-append, reverse-reverse}
-use Rattle.qoi.specs.Qoi.{Chunk, Place, RgbaPixel, Past, blank, seen, hash, then_chunk, then_chunks, meaning, Each, Reaches}
+use Rattle.qoi.specs.Qoi.{Chunk, Place, RgbaPixel, Past, blank, seen, hash, then_chunk, then_chunks, Each, Reaches}
 use Rattle.qoi.specs.Written.{noted, IsChoice, IsAllowedAfter, Written}
-use Rattle.qoi.specs.Regular.{NamesPixelThere, Regular, Begins}
+use Rattle.qoi.specs.Regular.{NamesPixelThere, Regular, Covers}
 use Rattle.qoi.proofs.format.SamePixels.{cases_pixel}
 use Rattle.qoi.proofs.format.ChunkSteps.{given, then_chunks_given, all_back, all_reverse}
 use Rattle.qoi.proofs.encoding.styles.TightChoice.{unseen_blank, unseen_or}
@@ -53,9 +53,9 @@ all_named past [] us vs e l h = tt
 all_named past (c ∷ cs) us vs e l h = (named_within past c cs us vs e l.0 h, all_named (then_chunk past c) cs us vs e l.1 h)
 
 -- a list of an image without transparent black is regular
-pub no_blank_regular : (image : List RgbaPixel) (cs : List Chunk) → Reaches (length image) cs → Begins (meaning cs) image
+pub no_blank_regular : (image : List RgbaPixel) (cs : List Chunk) → Reaches (length image) cs → Covers image cs
     → AllByRecursion (λ p. p ≢ blank) image → Regular cs
-no_blank_regular image cs r (more, b) h =
+no_blank_regular image cs r (chunks, more, b) h =
     let e : then_chunks [] cs ≡ reverse more ++ reverse image = sym (reverse-reverse (then_chunks [] cs)) ∙ ap reverse b ∙ reverse-append image more in
     let l : length image ≡ length (reverse image) = sym (length-reverse image) in
     all_named [] cs (reverse more) (reverse image) e (subst (λ n. Each (λ past c. length past < n) [] cs) l r.stays_below)

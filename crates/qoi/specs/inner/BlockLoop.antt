@@ -1,14 +1,11 @@
 -- The state between two blocks, by what is carried from one to the next.
 use Rattle.std.specs.Prelude.{◌≡◌, ◌≢◌, ◌<◌, ◌≤◌, ◌++◌, ℕ, false, List, length, slice_get, Some}
-use Rattle.qoi.specs.declared.encode.carry.Carry.{Carry}
-use Rattle.qoi.specs.declared.encode.carry.TheConstants.{FRONT_CARRIED}
-use Rattle.qoi.specs.declared.encode.coder.LastPixel.{LastPixel}
-use Rattle.qoi.specs.declared.encode.piece.Piece.{Piece}
-use Rattle.qoi.specs.declared.encode.pixels.Pixels.{Pixels}
+pub use Rattle.qoi.specs.declared.encode.carry.Carry.{Carry}
+pub use Rattle.qoi.specs.declared.encode.carry.TheConstants.{FRONT_CARRIED}
 use Rattle.qoi.specs.Styles.{Style, Tight}
 use Rattle.qoi.specs.Qoi.{RgbaPixel}
-use Rattle.qoi.specs.inner.block.Block.{last_pixel}
-use Rattle.qoi.specs.inner.Coder.{pixels_in, kept_bytes, CoderBetween}
+use Rattle.qoi.specs.inner.Coder.{LastPixel, Piece, Pixels, pixels_in, kept_bytes, CoderBetween}
+use Rattle.qoi.specs.inner.block.Planes.{last_pixel}
 
 -- this last pixel and its repeats are carried
 pub record IsCarried {N : ℕ} (last : LastPixel) (carry : Carry N) : Type 0 where
@@ -16,18 +13,11 @@ pub record IsCarried {N : ℕ} (last : LastPixel) (carry : Carry N) : Type 0 whe
   pub count_is : carry.count ≡ last.repeats
   pub placed_is : carry.placed ≡ last.placed
 
--- no repeats are to be written, the next pixel is fresh, and n pixels or more come; but not in style
--- Tight
-pub record OpensBlock (style : Style) (last : LastPixel) (n : ℕ) (rest : List RgbaPixel) : Type 0 where
-  pub none : last.repeats ≡ 0
-  pub fresh : slice_get rest 0 ≢ Some last.px
-  pub whole : n ≤ length rest
-  pub other : style ≢ Tight
-
--- A fresh pixel came, or the next pixel opens a block. If the next pixel repeats the last, so few
--- repeats are to be written that with a block's they are fewer than 62.
+-- A fresh pixel came, or the next one is fresh, no repeats are to be written, n pixels or more come, and
+-- the style isn't Tight. If the next pixel repeats the last, so few repeats are to be written that with
+-- a block's they are fewer than 62.
 pub record GoesByBlocks (style : Style) (last : LastPixel) (n : ℕ) (rest : List RgbaPixel) : Type 0 where
-  pub opens : last.begun ≡ false → OpensBlock style last n rest
+  pub opens : last.begun ≡ false → (last.repeats ≡ 0) × (slice_get rest 0 ≢ Some last.px) × (n ≤ length rest) × (style ≢ Tight)
   pub few : slice_get rest 0 ≡ Some last.px → last.repeats ≤ FRONT_CARRIED
 
 -- Between two blocks: the carried repeats are still to be written, the pixels `rest`, and then

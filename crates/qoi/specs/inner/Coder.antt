@@ -3,14 +3,15 @@
 -- chunk of a fresh pixel as a number.
 use Rattle.std.specs.Prelude.{◌≡◌, ◌<◌, ℕ, Bool, not, ◌&&◌, ◌||◌, nat_lt, if◌then◌else◌, List, [], ◌∷◌, ◌++◌, length, take, Option, Some}
 use Rattle.std.specs.List.{AllByRecursion}
-use Rattle.qoi.specs.declared.encode.coder.Coder.{Coder}
-use Rattle.qoi.specs.declared.encode.coder.LastPixel.{LastPixel}
-use Rattle.qoi.specs.declared.encode.piece.Piece.{Piece}
-use Rattle.qoi.specs.declared.encode.pixels.Pixels.{Pixels}
+pub use Rattle.qoi.specs.declared.encode.coder.Coder.{Coder}
+pub use Rattle.qoi.specs.declared.encode.coder.LastPixel.{LastPixel}
+pub use Rattle.qoi.specs.declared.encode.piece.Piece.{Piece}
+pub use Rattle.qoi.specs.declared.encode.piece.TheConstants.{SPARE, FULL_ROOM, RUNS_AT_ONCE, REPEATS_AT_ONCE}
+pub use Rattle.qoi.specs.declared.encode.pixels.Pixels.{Pixels}
 use Rattle.qoi.specs.Qoi.{Chunk, Place, Run, RgbaPixel, IsPixel, Past, previous, hash, IsChunk, bytes_of, chunk_bytes}
 use Rattle.qoi.specs.Raw.{pixels_of}
 use Rattle.qoi.specs.Written.{fresh, IsFirst}
-use Rattle.qoi.specs.Styles.{Style, Reference, Places, Tight, some_fresh, names, styled}
+use Rattle.qoi.specs.Styles.{Style, Places, Tight, some_fresh, names, styled}
 use Rattle.qoi.specs.WrittenList.{chosen, list_after}
 use Rattle.qoi.specs.inner.Table.{Holds}
 use Rattle.qoi.specs.inner.block.Storing.{chunk_of}
@@ -26,17 +27,15 @@ kept_bytes s = take s.end s.bytes.now
 -- the pixels that a coder puts at their index positions: the fresh ones, and in style Tight all of
 -- them
 abbrev pub held_in : Style → Past → Past
-held_in Reference past = fresh past
-held_in Places past = fresh past
 held_in Tight past = past
+held_in style past = fresh past
 
 -- the chunk of the single repeat that is left of a group of n, after runs of 62 and before a fresh
 -- pixel: from the index position of the repeated pixel, whether a fresh pixel came, and whether the
 -- chunk before names the position
 abbrev pub single_chunk : Style → Bool → Bool → ℕ → ℕ → Chunk
-single_chunk Reference begun placed place n = Run 1
-single_chunk Tight begun placed place n = Run 1
 single_chunk Places begun placed place n = if begun && (nat_lt 1 n || not placed) then Place place else Run 1
+single_chunk style begun placed place n = Run 1
 
 -- the last of the chunks, or the chunk before them if there is none
 abbrev pub last_chunk : Option Chunk → List Chunk → Option Chunk
@@ -65,10 +64,6 @@ pub record CoderAfter (style : Style) (past : Past) (before : Option Chunk) (tab
   pub last_is : last.px ≡ previous past
   pub begun_is : last.begun ≡ some_fresh past
   pub placed_is : style ≡ Places → last.placed ≡ names before (hash (previous past))
-
--- `single_chunk` for a group of n repeats of the last pixel
-abbrev pub single : Style → LastPixel → ℕ → Chunk
-single style last n = single_chunk style last.begun last.placed (hash last.px) n
 
 -- Between two pixels: repeats of the last one are still to be written, and the pixels `rest`.
 pub record CoderBetween (style : Style) (ahead : List ℕ) (rest : List RgbaPixel) (table : List RgbaPixel) (last : LastPixel) (kept : List ℕ) : Type 0 where

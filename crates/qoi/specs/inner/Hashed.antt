@@ -1,6 +1,6 @@
 -- Pixels as single numbers that hold their index positions too.
 use Rattle.std.specs.Prelude.{◌≡◌, ℕ, ◌+◌, ◌*◌, ◌/◌, ◌%◌, ◌^◌, ◌<◌, ◌≤◌, List, length, slice_index}
-use Rattle.qoi.specs.Qoi.{RgbaPixel, Past, pixel, positions, diff_tag, luma_tag, run_tag, rgb_tag, rgba_tag, hash, seen, after_diff, after_luma}
+use Rattle.qoi.specs.Qoi.{RgbaPixel, Past, pixel, previous, positions, diff_tag, luma_tag, run_tag, rgb_tag, rgba_tag, hash, seen, after_diff, after_luma}
 
 -- the pixel of four lanes of 16 bits, red in the lowest: each channel has the eight lower ones,
 -- whatever stands in the others
@@ -14,18 +14,6 @@ IsPlain l = l ≡ l % 2 ^ 8 + l / 2 ^ 16 % 2 ^ 8 * 2 ^ 16 + l / 2 ^ 32 % 2 ^ 8 *
 -- the eight highest bits of the number are four times the index position of its pixel
 abbrev pub IsHashed : ℕ → Type 0
 IsHashed s = s / 2 ^ 56 ≡ 4 * hash (pixel_of_lanes s)
-
--- the bits of such a number that say the pixel and its index position
-abbrev pub lane_mask : ℕ
-lane_mask = 0xffff00ff00ff00ff
-
--- those that say alpha
-abbrev pub alpha_mask : ℕ
-alpha_mask = 0xff000000000000
-
--- those that say the index position
-abbrev pub top_mask : ℕ
-top_mask = 0xff00000000000000
 
 -- what is added to such a number, so that red, green and blue grow by these: the index position
 -- grows with them
@@ -48,6 +36,11 @@ pub record AreTerms (numbers : List ℕ) : Type 0 where
 -- were put there one after the other.
 abbrev pub HoldsSeen : List ℕ → Past → Type 0
 HoldsSeen numbers past = (i : ℕ) → i < positions → pixel_of_lanes (slice_index numbers i) ≡ seen past i
+
+-- the table holds what is seen of all of these pixels, and the last of them has this number
+pub record HasSeen (table : List ℕ) (last : ℕ) (past : Past) : Type 0 where
+  pub table_is : HoldsSeen table past
+  pub last_is : pixel_of_lanes last ≡ previous past
 
 -- p is the pixel after an index position, a difference, a luma or a run, of whose bytes b is the first
 -- and e comes next, by the table and the last pixel

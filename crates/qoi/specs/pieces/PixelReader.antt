@@ -1,11 +1,10 @@
 -- What a contract sees of an image that is decoded piece by piece.
 use Rattle.std.specs.Prelude.{◌≡◌, ℕ, ◌+◌, ◌*◌, ◌<◌, List, length, take, Bool, true, false, Option, IfSome}
-use Rattle.qoi.specs.declared.decode.pixel_reader.unread.Unread.{Unread}
 use Rattle.qoi.specs.Qoi.{Channels, Error, Header, channels_number, pixel_count, chunk_max, marker_size}
 use Rattle.qoi.specs.DecoderState.{DecoderState, output_byte_count, TakesAtMost}
 use Rattle.qoi.specs.Images.{front_image}
 use Rattle.qoi.specs.Decoded.{HasDecoded, HasRefused}
-use Rattle.qoi.specs.pieces.Unread.{IsUnread, bytes_left}
+use Rattle.qoi.specs.pieces.Unread.{Unread, IsUnread, bytes_left}
 
 -- the reader as it stands, the header of the file, the channels of the output, what is unread of the image,
 -- and whether it was refused

@@ -1,13 +1,12 @@
 -- What a contract sees of an image whose raw bytes come piece by piece, and what a pixel writer promises.
 use Rattle.std.specs.Prelude.{◌≡◌, ℕ, ◌+◌, List, ◌++◌, length, Option, Bool, true, false, ◌⊎◌, ◌<◌, ◌≤◌, []}
 use Rattle.qoi.specs.Styles.{Style}
-use Rattle.qoi.specs.declared.encode.chunks.Pending.{Pending}
 use Rattle.qoi.specs.Qoi.{Error, InvalidImageLength, Header, AreBytes}
 use Rattle.qoi.specs.Raw.{image_byte_count}
-use Rattle.qoi.specs.EncoderState.{EncoderState}
 use Rattle.qoi.specs.Errors.{IsIoError}
 use Rattle.qoi.specs.Sent.{SendsPart}
-use Rattle.qoi.specs.inner.Sending.{appended, ImageBetween}
+use Rattle.qoi.specs.EncoderState.{EncoderState}
+use Rattle.qoi.specs.inner.Sending.{appended, ImageBetween, Pending}
 
 -- the writer as it stands, header and style of the file, how many raw bytes haven't come, whether the
 -- writer reported a fault, the raw bytes that are held, and what stands between two blocks

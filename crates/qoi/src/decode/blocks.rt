@@ -2,8 +2,7 @@
 //! each of which a row of RGB or of RGBA chunks is looked for, and then one of plain chunks. So
 //! such rows cost the fast loop no test a chunk. A row here is chunks one after the other, and not a
 //! row of the image; `ROW` is for how many short ones room is tested at once.
-ghost use Rattle.std.specs.Prelude.{◌≡◌, ◌⊎◌, ◌+◌, ◌*◌, ◌<◌, ◌≤◌, length};
-ghost use Rattle.qoi.specs.declared.decode.fast.TheConstants.{INPUT_ROOM, OUTPUT_ROOM};
+ghost use Rattle.std.specs.Prelude.{◌≡◌, ◌⊎◌, ◌+◌, ◌*◌, ◌<◌, ◌≤◌, length, drop, Some, true};
 
 use crate::decode::fast::{FEW, INPUT_ROOM, OUTPUT_ROOM, Progress};
 use crate::decode::reached::{Decoded, Reached};
@@ -24,7 +23,8 @@ const LONG_PLAIN_ROW: usize = 144;
 const SHORT_BLOCK: usize = 8;
 
 impl<const N: usize, const F: usize> Progress<N, F> {
-    ghost use Rattle.qoi.specs.inner.Filling.{upto, IsFillable, filling, TakesOn, CanLoop, FastChunks};
+    ghost use Rattle.qoi.specs.inner.Filling.{INPUT_ROOM, IsFillable, filling, CanLoop, FastChunks};
+    ghost use Rattle.qoi.specs.inner.Chunks.{TakesMore};
 
     // `chunks_ahead` from a state of the loop: in blocks, and in rows of full chunks or of plain ones,
     // if `ROW` is 8, else by `chunks_until`.
@@ -77,8 +77,9 @@ impl<const N: usize, const F: usize> Progress<N, F> {
         requires input { INPUT_ROOM ≤ length bytes.now }
         requires room { 16 * ROW + 16 ≤ length out.old }
         requires within { from.taken < length bytes.now }
-        requires fillable { IsFillable N (upto out.old from.reached.at) }
-        ensures takes { TakesOn F N bytes.now from.taken result.taken
+        requires fillable { IsFillable N out.old from.reached.at }
+        ensures takes { TakesMore F N true
+            (Some (drop from.taken bytes.now)) (Some (drop result.taken bytes.now))
             (filling table.old from.reached out.old) (filling table.new result.reached out.new) }
         ensures within { result.taken < length bytes.now }
     {
@@ -107,8 +108,8 @@ impl<const N: usize, const F: usize> Progress<N, F> {
         bytes: &[u8],
         out: &mut [u8],
     ) -> Decoded
-        requires { IsFillable N (upto out.old from.at) }
-        ensures takes { TakesOn F N bytes.now 0 result.taken
+        requires { IsFillable N out.old from.at }
+        ensures takes { TakesMore F N true (Some bytes.now) (Some (drop result.taken bytes.now))
             (filling table.old from out.old) (filling table.new result.reached out.new) }
         ensures within { result.taken ≤ length bytes.now }
     {

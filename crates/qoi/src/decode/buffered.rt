@@ -3,7 +3,7 @@ ghost use Rattle.std.specs.Prelude.{◌<◌, [], length, true, false, IfOk, IfEr
 ghost use Rattle.std.specs.Io.KnownBytes.{Consumes};
 ghost use Rattle.qoi.specs.declared.error.Error.{Error};
 ghost use Rattle.qoi.specs.inner.Chunks.{TakesMore, TakesChunks, RefusesFilling};
-ghost use Rattle.qoi.specs.inner.Filling.{upto, IsFillable, filling};
+ghost use Rattle.qoi.specs.inner.Filling.{IsFillable, filling};
 
 use crate::decode::chunks::Chunks;
 use crate::decode::fast::{OUTPUT_ROOM, Progress};
@@ -27,7 +27,7 @@ fn chunks_in_buffer<R: BufRead, const N: usize, const F: usize>(
     from: Reached,
     out: &mut [u8],
 ) -> io::Result<Reached>
-    requires { IsFillable N (upto out.old from.at) }
+    requires { IsFillable N out.old from.at }
     ensures takes { IfOk result (λ now. TakesMore F N true
         (R.remaining reader.old) (R.remaining reader.new)
         (filling table.old from out.old) (filling table.new now out.new)) }
@@ -55,7 +55,7 @@ fn decode_chunks<R: BufRead, const N: usize, const F: usize, const RUN_FITS: boo
     from: Reached,
     out: &mut [u8],
 ) -> io::Result<Reached>
-    requires { IsFillable N (upto out.old from.at) }
+    requires { IsFillable N out.old from.at }
     ensures read { IfOk result (λ now. TakesChunks F N RUN_FITS
         (R.remaining reader.old) (R.remaining reader.new)
         (filling table.old from out.old) (filling table.new now out.new)) }

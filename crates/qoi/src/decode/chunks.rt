@@ -6,10 +6,9 @@ ghost use Rattle.qoi.specs.Qoi.{run_max};
 ghost use Rattle.qoi.specs.Raw.{IsChannels};
 ghost use Rattle.qoi.specs.Decoding.{ReadsImage};
 ghost use Rattle.qoi.specs.inner.Chunks.{RefusesChunks, TakesChunks, RefusesFilling, ReadsRest, RefusesRest};
-ghost use Rattle.qoi.specs.inner.Filling.{upto, IsFillable, HasRoom, filling};
+ghost use Rattle.qoi.specs.inner.Filling.{RUN_ROOM, IsFillable, HasRoom, filling};
 ghost use Rattle.qoi.specs.pieces.Unread.{TakesInPlace, IsInPlace};
 ghost use Rattle.qoi.specs.declared.decode.chunks.TheConstants.{GROWTH};
-ghost use Rattle.qoi.specs.declared.decode.output.TheConstants.{RUN_ROOM};
 
 use crate::decode::hashed::Hashed;
 use crate::decode::reached::Reached;
@@ -37,7 +36,7 @@ pub(super) trait Chunks<const N: usize, const F: usize>: Sized {
         from: Reached,
         out: &mut [u8],
     ) -> Result<Reached>
-        requires { IsFillable N (upto out.old from.at) }
+        requires { IsFillable N out.old from.at }
         ensures read { IfOk result (λ now. TakesChunks F N true (ahead self.old) (ahead self.new)
             (filling table.old from out.old) (filling table.new now out.new)) }
         ensures refused { IfErr result (RefusesFilling F N in_memory
@@ -46,7 +45,7 @@ pub(super) trait Chunks<const N: usize, const F: usize>: Sized {
     /// Decodes chunks, after what others reached, until `out` is full, and takes the end marker and
     /// no byte past it.
     fn rest_of_image(&mut self, table: &mut TermTable, from: Reached, out: &mut [u8]) -> Result<()>
-        requires { IsFillable N (upto out.old from.at) }
+        requires { IsFillable N out.old from.at }
         ensures read { OnOk result (ReadsRest F N (ahead self.old) (ahead self.new)
             (filling table.old from out.old) out.new) }
         ensures refused { IfErr result (RefusesRest F N in_memory
@@ -62,7 +61,7 @@ pub(super) trait Chunks<const N: usize, const F: usize>: Sized {
         from: Reached,
         out: &mut [u8],
     ) -> Result<(Reached, usize)>
-        requires { HasRoom N false (upto out.old from.at) }
+        requires { HasRoom N false out.old from.at }
         ensures takes { IfOk result (λ now. TakesInPlace F N (ahead self.old) (ahead self.new)
             (filling table.old from out.old) table.new out.new now.0 now.1) }
         ensures sizes { IfOk result (λ now. IsInPlace N (length out.new) now.0 now.1) }

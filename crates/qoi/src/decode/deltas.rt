@@ -1,10 +1,11 @@
 //! What the bytes of a chunk do to the last pixel, and how many bytes its pixels have, by tables:
 //! so a loop has no jump between kinds of chunks.
-ghost use Rattle.std.specs.Prelude.{◌≡◌, ◌↔◌, IsTrue, ℕ, ◌-◌, ◌/◌, ◌%◌, ◌^◌, ◌<◌, ◌≤◌, nat_le, nat_lt, ◌&&◌, length, slice_index};
+ghost use Rattle.std.specs.Prelude.{◌≡◌, ◌↔◌, IsTrue, ℕ, ◌-◌, ◌*◌, ◌/◌, ◌%◌, ◌^◌, ◌<◌, ◌≤◌, nat_le, nat_lt, ◌&&◌, length, slice_index};
 ghost use Rattle.qoi.specs.Qoi.{diff_tag, luma_tag, run_tag, rgb_tag, rgba_tag};
 ghost use Rattle.qoi.specs.Raw.{IsChannels};
 ghost use Rattle.qoi.specs.inner.Filling.{IsAdvance, IsPlainTag};
-ghost use Rattle.qoi.specs.inner.Hashed.{step, lane_mask, alpha_mask, top_mask, IsAdded};
+ghost use Rattle.qoi.specs.inner.Hashed.{step, IsAdded};
+ghost use Rattle.qoi.specs.declared.decode.deltas.TheConstants.{KEEP};
 
 use crate::consts::QOI_OP_LUMA;
 
@@ -143,8 +144,8 @@ pub(super) fn second_added(b2: usize) -> u64
 pub(super) fn kept_by(b1: usize) -> u64
     requires { b1 < 256 }
     ensures place { b1 < diff_tag → result ≡ 0 }
-    ensures other { diff_tag ≤ b1 → b1 < rgb_tag → result ≡ lane_mask }
-    ensures rgb { b1 ≡ rgb_tag → result ≡ alpha_mask }
+    ensures other { diff_tag ≤ b1 → b1 < rgb_tag → result ≡ KEEP }
+    ensures rgb { b1 ≡ rgb_tag → result ≡ 0xff * 2 ^ 48 }
     ensures rgba { b1 ≡ rgba_tag → result ≡ 0 }
 {
     BYTE_TABLES[256 + b1]
@@ -169,7 +170,7 @@ pub(super) fn read_by(b1: usize) -> u64
 pub(super) fn placed_by(b1: usize) -> u64
     requires { b1 < 256 }
     ensures none { b1 < rgb_tag → result ≡ 0 }
-    ensures full { rgb_tag ≤ b1 → result ≡ top_mask }
+    ensures full { rgb_tag ≤ b1 → result ≡ 0xff * 2 ^ 56 }
 {
     BYTE_TABLES[1280 + b1]
 }

@@ -1,10 +1,10 @@
 //! A piece of an image that is decoded in place: by the fast loop, and near its end chunk by chunk, up
 //! to a run that goes on past it.
-ghost use Rattle.std.specs.Prelude.{◌≡◌, ◌↔◌, IsTrue, false, ◌-◌, ◌*◌, ◌<◌, ◌≤◌, ℕ, List, length};
-ghost use Rattle.qoi.specs.Qoi.{Past, run_tag, rgb_tag};
+ghost use Rattle.std.specs.Prelude.{◌≡◌, ◌↔◌, IsTrue, false, ◌-◌, ◌*◌, ◌<◌, ◌≤◌, length, drop, Some};
+ghost use Rattle.qoi.specs.Qoi.{run_tag, rgb_tag};
 ghost use Rattle.qoi.specs.Raw.{IsChannels};
-ghost use Rattle.qoi.specs.inner.Filling.{upto, HasRoom, filling, DecoderBetween, IsFrontAfter};
-ghost use Rattle.qoi.specs.pieces.Unread.{TakesPiece, IsInPlace};
+ghost use Rattle.qoi.specs.inner.Filling.{HasRoom, filling};
+ghost use Rattle.qoi.specs.pieces.Unread.{TakesInPlace, IsInPlace};
 
 use crate::consts::{QOI_OP_RGB, QOI_OP_RUN};
 use crate::decode::deltas::advance;
@@ -33,12 +33,10 @@ fn last_run<const N: usize, const F: usize>(
     out: &mut [u8],
 ) -> (Decoded, usize)
     requires ahead { from.taken < length bytes.now }
-    requires room { HasRoom N false (upto out.old from.reached.at) }
-    ensures takes { (gone : Past) (n : ℕ) (before : List ℕ)
-        → DecoderBetween F N gone n (IsFrontAfter before bytes.now from.taken)
-        (filling table.old from.reached out.old)
-        → TakesPiece F N gone (IsFrontAfter before bytes.now result.0.taken)
-        table.new out.new result.0.reached result.1 }
+    requires room { HasRoom N false out.old from.reached.at }
+    ensures takes { TakesInPlace F N
+        (Some (drop from.taken bytes.now)) (Some (drop result.0.taken bytes.now))
+        (filling table.old from.reached out.old) table.new out.new result.0.reached result.1 }
     ensures sizes { IsInPlace N (length out.new) result.0.reached result.1 }
     ensures within { result.0.taken ≤ length bytes.now }
 {
@@ -69,12 +67,9 @@ pub(super) fn chunks_in_place<const N: usize, const F: usize>(
     bytes: &[u8],
     out: &mut [u8],
 ) -> (Decoded, usize)
-    requires { HasRoom N false (upto out.old from.at) }
-    ensures takes { (gone : Past) (n : ℕ) (before : List ℕ)
-        → DecoderBetween F N gone n (IsFrontAfter before bytes.now 0)
-        (filling table.old from out.old)
-        → TakesPiece F N gone (IsFrontAfter before bytes.now result.0.taken)
-        table.new out.new result.0.reached result.1 }
+    requires { HasRoom N false out.old from.at }
+    ensures takes { TakesInPlace F N (Some bytes.now) (Some (drop result.0.taken bytes.now))
+        (filling table.old from out.old) table.new out.new result.0.reached result.1 }
     ensures sizes { IsInPlace N (length out.new) result.0.reached result.1 }
     ensures within { result.0.taken ≤ length bytes.now }
 {

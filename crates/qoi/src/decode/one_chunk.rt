@@ -1,7 +1,6 @@
 //! How one chunk is decoded. What its bytes do to the last pixel stands in `hashed` and `deltas`.
 ghost use Rattle.std.specs.Prelude.{◌≡◌, ◌+◌, ◌-◌, ◌<◌, ◌≤◌, length, take};
-ghost use Rattle.qoi.specs.declared.decode.output.TheConstants.{RUN_ROOM};
-ghost use Rattle.qoi.specs.inner.Filling.{upto, HasRoom, FillsMore, DecodesChunk, filling};
+ghost use Rattle.qoi.specs.inner.Filling.{HasRoom, FillsMore, DecodesChunk, filling};
 
 use crate::consts::{QOI_OP_RGB, QOI_OP_RGBA, QOI_OP_RUN};
 use crate::decode::deltas::{advance, is_luma};
@@ -18,12 +17,12 @@ pub(super) fn decode_chunk<const N: usize, const F: usize, const RUN_FITS: bool,
     bytes: &[u8],
     out: &mut [u8],
 ) -> Decoded
-    requires room { HasRoom N RUN_FITS (upto out.old from.at) }
+    requires room { HasRoom N RUN_FITS out.old from.at }
     requires long { 8 ≤ length bytes.now }
     ensures taken { result.taken ≤ length bytes.now }
     ensures decodes { DecodesChunk F N (take result.taken bytes.now)
         (filling table.old from out.old) (filling table.new result.reached out.new) }
-    ensures more { FillsMore N 1 RUN_ROOM (upto out.old from.at) (upto out.new result.reached.at) }
+    ensures more { FillsMore N out.old from.at out.new result.reached.at }
 {
     let Reached { last, at } = from;
     let b1 = bytes[0];

@@ -2,7 +2,7 @@
 ghost use Rattle.std.specs.Prelude.{◌≡◌, ◌+◌, ◌*◌, ◌/◌, ◌%◌, ◌-◌, ◌<◌, ◌≤◌, ℕ, [], ◌∷◌, ◌++◌, length, replicate};
 ghost use Rattle.qoi.specs.Qoi.{Past, run_max};
 ghost use Rattle.qoi.specs.declared.decode.output.TheConstants.{VECTOR, RUN_ROOM};
-ghost use Rattle.qoi.specs.inner.Filling.{upto, CanStore, HasWritten, HasCopies, HasFilled, HasRoom};
+ghost use Rattle.qoi.specs.inner.Filling.{CanStore, HasWritten, HasCopies, HasFilled, HasRoom};
 ghost use Rattle.qoi.specs.inner.Hashed.{pixel_of_lanes};
 
 use crate::decode::hashed::Hashed;
@@ -19,7 +19,7 @@ pub(super) const RUN_ROOM: usize = 256;
 #[inline(always)]
 fn store_pixel<const N: usize, const F: usize>(out: &mut [u8], at: usize, px: Hashed)
     requires { CanStore N (at + N) out.old }
-    ensures { HasWritten F N (upto out.old at) (upto out.new (at + N)) (pixel_of_lanes px ∷ []) }
+    ensures { HasWritten F N out.old at out.new (at + N) (pixel_of_lanes px ∷ []) }
 {
     // One by one: a copied slice is stored on the stack, and loading it again from there stalls.
     let bytes = px.repeated::<N, F>().to_array();
@@ -189,11 +189,11 @@ pub(super) fn fill<const N: usize, const F: usize, const RUN_FITS: bool>(
     count: usize,
     size: usize,
 ) -> usize
-    requires room { HasRoom N RUN_FITS (upto out.old from.at) }
+    requires room { HasRoom N RUN_FITS out.old from.at }
     requires size { size ≡ N * count }
     requires some { (0 < count) × (count ≤ run_max) }
-    ensures filled { (n : ℕ) (past : Past) → HasFilled F N n (upto out.old from.at) past
-        → HasFilled F N n (upto out.new result)
+    ensures filled { (n : ℕ) (past : Past) → HasFilled F N n out.old from.at past
+        → HasFilled F N n out.new result
         (replicate count (pixel_of_lanes from.last) ++ past) }
     ensures whole { result % N ≡ 0 }
     ensures within { (from.at < result) × (result ≤ length out.new) }

@@ -6,7 +6,7 @@ ghost use Rattle.qoi.specs.DecoderState.{DecoderState, output_byte_count};
 ghost use Rattle.qoi.specs.Images.{front_image, front_rest};
 ghost use Rattle.qoi.specs.pieces.PixelReader.{PixelsState, as_decoder, pixels_left, HasGiven, HasRows, RefusesPixels, IsSpent};
 ghost use Rattle.qoi.specs.Qoi.{Error, channels_number};
-ghost use Rattle.qoi.specs.pieces.Unread.{bytes_left, IsRestOf, KeepsPixels, Asks, Fills};
+ghost use Rattle.qoi.specs.pieces.Unread.{bytes_left, IsRestOf, KeepsPixels, Asks, Steps};
 ghost use Rattle.qoi.specs.Reading.{StandsAhead, IsCutAhead, IsWrongAhead, SaysWhy};
 ghost use Rattle.qoi.specs.Rectangles.{row_bytes, rectangle};
 
@@ -83,9 +83,9 @@ impl<R: Reader> Decoder<R> {
     #[inline(never)]
     fn ask_reader(&mut self, unread: &mut Unread, out: &mut [u8]) -> PieceResult<()>
         requires { Asks (channels_number self.old.channels) unread.old (length out.old) }
-        ensures step { Fills (channels_number self.old.header.channels)
+        ensures step { Steps (channels_number self.old.header.channels)
             (channels_number self.old.channels) R.in_memory (R.ahead self.old.reader)
-            (R.ahead self.new.reader) unread.old unread.new out.new result }
+            (R.ahead self.new.reader) unread.old unread.new out.new (λ _. length out.new) result }
         ensures kept { IsTrue R.in_memory
             → OnErr result (Keeps (R.ahead self.old.reader) (R.ahead self.new.reader)) }
         ensures unchanged { self.new ≡ record self.old { reader = self.new.reader } }
@@ -101,9 +101,9 @@ impl<R: Reader> Decoder<R> {
     fn next_piece(&mut self, unread: &mut Unread, out: &mut [u8]) -> PieceResult<()>
         requires fits { length out.old ≤ bytes_left unread.old }
         requires pixels { KeepsPixels (channels_number self.old.channels) unread.old }
-        ensures step { Fills (channels_number self.old.header.channels)
+        ensures step { Steps (channels_number self.old.header.channels)
             (channels_number self.old.channels) R.in_memory (R.ahead self.old.reader)
-            (R.ahead self.new.reader) unread.old unread.new out.new result }
+            (R.ahead self.new.reader) unread.old unread.new out.new (λ _. length out.new) result }
         ensures kept { IsTrue R.in_memory
             → OnErr result (Keeps (R.ahead self.old.reader) (R.ahead self.new.reader)) }
         ensures unchanged { self.new ≡ record self.old { reader = self.new.reader } }

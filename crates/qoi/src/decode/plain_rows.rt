@@ -1,7 +1,6 @@
 //! Rows of plain chunks, as palettes have them, by a loop of their own: index positions,
 //! differences, short runs, RGB and RGBA chunks in any order, without a jump between them.
 ghost use Rattle.std.specs.Prelude.{◌≤◌, length};
-ghost use Rattle.qoi.specs.declared.decode.fast.TheConstants.{OUTPUT_ROOM};
 
 use crate::consts::{QOI_OP_RGB, QOI_OP_RGBA};
 use crate::decode::deltas::{advance, is_plain};
@@ -19,7 +18,7 @@ const ROW_ROOM: usize = 41;
 const MOST_SAME: usize = 5;
 
 impl<const N: usize, const F: usize> Progress<N, F> {
-    ghost use Rattle.qoi.specs.inner.Filling.{HasAhead, FastStep, FastChunks, IsPlainTag};
+    ghost use Rattle.qoi.specs.inner.Filling.{OUTPUT_ROOM, HasAhead, FastStep, FastChunks, IsPlainTag};
 
     // Decodes a plain chunk without a jump. Its bytes are counted by a sum, which is known before a
     // number of a table would be. The byte that comes next is one of three, which are loaded before it

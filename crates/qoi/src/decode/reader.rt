@@ -7,8 +7,8 @@ ghost use Rattle.std.specs.Vec.{vec_len, vec_capacity};
 ghost use Rattle.qoi.specs.Qoi.{Error, channels_number};
 ghost use Rattle.qoi.specs.Raw.{AreChannels};
 ghost use Rattle.qoi.specs.Decoding.{ReadsImage, ReadsHeader, RefusesImage};
-ghost use Rattle.qoi.specs.inner.Chunks.{conversion_of, IsWholeIn, ReadsIn, RefusesIn};
-ghost use Rattle.qoi.specs.pieces.Unread.{kept_count, Asks, StepsIn};
+ghost use Rattle.qoi.specs.inner.Chunks.{conversion_of, ReadsIn};
+ghost use Rattle.qoi.specs.pieces.Unread.{kept_count, Asks, Steps};
 
 use crate::consts::QOI_HEADER_SIZE;
 use crate::decode::Decoder;
@@ -117,10 +117,11 @@ pub trait Reader: Sized {
     /// `decode_image`, in channels that a header can have.
     #[doc(hidden)]
     fn decode_image_in(&mut self, out: &mut [u8], conversion: Conversion) -> Result<()>
-        requires { IsWholeIn conversion (length out.old) }
+        requires { length out.old % channels_number conversion.channels ≡ 0 }
         ensures read { OnOk result (ReadsIn conversion (length out.old)
             (ahead self.old) (ahead self.new) out.new) }
-        ensures refused { IfErr result (RefusesIn conversion (length out.old) in_memory
+        ensures refused { IfErr result (RefusesImage in_memory
+            (length out.old / channels_number conversion.channels)
             (ahead self.old) (ahead self.new)) };
 
     /// Decodes the image ahead into an empty vector, which then has `size` bytes.
@@ -135,13 +136,13 @@ pub trait Reader: Sized {
         size: usize,
         conversion: Conversion,
     ) -> Result<()>
-        requires whole { IsWholeIn conversion size }
+        requires whole { size % channels_number conversion.channels ≡ 0 }
         requires empty { vec_len out.old ≡ 0 }
         requires room { size ≤ vec_capacity out.old }
         ensures read { OnOk result (ReadsIn conversion size
             (ahead self.old) (ahead self.new) out.new.items) }
-        ensures refused { IfErr result (RefusesIn conversion size in_memory
-            (ahead self.old) (ahead self.new)) };
+        ensures refused { IfErr result (RefusesImage in_memory
+            (size / channels_number conversion.channels) (ahead self.old) (ahead self.new)) };
 
     /// Decodes an image's next bytes, while none are kept. Returns how many are in `out`, maybe none;
     /// what it lacks, and more, goes to `unread`. With the last bytes it takes the end marker. After a
@@ -157,8 +158,9 @@ pub trait Reader: Sized {
         conversion: Conversion,
     ) -> PieceResult<usize>
         requires { Asks (channels_number conversion.channels) unread.old (length out.old) }
-        ensures step { StepsIn conversion in_memory (ahead self.old) (ahead self.new)
-            unread.old unread.new out.new result }
+        ensures step { Steps (channels_number conversion.file_channels)
+            (channels_number conversion.channels) in_memory (ahead self.old) (ahead self.new)
+            unread.old unread.new out.new (λ size. size) result }
         ensures enough { IfOk result (λ size. length out.new ≤ size + kept_count unread.new) }
         ensures kept { IsTrue in_memory → OnErr result (Keeps (ahead self.old) (ahead self.new)) };
 

@@ -2,9 +2,9 @@
 ghost use Rattle.std.specs.Prelude.{◌≡◌, ◌/◌, ◌%◌, ◌++◌, length, true, Some, IfSome, IfNone, IfOk, IfErr};
 ghost use Rattle.qoi.specs.Raw.{IsChannels};
 ghost use Rattle.qoi.specs.Qoi.{Error, end_marker};
-ghost use Rattle.qoi.specs.Decoding.{ReadsImage, RefusesMarker, RefusesBytes};
+ghost use Rattle.qoi.specs.Decoding.{ReadsImage, RefusesBytes};
 ghost use Rattle.qoi.specs.inner.Chunks.{TakesChunks, RefusesFilling};
-ghost use Rattle.qoi.specs.inner.Filling.{IsFillable, upto, filling};
+ghost use Rattle.qoi.specs.inner.Filling.{IsFillable, filling};
 
 use crate::consts::{QOI_PADDING, QOI_PADDING_SIZE};
 use crate::decode::chunks::{Chunks, image_to_buf};
@@ -41,7 +41,7 @@ fn careful_chunks<'a, const N: usize, const F: usize, const RUN_FITS: bool, cons
     data: &'a [u8],
     out: &mut [u8],
 ) -> Option<Left<'a>>
-    requires { IsFillable N (upto out.old from.at) }
+    requires { IsFillable N out.old from.at }
     ensures read { IfSome result (λ left. TakesChunks F N RUN_FITS
         (Some «data».entry.now) (Some left.rest.now)
         (filling table.old from out.old) (filling table.new left.reached out.new)) }
@@ -72,7 +72,7 @@ fn slice_chunks<'a, const N: usize, const F: usize, const RUN_FITS: bool>(
     data: &'a [u8],
     out: &mut [u8],
 ) -> Option<Left<'a>>
-    requires { IsFillable N (upto out.old from.at) }
+    requires { IsFillable N out.old from.at }
     ensures read { IfSome result (λ left. TakesChunks F N RUN_FITS
         (Some «data».entry.now) (Some left.rest.now)
         (filling table.old from out.old) (filling table.new left.reached out.new)) }
@@ -88,7 +88,7 @@ fn slice_chunks<'a, const N: usize, const F: usize, const RUN_FITS: bool>(
 // Checks that the end marker stands at the front, and returns the bytes after it.
 fn slice_marker(data: &[u8]) -> Result<&[u8]>
     ensures found { IfOk result (λ rest. «data».now ≡ end_marker ++ rest.now) }
-    ensures refused { IfErr result (RefusesMarker «data».now) }
+    ensures refused { IfErr result (RefusesBytes 0 «data».now) }
 {
     if data.len() < QOI_PADDING_SIZE {
         return Err(Error::UnexpectedBufferEnd);

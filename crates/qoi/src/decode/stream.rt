@@ -2,11 +2,10 @@
 ghost use Rattle.std.specs.Prelude.{◌<◌, [], ◌∷◌, length, false, IfOk, IfErr, OnOk, OnErr};
 ghost use Rattle.std.specs.Io.KnownBytes.{Consumes};
 ghost use Rattle.qoi.specs.Qoi.{Error, AreBytes, end_marker};
-ghost use Rattle.qoi.specs.declared.decode.output.TheConstants.{RUN_ROOM};
 ghost use Rattle.qoi.specs.Verdicts.{IsPartOfChunk};
-ghost use Rattle.qoi.specs.Decoding.{TakesBytes, RefusesTakenMarker};
+ghost use Rattle.qoi.specs.Decoding.{TakesBytes, RefusesTaken};
 ghost use Rattle.qoi.specs.inner.Chunks.{TakesChunks, RefusesFilling};
-ghost use Rattle.qoi.specs.inner.Filling.{upto, IsFillable, HasRoom, FillsMore, DecodesChunk, filling};
+ghost use Rattle.qoi.specs.inner.Filling.{IsFillable, HasRoom, FillsMore, DecodesChunk, filling};
 
 use crate::consts::{QOI_OP_RGB, QOI_PADDING, QOI_PADDING_SIZE};
 use crate::decode::chunks::Chunks;
@@ -75,12 +74,12 @@ pub(super) fn next_chunk<R: Read, const N: usize, const F: usize, const RUN_FITS
     from: Reached,
     out: &mut [u8],
 ) -> io::Result<Reached>
-    requires { HasRoom N RUN_FITS (upto out.old from.at) }
+    requires { HasRoom N RUN_FITS out.old from.at }
     ensures read { IfOk result (λ now.
         TakesBytes (R.remaining reader.old) (R.remaining reader.new) (λ taken.
         DecodesChunk F N taken (filling table.old from out.old) (filling table.new now out.new))) }
     ensures more { IfOk result (λ now.
-        FillsMore N 1 RUN_ROOM (upto out.old from.at) (upto out.new now.at)) }
+        FillsMore N out.old from.at out.new now.at) }
     ensures failed { OnErr result (TakesBytes (R.remaining reader.old) (R.remaining reader.new)
         IsPartOfChunk) }
 {
@@ -114,7 +113,7 @@ fn decode_chunks<R: Read, const N: usize, const F: usize, const RUN_FITS: bool>(
     from: Reached,
     out: &mut [u8],
 ) -> io::Result<Reached>
-    requires { IsFillable N (upto out.old from.at) }
+    requires { IsFillable N out.old from.at }
     ensures read { IfOk result (λ now. TakesChunks F N RUN_FITS
         (R.remaining reader.old) (R.remaining reader.new)
         (filling table.old from out.old) (filling table.new now out.new)) }
@@ -140,7 +139,7 @@ pub(super) fn stream_marker<R: Read>(reader: &mut R) -> Result<()>
         (Consumes (R.remaining reader.old) (R.remaining reader.new) end_marker) }
     ensures refused { IfErr result (λ e.
         TakesBytes (R.remaining reader.old) (R.remaining reader.new)
-        (λ taken. RefusesTakenMarker taken e)) }
+        (λ taken. RefusesTaken 0 taken e)) }
 {
     let mut eight = [0; QOI_PADDING_SIZE];
     read_exact(reader, &mut eight)?;

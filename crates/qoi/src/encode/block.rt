@@ -2,16 +2,15 @@
 //! through the files below in this order: `reading`, `planes`, `steps`, `positions`, `spelling`
 //! (with `counting` and `single_repeats`), `storing`. `lanes` has what they do with vectors.
 ghost use Rattle.std.specs.Prelude.{◌≡◌, ℕ, Bool, false, ◌+◌, ◌-◌, ◌<◌, List, ◌++◌, map, take, slice_index, slice_index_or, ◌%◌, IsTrue, IsFalse};
-ghost use Rattle.qoi.specs.Qoi.{RgbaPixel};
+ghost use Rattle.qoi.specs.Qoi.{RgbaPixel, Past};
 ghost use Rattle.qoi.specs.Raw.{IsChannels, AreOpaque};
-ghost use Rattle.qoi.specs.inner.block.Lanes.{fresh_marks, mask, State, NoneBlank};
+ghost use Rattle.qoi.specs.inner.block.Lanes.{fresh_marks, mask, State, lanes_of, NoneBlank};
 ghost use Rattle.qoi.specs.Styles.{Places, Tight, style_of};
-ghost use Rattle.qoi.specs.inner.block.Block.{ChangesFrom, FitsBlock, MissesNoBlank, last_pixel};
 ghost use Rattle.qoi.specs.inner.BlockLoop.{InBlocks};
 ghost use Rattle.qoi.specs.inner.Coder.{pixels_in, kept_bytes};
-ghost use Rattle.qoi.specs.inner.block.Planes.{ArePacked, ArePlanes, block_pixels};
-ghost use Rattle.qoi.specs.inner.block.Vectors.{IsBlock, HasSpelled};
 ghost use Rattle.qoi.specs.inner.Table.{Holds};
+ghost use Rattle.qoi.specs.inner.block.Planes.{ArePacked, ArePlanes, block_pixels, last_pixel};
+ghost use Rattle.qoi.specs.inner.block.Vectors.{IsBlock, HasSpelled, AreChanges, ChangesFrom, FitsBlock, MissesNoBlank};
 
 mod counting;
 mod lanes;
@@ -96,8 +95,8 @@ impl Block {
     #[inline(always)]
     fn has_no_fresh_blank(self) -> bool
         ensures { (before : Planes) → ChangesFrom before (block_pixels self.words) self.changes
-            → IsTrue result → (s : State) → s.last ≡ last_pixel before
-            → NoneBlank s (block_pixels self.words) }
+            → IsTrue result → (held : Past)
+            → NoneBlank held (last_pixel before) (block_pixels self.words) }
     {
         all_set(self.changes.rep | !blanks(self.planes))
     }
@@ -106,8 +105,8 @@ impl Block {
     // put.
     #[inline(always)]
     fn blank_stays(self, table: &PixelTable) -> bool
-        ensures { IsTrue result → (s : State) → Holds table.now s.held
-            → NoneBlank s (block_pixels self.words) }
+        ensures { IsTrue result → (held : Past) (q : RgbaPixel) → Holds table.now held
+            → NoneBlank held q (block_pixels self.words) }
     {
         let elsewhere = !where_is(index_positions(self.planes), 0);
         table.at(0).is_same(Packed::blank()) & all_set(blanks(self.planes) | elsewhere)
@@ -121,8 +120,8 @@ impl Block {
         places: u8x16,
         carry: Carry<N>,
     ) -> Spelled
-        ensures { (s : State) → s.last ≡ last_pixel carry.entry.before
-            → ChangesFrom carry.entry.before (block_pixels self.words) self.changes
+        ensures { (s : State)
+            → AreChanges (lanes_of s.held s.last (block_pixels self.words)) self.changes
             → s.carry ≡ carry.entry.count
             → (style_of STYLE ≡ Places → s.placed ≡ carry.entry.placed)
             → IsBlock s (block_pixels self.words) self.planes.r stands places

@@ -3,8 +3,8 @@
 ghost use Rattle.std.specs.Prelude.{◌≡◌, ◌≢◌, ℕ, ◌<◌, ◌≤◌, true, List, [], Some, length, slice_get, IsTrue};
 ghost use Rattle.qoi.specs.Qoi.{RgbaPixel};
 ghost use Rattle.qoi.specs.Styles.{Style, style_of};
-ghost use Rattle.qoi.specs.inner.block.Block.{last_pixel};
 ghost use Rattle.qoi.specs.inner.BlockLoop.{GoesByBlocks, IsCarried, WritesBlocks};
+ghost use Rattle.qoi.specs.inner.block.Planes.{last_pixel};
 ghost use Rattle.qoi.specs.inner.Coder.{pixels_in, WritesSome};
 
 use crate::consts::QOI_RUN_MAX;
@@ -14,7 +14,7 @@ use crate::encode::carry::{Carry, FRONT_CARRIED};
 use crate::encode::coder::{Coder, LastPixel, style_of};
 use crate::encode::pairs::{go_by_pairs, write_pairs};
 use crate::encode::piece::{OpenPiece, Piece, REPEATS_AT_ONCE};
-use crate::encode::pixels::{FrontBlock, PixelOf, Pixels};
+use crate::encode::pixels::{FrontBlock, MANY_BYTES, PixelOf, Pixels};
 use crate::encode::runs::repeats_of;
 use crate::encode::sparse::{go_by_sparse, goes_by_marks, write_marked, write_sparse};
 use crate::encode::table::PixelTable;
@@ -54,7 +54,7 @@ fn is_full(table: &PixelTable, before: Packed, px: Packed) -> bool {
 fn begin_full<const N: usize>(table: &PixelTable, last: Packed, raw: Pixels<N>) -> bool
     requires { 3 ≤ length (pixels_in raw) }
 {
-    if N == 3 || !raw.are_many() {
+    if N == 3 || raw.bytes.len() < MANY_BYTES {
         return false;
     }
     let (second, third) = (raw.skip(1), raw.skip(2));
@@ -164,13 +164,13 @@ fn write_by_blocks<'a, 'p, const N: usize, const STYLE: u8, const ROOM: usize, c
     table: &mut PixelTable,
     piece: OpenPiece<'p, ROOM>,
     raw: Pixels<'a, N>,
-) -> (Pixels<'a, N>, Piece<'p, ROOM>)
+) -> (Piece<'p, ROOM>, Pixels<'a, N>)
     requires some { 16 ≤ length (pixels_in raw) }
     requires opaque { N ≡ 3 → last.old.px.a ≡ 255 }
     requires goes { GoesByBlocks (style_of STYLE) last.old
         (length (pixels_in raw)) (pixels_in raw) }
     ensures { WritesSome (style_of STYLE) raw.entry table.old last.old piece.entry.piece
-        result.0 table.new last.new result.1 }
+        result.1 table.new last.new result.0 }
 {
     let mut carry = carried(&Coder::<N>::new(style_of::<STYLE>(), *last));
     let mut piece = piece.piece;
@@ -184,7 +184,7 @@ fn write_by_blocks<'a, 'p, const N: usize, const STYLE: u8, const ROOM: usize, c
         );
     }
     *last = coder_after::<N, STYLE>(carry).last;
-    (rest, piece)
+    (piece, rest)
 }
 
 // Writes the repeats that wait, those at the front and the fresh pixel after them; and then pairs or,
@@ -199,11 +199,11 @@ fn write_apart<'a, 'p, const N: usize, const STYLE: u8, const ROOM: usize, const
     table: &mut PixelTable,
     piece: OpenPiece<'p, ROOM>,
     raw: Pixels<'a, N>,
-) -> (Pixels<'a, N>, Piece<'p, ROOM>)
+) -> (Piece<'p, ROOM>, Pixels<'a, N>)
     requires some { pixels_in raw ≢ [] }
     requires opaque { N ≡ 3 → last.old.px.a ≡ 255 }
     ensures { WritesSome (style_of STYLE) raw.entry table.old last.old piece.entry.piece
-        result.0 table.new last.new result.1 }
+        result.1 table.new last.new result.0 }
 {
     let mut piece = piece.piece;
     let mut coder = Coder::<N>::new(style_of::<STYLE>(), *last);
@@ -214,7 +214,7 @@ fn write_apart<'a, 'p, const N: usize, const STYLE: u8, const ROOM: usize, const
         write_sparse::<N, STYLE, ROOM>(&mut coder, table, &mut piece, rest)
     };
     *last = coder.last;
-    (rest, piece)
+    (piece, rest)
 }
 
 /// Writes what is at the front: blocks, until the piece is full or fewer pixels than a block has are
@@ -227,11 +227,11 @@ pub(super) fn write_some<'a, 'p, const N: usize, const STYLE: u8, const ROOM: us
     table: &mut PixelTable,
     piece: OpenPiece<'p, ROOM>,
     raw: Pixels<'a, N>,
-) -> (Pixels<'a, N>, Piece<'p, ROOM>)
+) -> (Piece<'p, ROOM>, Pixels<'a, N>)
     requires some { 16 ≤ length (pixels_in raw) }
     requires opaque { N ≡ 3 → last.old.px.a ≡ 255 }
     ensures { WritesSome (style_of STYLE) raw.entry table.old last.old piece.entry.piece
-        result.0 table.new last.new result.1 }
+        result.1 table.new last.new result.0 }
 {
     if go_by_pairs(last.px, raw) {
         return write_apart::<N, STYLE, ROOM, true>(last, table, piece, raw);

@@ -4,7 +4,7 @@ ghost use Rattle.std.specs.Prelude.{◌≡◌, ◌+◌, ◌<◌, nat_lt, if◌th
 ghost use Rattle.qoi.specs.Qoi.{run_max};
 ghost use Rattle.qoi.specs.Raw.{IsChannels, IsChannels-prop};
 ghost use Rattle.qoi.specs.inner.block.Lanes.{group_bytes};
-ghost use Rattle.qoi.specs.inner.block.Block.{last_pixel};
+ghost use Rattle.qoi.specs.inner.block.Planes.{last_pixel};
 
 use crate::consts::QOI_OP_RUN;
 use crate::encode::block::planes::Planes;

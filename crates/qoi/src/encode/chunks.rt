@@ -1,12 +1,11 @@
 //! The chunks of an image, through a piece to a writer (QOI specification 1.0, "Data"): all at once,
 //! or those of some raw bytes.
 ghost use Rattle.std.specs.Prelude.{◌≡◌, ℕ, ◌-◌, ◌*◌, ◌%◌, ◌<◌, ◌≤◌, List, length};
-ghost use Rattle.qoi.specs.declared.encode.piece.TheConstants.{SPARE, FULL_ROOM};
-ghost use Rattle.qoi.specs.Raw.{pixels_of};
 ghost use Rattle.qoi.specs.Encoded.{max_file_len};
-ghost use Rattle.qoi.specs.inner.Sending.{IsNew, pixel_size, EndsOpaque, StaysIn, Between, IsReady, WritesWhole, EndsWith, WritesImage};
+ghost use Rattle.qoi.specs.inner.Sending.{IsNew, pixel_size, EndsOpaque, StaysIn, Between, IsReady, WritesWhole, WritesImage};
 ghost use Rattle.qoi.specs.Styles.{style_of};
-ghost use Rattle.qoi.specs.inner.Coder.{kept_bytes, CoderEnds};
+ghost use Rattle.qoi.specs.inner.Coder.{kept_bytes, CoderEnds, SPARE, FULL_ROOM};
+ghost use Rattle.qoi.specs.Raw.{pixels_of};
 
 use crate::encode::Encoder;
 use crate::encode::blocks::write_some;
@@ -52,7 +51,7 @@ impl Pending {
 fn write_in_style<'a, 'p, W: Writer, const N: usize, const STYLE: u8, const ROOM: usize>(
     writer: &mut W,
     pending: &mut Pending,
-    piece: OpenPiece<'p, ROOM>,
+    mut piece: OpenPiece<'p, ROOM>,
     data: &'a [u8],
 ) -> Result<(&'a [u8], OpenPiece<'p, ROOM>)>
     requires channels { pixel_size pending.old ≡ N }
@@ -64,18 +63,17 @@ fn write_in_style<'a, 'p, W: Writer, const N: usize, const STYLE: u8, const ROOM
         «data».entry.now writer.new pending.new result }
 {
     let table = &mut pending.table;
-    let mut last = pending.last.by_fields();
-    let mut piece = piece;
+    let mut last = pending.last;
     let mut rest = Pixels::<N>::new(data);
     while rest.has_block() {
-        let (after, mut filled) = write_some::<N, STYLE, ROOM>(&mut last, table, piece, rest);
+        let (mut filled, after) = write_some::<N, STYLE, ROOM>(&mut last, table, piece, rest);
         if filled.is_full() {
             filled.send(writer)?;
         }
         rest = after;
         piece = filled.open();
     }
-    pending.last = last.by_fields();
+    pending.last = last;
     Ok((rest.bytes, piece))
 }
 
@@ -104,10 +102,10 @@ pub(super) fn write_pixels<'a, 'p, W: Writer, const ROOM: usize>(
     }
 }
 
-// Writes the repeats that wait and an image's last pixels, fewer than a block has, into the piece.
+// `write_left` in `N` channels.
 #[inline(always)]
 fn write_rest<const N: usize, const ROOM: usize>(
-    coder: Coder<N>,
+    mut coder: Coder<N>,
     table: &mut PixelTable,
     piece: &mut Piece<ROOM>,
     left: &[u8],
@@ -117,7 +115,6 @@ fn write_rest<const N: usize, const ROOM: usize>(
     requires not_full { piece.old.end < ROOM - SPARE }
     ensures { CoderEnds coder.entry table.old piece.old (pixels_of N left.now) piece.new }
 {
-    let mut coder = coder;
     let rest = Pixels::<N>::new(left);
     if rest.is_empty() || ROOM == FEW_ROOM {
         // As `Coder::write_few`, but inlined: it is little, or most of what is done.
@@ -127,9 +124,13 @@ fn write_rest<const N: usize, const ROOM: usize>(
     }
 }
 
-// `write_rest` in the channels and style of the image.
+/// Writes the repeats that wait and an image's last pixels, fewer than a block has, into the piece.
 #[inline(always)]
-fn write_left<const ROOM: usize>(pending: &mut Pending, piece: &mut Piece<ROOM>, left: &[u8])
+pub(super) fn write_left<const ROOM: usize>(
+    pending: &mut Pending,
+    piece: &mut Piece<ROOM>,
+    left: &[u8],
+)
     requires whole { length left.now % pixel_size pending.old ≡ 0 }
     requires few { length left.now < 16 * pixel_size pending.old }
     requires opaque { EndsOpaque pending.old }
@@ -137,29 +138,12 @@ fn write_left<const ROOM: usize>(pending: &mut Pending, piece: &mut Piece<ROOM>,
     ensures { (ahead : List ℕ) → Between ahead pending.old (kept_bytes piece.old) left.now
         → ahead ≡ kept_bytes piece.new }
 {
-    let (style, last) = (pending.style, pending.last.by_fields());
+    let (style, last) = (pending.style, pending.last);
     let table = &mut pending.table;
     match pending.channels {
         Rgb => write_rest::<3, ROOM>(Coder::new(style, last), table, piece, left),
         Rgba => write_rest::<4, ROOM>(Coder::new(style, last), table, piece, left),
     }
-}
-
-/// Writes the repeats that wait, an image's last pixels, fewer than a block has, and the end marker.
-pub(super) fn write_end<W: Writer, const ROOM: usize>(
-    writer: &mut W,
-    pending: &mut Pending,
-    piece: &mut Piece<ROOM>,
-    left: &[u8],
-) -> Result<()>
-    requires few { length left.now < 16 * pixel_size pending.old }
-    requires not_full { piece.old.end < ROOM - SPARE }
-    requires ready { IsReady (W.room writer.old) ROOM pending.old (kept_bytes piece.old) left.now }
-    ensures { EndsWith W.wrote W.IsFault
-        writer.old pending.old (kept_bytes piece.old) left.now writer.new result }
-{
-    write_left(pending, piece, left);
-    piece.finish(writer)
 }
 
 /// Writes the file of an image, and returns how many bytes it has. They go through a piece with this
@@ -180,7 +164,8 @@ pub(super) fn encode_file<W: Writer, const ROOM: usize>(
     match write_pixels(writer, &mut pending, piece, encoder.data) {
         Ok((left, piece)) => {
             let mut piece = piece.piece;
-            write_end(writer, &mut pending, &mut piece, left)?;
+            write_left(&mut pending, &mut piece, left);
+            piece.finish(writer)?;
             Ok(room - writer.capacity())
         }
         Err(e) => Err(e),

@@ -1,14 +1,12 @@
 //! Writes pixels one by one, and groups of repeats, as chunks into a piece (QOI specification 1.0,
 //! "Data" and "Chunks").
 ghost use Rattle.std.specs.Prelude.{◌≡◌, ◌≢◌, ℕ, ◌+◌, ◌-◌, ◌*◌, ◌<◌, ◌≤◌, true, List, [], ◌∷◌, ◌++◌, Option, None, Some, length, take, drop, replicate, slice_get};
-ghost use Rattle.qoi.specs.declared.encode.piece.TheConstants.{SPARE, RUNS_AT_ONCE};
 ghost use Rattle.qoi.specs.Qoi.{Chunk, RgbaPixel, Past, run_max, chunk_max, marker_size, previous, seen, hash, IsChunk, bytes_of};
 ghost use Rattle.qoi.specs.Raw.{IsChannels, IsChannels-prop};
 ghost use Rattle.qoi.specs.Runs.{runs_by};
 ghost use Rattle.qoi.specs.Written.{IsFirst};
 ghost use Rattle.qoi.specs.Styles.{Style, choice_in, style_of};
 ghost use Rattle.qoi.specs.inner.Table.{Holds};
-ghost use Rattle.qoi.specs.inner.block.Storing.{chunk_of};
 
 use crate::consts::{QOI_OP_RUN, QOI_RUN_MAX};
 use crate::encode::fresh::spell_pixel;
@@ -62,20 +60,6 @@ impl LastPixel {
             repeats: 0,
         }
     }
-
-    /// A copy, field by field: one of the whole would wait for the fields, which are stored in other
-    /// widths.
-    #[inline(always)]
-    pub(super) fn by_fields(self) -> LastPixel
-        ensures { result ≡ self }
-    {
-        LastPixel {
-            px: self.px,
-            begun: self.begun,
-            placed: self.placed,
-            repeats: self.repeats,
-        }
-    }
 }
 
 /// Writes pixels of `N` channels one by one, in this style and after this last one. The table is
@@ -90,7 +74,8 @@ pub(super) struct Coder<const N: usize> {
 }
 
 impl<const N: usize> Coder<N> {
-    ghost use Rattle.qoi.specs.inner.Coder.{held_in, last_chunk, pixels_in, kept_bytes, CoderAfter, single, CoderBetween, CoderPasses, CoderEnds};
+    ghost use Rattle.qoi.specs.inner.Coder.{held_in, last_chunk, pixels_in, kept_bytes, CoderAfter, single_chunk, CoderBetween, CoderPasses, CoderEnds, SPARE, RUNS_AT_ONCE};
+    ghost use Rattle.qoi.specs.inner.block.Storing.{chunk_of};
 
     /// The coder in this style, after this pixel.
     #[inline(always)]
@@ -108,7 +93,8 @@ impl<const N: usize> Coder<N> {
     // pixel came earlier and the chunk before isn't that position (a run of 62 never is).
     #[inline(always)]
     fn single_repeat_byte(&self, count: usize) -> u8
-        ensures { bytes_of (single self.now.style self.now.last count) ≡ result ∷ [] }
+        ensures { bytes_of (single_chunk self.now.style self.now.last.begun self.now.last.placed
+            (hash self.now.last.px) count) ≡ result ∷ [] }
     {
         let named = self.last.begun & ((count > 1) | !self.last.placed);
         match self.style {

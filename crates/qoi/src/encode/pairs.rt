@@ -8,7 +8,7 @@ ghost use Rattle.qoi.specs.inner.block.Lanes.{fresh_marks};
 use crate::encode::block::reading::read_four;
 use crate::encode::coder::Coder;
 use crate::encode::piece::Piece;
-use crate::encode::pixels::Pixels;
+use crate::encode::pixels::{MANY_BYTES, Pixels};
 use crate::encode::sparse::fresh_in_four;
 use crate::encode::table::PixelTable;
 use crate::packed::Packed;
@@ -37,7 +37,7 @@ fn begin_with_pairs<const N: usize>(last: Packed, raw: Pixels<N>) -> bool
 pub(super) fn go_by_pairs<const N: usize>(last: Packed, raw: Pixels<N>) -> bool
     requires { pixels_in raw ≢ [] }
 {
-    if N == 3 || !raw.are_many() {
+    if N == 3 || raw.bytes.len() < MANY_BYTES {
         return false;
     }
     begin_with_pairs(last, raw) || begin_with_pairs(raw.first().px, raw.skip(1))

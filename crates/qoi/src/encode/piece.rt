@@ -6,7 +6,7 @@ ghost use Rattle.qoi.specs.declared.encode.piece.TheConstants.{SPARE, RUNS_AT_ON
 ghost use Rattle.qoi.specs.Qoi.{Chunk, Run, run_max, chunk_max, header_bytes, marker_size, end_marker, bytes_of, chunk_bytes};
 ghost use Rattle.qoi.specs.Raw.{IsChannels};
 ghost use Rattle.qoi.specs.Runs.{runs_by};
-ghost use Rattle.qoi.specs.writers.Writes.{WroteBeginning};
+ghost use Rattle.qoi.specs.Writers.{WroteBeginning};
 
 use crate::consts::{QOI_HEADER_SIZE, QOI_OP_RUN, QOI_PADDING, QOI_RUN_MAX};
 use crate::error::Result;
@@ -44,8 +44,8 @@ pub(super) const REPEATS_AT_ONCE: usize = RUNS_AT_ONCE * QOI_RUN_MAX;
 /// nothing, and there is room for the end marker. A full piece has `ROOM - SPARE` bytes.
 #[derive(Drop)]
 pub(super) struct Piece<'a, const ROOM: usize> {
-    pub(super) bytes: &'a mut [u8],
     pub(super) end: usize,
+    pub(super) bytes: &'a mut [u8],
     ghost large: { SPARE ≤ ROOM },
     ghost within: { end + marker_size ≤ ROOM },
     ghost room: { length bytes.now ≡ ROOM },

@@ -4,9 +4,9 @@ ghost use Rattle.std.specs.Io.KnownBytes.{Appends};
 ghost use Rattle.qoi.specs.Qoi.{Error, IsValid, tried_header};
 ghost use Rattle.qoi.specs.Raw.{image_byte_count};
 ghost use Rattle.qoi.specs.Encoded.{image_file};
-ghost use Rattle.qoi.specs.EncoderState.{EncoderState};
 ghost use Rattle.qoi.specs.Errors.{IsIoError};
 ghost use Rattle.qoi.specs.Sent.{SendsFile, SendsPart, SendsSomeFile};
+ghost use Rattle.qoi.specs.EncoderState.{EncoderState};
 ghost use Rattle.qoi.specs.inner.Sending.{pixel_size, EndsOpaque};
 ghost use Rattle.qoi.specs.pieces.PixelWriter.{WriterState, HasTaken, HasFailed, RefusesRaw, SendsSome, and_raw, raw_left};
 
@@ -74,7 +74,7 @@ impl<W: Write + Drop> PixelWriter<W> {
     /// `InvalidImageDimensions` if width times height is 0 or above 400,000,000; `OutOfMemory` if
     /// the only allocation fails, of some 13 KB; `IoError` as in `Encoder::encode_to_stream`. The
     /// writer is then dropped.
-    pub fn new(alloc: Global, header: Header, style: Style, writer: W) -> Result<PixelWriter<W>>
+    pub fn new(alloc: Global, header: Header, style: Style, mut writer: W) -> Result<PixelWriter<W>>
         ensures made { IfOk result (HasTaken W.contents
             (record { raw = []; header = header; style = style }) (W.contents writer)) }
         ensures refused { IfErr result (λ e.
@@ -93,7 +93,6 @@ impl<W: Write + Drop> PixelWriter<W> {
             piece_bytes: [0; FULL_ROOM],
         };
         let kept = Box::new(alloc, kept)?;
-        let mut writer = writer;
         send_bytes(&mut writer, &header.encode()[..QOI_HEADER_SIZE])?;
         Ok(PixelWriter {
             writer,

@@ -1,15 +1,14 @@
 //! Raw bytes of whole pixels.
 ghost use Rattle.std.specs.Prelude.{◌≡◌, ◌≢◌, ◌↔◌, ◌+◌, ◌*◌, ◌%◌, ◌≤◌, ◌<◌, [], ◌∷◌, length, take, drop, IsTrue, slice_get, Some};
-ghost use Rattle.qoi.specs.declared.encode.piece.TheConstants.{REPEATS_AT_ONCE};
 ghost use Rattle.qoi.specs.Raw.{IsChannels, IsChannels-prop, pixels_of};
 
 use crate::encode::piece::REPEATS_AT_ONCE;
 use crate::packed::Packed;
 use crate::utils::skip;
 
-// From so many raw bytes on it is asked whether they go by a loop of their own: with fewer, to ask takes
-// longer than it brings.
-const MANY_BYTES: usize = 1024;
+/// From so many raw bytes on it is asked whether they go by a loop of their own: with fewer, to ask takes
+/// longer than it brings.
+pub(super) const MANY_BYTES: usize = 1024;
 
 /// Raw bytes of whole pixels, which have `N` bytes each.
 #[derive(Clone, Copy)]
@@ -36,7 +35,7 @@ pub(super) struct FrontBlock<'a, const N: usize> {
 }
 
 impl<'a, const N: usize> Pixels<'a, N> {
-    ghost use Rattle.qoi.specs.inner.Coder.{pixels_in};
+    ghost use Rattle.qoi.specs.inner.Coder.{pixels_in, REPEATS_AT_ONCE};
 
     /// The pixels of raw bytes.
     #[inline(always)]
@@ -63,12 +62,6 @@ impl<'a, const N: usize> Pixels<'a, N> {
         ensures { IsTrue result ↔ (16 ≤ length (pixels_in self.entry)) }
     {
         self.bytes.len() >= 16 * N
-    }
-
-    /// Whether there are so many that to ask for another loop than the one over blocks is worth it.
-    #[inline(always)]
-    pub(super) fn are_many(self) -> bool {
-        self.bytes.len() >= MANY_BYTES
     }
 
     /// These pixels, a block or more, which are left of others.

@@ -2,8 +2,7 @@
 //! "Chunks"). The fresh ones are marked by bits.
 ghost use Rattle.std.specs.Prelude.{◌≡◌, ◌≢◌, ◌-◌, ◌%◌, ◌^◌, ◌<◌, ◌≤◌, true, Some, [], length, take, drop, slice_get, slice_index, IsTrue, map};
 ghost use Rattle.qoi.specs.declared.encode.carry.TheConstants.{FRONT_CARRIED};
-ghost use Rattle.qoi.specs.declared.encode.piece.TheConstants.{SPARE};
-ghost use Rattle.qoi.specs.inner.Coder.{pixels_in, CoderPasses};
+ghost use Rattle.qoi.specs.inner.Coder.{pixels_in, CoderPasses, SPARE};
 ghost use Rattle.qoi.specs.inner.Packed.{pixel_of_word};
 ghost use Rattle.qoi.specs.inner.block.Lanes.{fresh_marks};
 ghost use Rattle.qoi.specs.inner.block.Planes.{AreFour};
@@ -12,7 +11,7 @@ use crate::encode::block::reading::first_sixteen;
 use crate::encode::carry::{Carry, FRONT_CARRIED};
 use crate::encode::coder::Coder;
 use crate::encode::piece::Piece;
-use crate::encode::pixels::{FrontBlock, PixelOf, Pixels};
+use crate::encode::pixels::{FrontBlock, MANY_BYTES, PixelOf, Pixels};
 use crate::encode::table::PixelTable;
 use std::simd::prelude::*;
 
@@ -117,7 +116,7 @@ fn fresh_in_block<const N: usize>(front: FrontBlock<N>, last: PixelOf<N>) -> u64
 pub(super) fn go_by_sparse<const N: usize>(last: PixelOf<N>, raw: Pixels<N>) -> bool
     requires { 16 ≤ length (pixels_in raw) }
 {
-    if N == 3 || !raw.are_many() {
+    if N == 3 || raw.bytes.len() < MANY_BYTES {
         return false;
     }
     let marks = fresh_in_block::<N>(raw.front_of(raw), last);

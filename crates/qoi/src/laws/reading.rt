@@ -4,17 +4,15 @@ ghost use Rattle.qoi.specs.declared.types.Style.{Style};
 ghost use Rattle.qoi.specs.Qoi.{Error, Header, Channels, ColorSpace, Chunk, AreBytes, IsFile, file, file_pixels, header_bytes, pixel_count, IsValid, header_of, header_size, channels_number, pixels_max};
 ghost use Rattle.qoi.specs.Raw.{output, without_fourth, image_byte_count};
 ghost use Rattle.qoi.specs.Encoded.{IsFileOf, IsReadBack, image_file, image_header};
-ghost use Rattle.qoi.specs.Tiles.{HasTile};
+ghost use Rattle.qoi.specs.Tiles.{HasTile, AreFrames};
 ghost use Rattle.qoi.specs.Verdicts.{IsWhole, IsCut, IsWrong, AreCut};
-ghost use Rattle.qoi.specs.Decoding.{DecodesFile};
+ghost use Rattle.qoi.specs.Decoding.{DecodesFile, IsNoFile};
 ghost use Rattle.qoi.specs.Decoded.{HasHeader, HasDecoded, HasRefusedFile};
 ghost use Rattle.qoi.specs.EncoderState.{EncoderState};
 ghost use Rattle.qoi.specs.Sent.{SendsFile};
 ghost use Rattle.qoi.specs.DecoderState.{DecoderState};
-ghost use Rattle.qoi.specs.Frames.{AreFrames};
-ghost use Rattle.qoi.specs.FrontFile.{BeginsWithFile, HasFrontFile, IsNoFile};
 ghost use Rattle.qoi.specs.Reading.{IsImage, StandsAhead, SaysWhy};
-ghost use Rattle.qoi.specs.Images.{front_image, front_rest, file_image, file_image_in, file_rest};
+ghost use Rattle.qoi.specs.Images.{front_image, front_rest, file_image, file_image_in, file_rest, BeginsWithFile, HasFrontFile};
 
 /// At most one verdict holds of any bytes, with one chunk list.
 pub fn verdict_is_one()

@@ -6,7 +6,7 @@ use Rattle.std.specs.Io.KnownBytes.{Appends}
 use Rattle.qoi.specs.declared.header.Header.{Header}
 use Rattle.qoi.specs.Decoding.{DecodesFile, RefusesFile}
 use Rattle.qoi.specs.Decoded.{HasDecodedFile}
-use Rattle.qoi.specs.writers.Writes.{AppendsBeginning}
+use Rattle.qoi.specs.Writers.{AppendsBeginning}
 use Rattle.qoi_tool.specs.Transfers.{IsIoOrMemory}
 use Rattle.qoi_tool.proofs.decode.Goals as goal
 

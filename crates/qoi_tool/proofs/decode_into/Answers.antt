@@ -10,7 +10,7 @@ use Rattle.qoi.specs.Qoi.{header_of, pixel_count, header_size}
 use Rattle.qoi.specs.DecoderState.{DecoderState}
 use Rattle.qoi.specs.Decoding.{RefusesBytes, RefusesFile}
 use Rattle.qoi.specs.Reading.{IsImage}
-use Rattle.qoi.specs.writers.Writes.{AppendsBeginning}
+use Rattle.qoi.specs.Writers.{AppendsBeginning}
 use Rattle.qoi_tool.specs.declared.command.Command.TheVariants.{DecodeInto}
 use Rattle.qoi_tool.specs.Answers.{Writes}
 use Rattle.qoi_tool.specs.Transfers.{IsIoOrMemory}

@@ -1,34 +1,33 @@
 -- From one block of sixteen pixels to the next.
-use Rattle.std.proofs.Common.{◌≡◌, ◌⊎◌, inl, inr, ◌%◌, ◌≢◌, if◌then◌else◌, nat_lt, ℕ, zero, suc, ◌+◌, ◌-◌, ◌<◌, ◌≤◌, Bool, true, false, List, [], ◌∷◌, ◌++◌, length, map, get_or, take, slice_index, Some, refl, sym, ap, ◌∙◌, arith, subst}
+use Rattle.std.proofs.Common.{◌≡◌, ◌⊎◌, inl, inr, ◌%◌, ◌≢◌, if◌then◌else◌, nat_lt, ℕ, zero, suc, ◌+◌, ◌-◌, ◌<◌, ◌≤◌, Bool, true, false, List, [], ◌∷◌, ◌++◌, length, map, get_or, take, slice_index, Some, refl, sym, ap, ◌∙◌, arith, subst, reverse, append_assoc}
 use Rattle.std.proofs.lemmas.Bool.{true≢false, cases_eq, le-ltb, lt-ltb}
 use Rattle.std.proofs.lemmas.List.{length-map}
 use Rattle.std.specs.List.{slice_get}
-use Rattle.qoi.specs.declared.encode.carry.Carry.{Carry}
 use Rattle.qoi.specs.declared.encode.block.planes.Planes.{Planes}
 use Rattle.qoi.specs.declared.encode.block.spelling.Spelled.{Spelled}
 use Rattle.qoi.specs.Qoi.{RgbaPixel, pixel_eq, seen, hash}
 use Rattle.qoi.specs.Styles.{Style, Reference, Places, Tight, names}
-use Rattle.qoi.specs.inner.block.Lanes.{fresh_marks, mask, State, lanes_of, is_rep, group_bytes, next_state, more_of, block_bytes, NoneBlank, next_by}
-use Rattle.qoi.specs.inner.block.Block.{last_pixel}
-use Rattle.qoi.specs.inner.BlockLoop.{InBlocks}
+use Rattle.qoi.specs.inner.block.Lanes.{fresh_marks, mask, State, lanes_of, is_rep, group_bytes, block_bytes, NoneBlank, next_by, goes_on}
+use Rattle.qoi.specs.inner.BlockLoop.{InBlocks, Carry}
 use Rattle.qoi.specs.inner.block.Vectors.{counts, HasSpelled}
 use Rattle.qoi.specs.inner.Coder.{Ahead}
-use Rattle.qoi.specs.inner.block.Planes.{AreSixteen, ArePlanes}
-use Rattle.qoi.specs.inner.block.Positions.{put_all, stand_tests}
 use Rattle.qoi.specs.inner.Table.{Holds}
+use Rattle.qoi.specs.inner.block.Planes.{AreSixteen, ArePlanes, last_pixel}
+use Rattle.qoi.specs.inner.block.Positions.{stand_tests}
+use Rattle.std.proofs.lemmas.Grind.{reverse_onto}
 use Rattle.qoi.proofs.format.SamePixels.{same_pixel, pixel_eq-true, pixel_eq-from}
 use Rattle.qoi.proofs.encoding.blocks.LaneBytes.{carry_few}
 use Rattle.qoi.proofs.encoding.blocks.BlockWritten.{Carrying, flushed, block_written, CarryGoesOn, flushed_state}
-use Rattle.qoi.proofs.encoding.blocks.LastCount.{last_count, end_state}
+use Rattle.qoi.proofs.encoding.blocks.LastCount.{last_count, next_state, end_state}
 use Rattle.qoi.proofs.encoding.blocks.SpelledBlock.{lanes_long}
 use Rattle.qoi.proofs.encoding.blocks.StyledBytes.{firsts_anew}
-use Rattle.qoi.proofs.encoding.coder.CoderLink.{goes_on}
+use Rattle.qoi.proofs.encoding.coder.CoderLink.{goes_on as carries_on}
 use Rattle.qoi.proofs.encoding.coder.MarkedPixels.{none_first}
 
 -- the pixels that were put, after all of these
-pub end_held : (s : State) (ps : List RgbaPixel) → (end_state s ps).held ≡ put_all s.held ps
+pub end_held : (s : State) (ps : List RgbaPixel) → (end_state s ps).held ≡ reverse ps ++ s.held
 end_held s [] = refl
-end_held s (p ∷ ps) = end_held (next_state s p (more_of p ps)) ps
+end_held s (p ∷ ps) = end_held (next_state s p ps) ps ∙ sym (ap (λ z. z ++ s.held) (reverse_onto ps p []) ∙ append_assoc (reverse ps) (p ∷ []) s.held)
 
 -- the last pixel is the last of them
 pub end_last : (s : State) (ps : List RgbaPixel) (x : Planes) → AreSixteen ps → ArePlanes ps x → (end_state s ps).last ≡ last_pixel x
@@ -126,8 +125,7 @@ ready {begun} style ahead s (p ∷ ps) rest x placed at end kept next small few 
 carry_most : (s : State) (ps : List RgbaPixel) → (end_state s ps).carry ≤ s.carry + length ps
 carry_most s [] = omega arith
 carry_most s (p ∷ ps) =
-    let m = more_of p ps in
-    omega (arith, carry_most (next_state s p m) ps, carry_few (pixel_eq p s.last) m s p)
+    omega (arith, carry_most (next_state s p ps) ps, carry_few (pixel_eq p s.last) (goes_on (lanes_of (p ∷ s.held) p ps)) s p)
 
 -- after pixels that don't all repeat fewer are carried than there are
 carry_below : (s : State) (ps : List RgbaPixel) → fresh_marks s.last ps ≢ 0 → (end_state s ps).carry < length ps
@@ -135,24 +133,24 @@ carry_below s [] mixed = absurd (mixed refl)
 carry_below s (p ∷ ps) mixed = go (carry_below t ps) (pixel_eq p s.last) refl
   where
     t : State
-    t = next_state s p (more_of p ps)
+    t = next_state s p ps
 
     go : (fresh_marks p ps ≢ 0 → (end_state t ps).carry < length ps) → (b : Bool) → pixel_eq p s.last ≡ b → (end_state t ps).carry < suc (length ps)
     go below true is = omega (arith, below (λ none. mixed (rw is (omega (arith, none)))))
-    go below false is = omega (arith, carry_most t ps, ap (λ b. (next_by b (more_of p ps) s p).carry) is)
+    go below false is = omega (arith, carry_most t ps, ap (λ b. (next_by b (goes_on (lanes_of (p ∷ s.held) p ps)) s p).carry) is)
 
 -- after repeats what is carried is all of them, and the chunk before them is the same
 all_repeats : (s : State) (ps : List RgbaPixel) → fresh_marks s.last ps ≡ 0 → ((end_state s ps).carry ≡ s.carry + length ps) × ((end_state s ps).placed ≡ s.placed)
 all_repeats s [] all = (omega arith, refl)
 all_repeats s (p ∷ ps) all =
     let first = none_first (pixel_eq p s.last) (fresh_marks p ps) all in
-    let next : next_state s p (more_of p ps) ≡ next_by true true s p = λ i. next_by (first.0 i) (again ps first.1 i) s p in
+    let next : next_state s p ps ≡ next_by true true s p = λ i. next_by (first.0 i) (again ps first.1 i) s p in
     let h = all_repeats (next_by true true s p) ps first.1 in (
       ap (λ t. (end_state t ps).carry) next ∙ h.0 ∙ omega arith,
       ap (λ t. (end_state t ps).placed) next ∙ h.1,
     )
   where
-    again : (ps : List RgbaPixel) → fresh_marks p ps ≡ 0 → more_of p ps ≡ true
+    again : (ps : List RgbaPixel) → fresh_marks p ps ≡ 0 → goes_on (lanes_of (p ∷ s.held) p ps) ≡ true
     again [] all = refl
     again (q ∷ qs) all = (none_first (pixel_eq q p) (fresh_marks q qs) all).0
 
@@ -163,14 +161,14 @@ end_placed s [] mixed = absurd (mixed refl)
 end_placed s (p ∷ ps) mixed = go (end_placed t ps) (cases_eq (fresh_marks p ps) 0)
   where
     t : State
-    t = next_state s p (more_of p ps)
+    t = next_state s p ps
 
     tests : List Bool
     tests = stand_tests s.held (p ∷ ps)
 
-    fresh : (b : Bool) → pixel_eq p s.last ≡ b → fresh_marks p ps ≡ 0 → t ≡ next_by false (more_of p ps) s p
+    fresh : (b : Bool) → pixel_eq p s.last ≡ b → fresh_marks p ps ≡ 0 → t ≡ next_by false (goes_on (lanes_of (p ∷ s.held) p ps)) s p
     fresh true e none = absurd (mixed (rw e (omega (arith, none))))
-    fresh false e none = ap (λ b. next_by b (more_of p ps) s p) e
+    fresh false e none = ap (λ b. next_by b (goes_on (lanes_of (p ∷ s.held) p ps)) s p) e
 
     go : (fresh_marks p ps ≢ 0 → (end_state t ps).placed ≡ get_or (stand_tests (p ∷ s.held) ps) (length ps - 1 - (end_state t ps).carry) false)
         → (fresh_marks p ps ≡ 0) ⊎ (fresh_marks p ps ≢ 0) → (end_state t ps).placed ≡ get_or tests (suc (length ps) - 1 - (end_state t ps).carry) false
@@ -188,8 +186,8 @@ end_placed s (p ∷ ps) mixed = go (end_placed t ps) (cases_eq (fresh_marks p ps
 -- over a block of these pixels
 pub block_step : {N : ℕ} (style : Style) (ahead : List ℕ) (n : ℕ) (s : State) (rest more all : List RgbaPixel) (x : Spelled) (p : Planes) (table : List RgbaPixel) (carry : Carry N) (kept next : List ℕ)
     → AreSixteen all → fresh_marks s.last all ≢ 0 → ArePlanes all p
-    → Ready style ahead s all (all ++ (rest ++ more)) x kept → Holds table (put_all s.held all)
-    → ((t : State) → t.held ≡ s.held → t.last ≡ s.last → style ≡ Tight → NoneBlank t all)
+    → Ready style ahead s all (all ++ (rest ++ more)) x kept → Holds table (reverse all ++ s.held)
+    → (style ≡ Tight → NoneBlank s.held s.last all)
     → carry.before ≡ p → carry.count ≡ slice_index x.count 15 % 16
     → (style ≡ Places → carry.placed ≡ get_or (stand_tests s.held all) (15 - carry.count) false)
     → ((t : State) → HasSpelled style t all x → t.last ≡ s.last → t.carry ≤ 45 → next ≡ kept ++ block_bytes style t all)
@@ -199,7 +197,7 @@ block_step style ahead n s rest more all x p table carry kept next sixteen mixed
     let end = end_state t all in
     let long = sixteen.long in
     let few : t.carry + length all < 62 = (let f = r.few in omega arith) in
-    let done = block_written t all (rest ++ more) (omega arith) r.carrying r.goes_on_is few (none t r.held_is r.last_is) in
+    let done = block_written t all (rest ++ more) (omega arith) r.carrying r.goes_on_is few (λ tight. subst (λ h. NoneBlank h t.last all) (sym r.held_is) (subst (λ q. NoneBlank s.held q all) (sym r.last_is) (none tight))) in
     let counted = last_counted t r.spelled in
     let mixed_lanes : fresh_marks t.last all ≢ 0 = subst (λ q. fresh_marks q all ≢ 0) (sym r.last_is) mixed in
     let below = carry_below t all mixed_lanes in
@@ -217,13 +215,13 @@ block_step style ahead n s rest more all x p table carry kept next sixteen mixed
         to_write = subst (λ k. Ahead style ahead done.past done.before k (rest ++ more) next) carried
             (subst (Ahead style ahead done.past done.before end.carry (rest ++ more)) (sym (bytes t r.spelled r.last_is r.few)) done.to_write);
         state = record {
-          table_is = λ i l. holds i l ∙ ap Some (ap (λ h. seen h i) (sym (end_held t all ∙ ap (λ h. put_all h all) r.held_is)) ∙ done.held_is i);
+          table_is = λ i l. holds i l ∙ ap Some (ap (λ h. seen h i) (sym (end_held t all ∙ ap (λ h. reverse all ++ h) r.held_is)) ∙ done.held_is i);
           last_is = sym (done.last_is ∙ last);
           begun_is = sym done.begun_is;
           placed_is = λ places. named places ∙ sym stood ∙ done.placed_is ∙ ap (λ q. names done.before (hash q)) (sym done.last_is);
         };
       };
-      goes = goes_on refl (λ _. omega (arith, carried, below, long));
+      goes = carries_on refl (λ _. omega (arith, carried, below, long));
     }
   where
     last_counted : (t : State) → HasSpelled style t all x → slice_index x.count 15 ≡ (end_state t all).carry

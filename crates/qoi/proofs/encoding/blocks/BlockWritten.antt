@@ -3,10 +3,11 @@ use Rattle.std.proofs.Common.{◌≡◌, ◌≢◌, ◌⊎◌, inl, inr, ℕ, ze
 use Rattle.std.specs.List.{AllByRecursion, slice_get}
 use Rattle.std.proofs.lemmas.Bool.{true≢false, true_from_ne_false, eq-eqb}
 use Rattle.std.proofs.lemmas.Option.{same_Some}
+use Rattle.std.specs.List.{list_any}
 use Rattle.qoi.specs.Qoi.{Chunk, Place, Run, RgbaPixel, IsPixel, Past, previous, pixel_eq, blank, seen, hash, IsChunk, bytes_of, chunk_bytes}
 use Rattle.qoi.specs.Runs.{runs_by}
 use Rattle.qoi.specs.Written.{fresh, IsFirst}
-use Rattle.qoi.specs.Styles.{Style, Reference, Places, Tight, has_pixel, some_fresh, names, choice_in}
+use Rattle.qoi.specs.Styles.{Style, Reference, Places, Tight, some_fresh, names, choice_in}
 use Rattle.qoi.specs.inner.Coder.{held_in, single_chunk, last_chunk, Ahead}
 use Rattle.qoi.proofs.format.SamePixels.{pixel_eq-true, pixel_eq-from, pixel_eq-ne, hash_below, cases_pixel}
 use Rattle.qoi.proofs.format.SeenTable.{seen_copies, put_again}
@@ -16,11 +17,12 @@ use Rattle.qoi.proofs.encoding.lists.RunBytes.{few_by}
 use Rattle.qoi.proofs.encoding.coder.CoderSteps.{over_repeat, over_group, over_fresh}
 use Rattle.qoi.proofs.encoding.coder.CoderTable.{fresh_held_in, fresh_repeats, place_chosen, spelled_out}
 use Rattle.qoi.proofs.encoding.lists.WrittenExists.{spells_no_place}
-use Rattle.qoi.specs.inner.block.Lanes.{lane_bytes, State, lane_of, group_bytes, next_by, step_by, next_state, more_of, block_bytes, NoneBlank}
+use Rattle.qoi.specs.inner.block.Lanes.{lane_bytes, State, lane_of, group_bytes, next_by, step_by, block_bytes, NoneBlank, goes_on, lanes_of}
 use Rattle.qoi.proofs.encoding.blocks.LaneBytes.{carry_few}
-use Rattle.qoi.proofs.encoding.lanes.LaneChunk.{spelled_lane}
-use Rattle.qoi.proofs.encoding.blocks.LastCount.{end_state}
+use Rattle.qoi.proofs.encoding.coder.Spelled.{first_after}
+use Rattle.qoi.proofs.encoding.blocks.LastCount.{next_state, end_state}
 use Rattle.qoi.proofs.encoding.styles.PlacedLists.{seen_last}
+use Rattle.qoi.specs.WrittenList.{first_chunk}
 use Rattle.qoi.proofs.encoding.styles.StyledGroup.{runs_name_none}
 
 -- repeats are carried only if the next pixel is one
@@ -78,7 +80,7 @@ fresh_first (p ∷ past) b = go (fresh_first past) (cases_pixel p (previous past
         → seen (fresh (p ∷ past)) (hash p) ≡ p
     go before (inl e) =
         let f = fresh_repeat past p e in
-        ap (λ x. seen x (hash p)) f ∙ ap (λ q. seen (fresh past) (hash q)) e ∙ before (sym (ap has_pixel f) ∙ b) ∙ sym e
+        ap (λ x. seen x (hash p)) f ∙ ap (λ q. seen (fresh past) (hash q)) e ∙ before (sym (ap (list_any (λ p. true)) f) ∙ b) ∙ sym e
     go before (inr n) = ap (λ x. seen x (hash p)) (fresh_more past p n) ∙ seen_same (fresh past) p (hash p) refl
 
 -- so in each style the last pixel stands at its position
@@ -88,7 +90,7 @@ stands_there style past b = fresh_first past b
 
 -- repeats leave it so that a fresh pixel came
 pub still_begun : (n : ℕ) (past : Past) → some_fresh past ≡ true → some_fresh (replicate n (previous past) ++ past) ≡ true
-still_begun n past b = ap has_pixel (fresh_repeats n past) ∙ b
+still_begun n past b = ap (list_any (λ p. true)) (fresh_repeats n past) ∙ b
 
 -- repeats change nothing that is seen
 pub repeats_held : (style : Style) (n : ℕ) (past : Past) → some_fresh past ≡ true → (i : ℕ)
@@ -100,7 +102,7 @@ repeats_held Tight (suc n) past b i = seen_copies (suc n) (previous past) past i
 
 -- after a fresh pixel one came
 fresh_begun : (past : Past) (p : RgbaPixel) → p ≢ previous past → some_fresh (p ∷ past) ≡ true
-fresh_begun past p n = ap has_pixel (fresh_more past p n)
+fresh_begun past p n = ap (list_any (λ p. true)) (fresh_more past p n)
 
 -- a pixel put into tables that hold the same
 put_same : (p : RgbaPixel) (xs ys : Past) → ((i : ℕ) → seen xs i ≡ seen ys i) → (i : ℕ) → seen (p ∷ xs) i ≡ seen (p ∷ ys) i
@@ -178,10 +180,10 @@ module _ {begun : Bool} {style : Style} {ahead : List ℕ} (s : State) (p : Rgba
       by_place (inr away) =
           let f = pixel_eq-ne _ p away in
           let are : AllByRecursion IsPixel (p ∷ tail) = start.are in
-          let l = spelled_lane (lane_of s.held s.last p) (record { px_is = are.0; before_is = subst IsPixel c.last_is start.before_is }) f in
-          let first = l.1.first c.past c.last_is in
-          after l.0 l.1.chunk (chosen style c.past p l.0 first (λ e. away (c.held_is (hash p) ∙ e)) (λ t. none t away)) l.1.bytes
-          (f ∙ sym (spells_no_place l.0 (hash p) first.spells))
+          let d = first_chunk s.last p in
+          let is = first_after s.last p (subst IsPixel c.last_is start.before_is) are.0 in
+          let first = is.1 c.past c.last_is in
+          after d is.0 (chosen style c.past p d first (λ e. away (c.held_is (hash p) ∙ e)) (λ t. none t away)) (rw f refl) (f ∙ sym (spells_no_place d (hash p) first.spells))
 
   -- a repeat before a fresh pixel: the group is written
   repeat_end : Carrying begun style ahead s (p ∷ tail) kept → p ≡ s.last → (q : RgbaPixel) (more : List RgbaPixel) → tail ≡ q ∷ more → q ≢ p → s.carry < 61
@@ -220,7 +222,7 @@ module _ {begun : Bool} {style : Style} {ahead : List ℕ} (s : State) (p : Rgba
       }
 
 -- after a lane repeats are carried only if the next pixel is one
-carry_on : (s : State) (p : RgbaPixel) (ps : List RgbaPixel) → CarryGoesOn (next_state s p (more_of p ps)) ps
+carry_on : (s : State) (p : RgbaPixel) (ps : List RgbaPixel) → CarryGoesOn (next_state s p ps) ps
 carry_on s p [] = tt
 carry_on s p (q ∷ qs) = go (pixel_eq p s.last) (pixel_eq q p) refl
   where
@@ -240,7 +242,7 @@ module _ (style : Style) (ahead : List ℕ) (s : State) (p : RgbaPixel) (kept : 
   After b m tail = Carrying true style ahead (next_by b m s p) tail (kept ++ step_by b m style s p)
 
   -- over a repeat
-  over_same : {begun : Bool} (ps rest : List RgbaPixel) → Carrying begun style ahead s (p ∷ (ps ++ rest)) kept → p ≡ s.last → After true (more_of p ps) (ps ++ rest)
+  over_same : {begun : Bool} (ps rest : List RgbaPixel) → Carrying begun style ahead s (p ∷ (ps ++ rest)) kept → p ≡ s.last → After true (goes_on (lanes_of (p ∷ s.held) p ps)) (ps ++ rest)
   over_same [] rest c e = repeat_on s p rest c e
   over_same (q ∷ qs) rest c e = go (cases_pixel q p)
     where
@@ -251,25 +253,25 @@ module _ (style : Style) (ahead : List ℕ) (s : State) (p : RgbaPixel) (kept : 
 
   -- over a lane's pixel
   over_lane : {begun : Bool} (ps rest : List RgbaPixel) → Carrying begun style ahead s (p ∷ (ps ++ rest)) kept → (0 < s.carry → p ≡ s.last)
-      → (style ≡ Tight → p ≢ s.last → seen s.held (hash p) ≢ p → p ≢ blank) → After (pixel_eq p s.last) (more_of p ps) (ps ++ rest)
+      → (style ≡ Tight → p ≢ s.last → seen s.held (hash p) ≢ p → p ≢ blank) → After (pixel_eq p s.last) (goes_on (lanes_of (p ∷ s.held) p ps)) (ps ++ rest)
   over_lane ps rest c on none = go (cases_pixel p s.last)
     where
-      go : (p ≡ s.last) ⊎ (p ≢ s.last) → After (pixel_eq p s.last) (more_of p ps) (ps ++ rest)
-      go (inl e) = subst (λ b. After b (more_of p ps) (ps ++ rest)) (sym (pixel_eq-from p s.last e)) (over_same ps rest c e)
-      go (inr n) = subst (λ b. After b (more_of p ps) (ps ++ rest)) (sym (pixel_eq-ne p s.last n))
-          (fresh_one s p (ps ++ rest) c n (none_at s.carry (λ some. n (on some))) (λ t away. none t n away) (more_of p ps))
+      go : (p ≡ s.last) ⊎ (p ≢ s.last) → After (pixel_eq p s.last) (goes_on (lanes_of (p ∷ s.held) p ps)) (ps ++ rest)
+      go (inl e) = subst (λ b. After b (goes_on (lanes_of (p ∷ s.held) p ps)) (ps ++ rest)) (sym (pixel_eq-from p s.last e)) (over_same ps rest c e)
+      go (inr n) = subst (λ b. After b (goes_on (lanes_of (p ∷ s.held) p ps)) (ps ++ rest)) (sym (pixel_eq-ne p s.last n))
+          (fresh_one s p (ps ++ rest) c n (none_at s.carry (λ some. n (on some))) (λ t away. none t n away) (goes_on (lanes_of (p ∷ s.held) p ps)))
 
 -- A block's pixels are written, but for the repeats at their end.
 pub block_written : {begun : Bool} {style : Style} {ahead : List ℕ} (s : State) (ps rest : List RgbaPixel) {kept : List ℕ} → 0 < length ps
-    → Carrying begun style ahead s (ps ++ rest) kept → CarryGoesOn s ps → s.carry + length ps < 62 → (style ≡ Tight → NoneBlank s ps)
+    → Carrying begun style ahead s (ps ++ rest) kept → CarryGoesOn s ps → s.carry + length ps < 62 → (style ≡ Tight → NoneBlank s.held s.last ps)
     → Carrying true style ahead (end_state s ps) rest (kept ++ block_bytes style s ps)
 block_written s [] rest some c on few none = absurd (omega arith)
 block_written {style = style} {ahead} s (p ∷ []) rest {kept} some c on few none =
-    subst (λ b. Carrying true style ahead (next_state s p true) rest (kept ++ b)) (sym (append-nil (step_by (pixel_eq p s.last) true style s p)))
+    subst (λ b. Carrying true style ahead (next_state s p []) rest (kept ++ b)) (sym (append-nil (step_by (pixel_eq p s.last) true style s p)))
     (over_lane style ahead s p kept (omega arith) [] rest c on (λ t. (none t).0))
 block_written {begun} {style} {ahead} s (p ∷ q ∷ ps) rest {kept} some c on few none =
-    let m = more_of p (q ∷ ps) in
-    let next = next_state s p m in
+    let m = pixel_eq q p in
+    let next = next_state s p (q ∷ ps) in
     let one = over_lane style ahead s p kept (omega arith) (q ∷ ps) rest c on (λ t. (none t).0) in
     subst (Carrying true style ahead (end_state next (q ∷ ps)) rest) (append_assoc kept (step_by (pixel_eq p s.last) m style s p) (block_bytes style next (q ∷ ps)))
     (block_written {begun = true} next (q ∷ ps) rest (omega arith) one (carry_on s p (q ∷ ps)) (omega (arith, carry_few (pixel_eq p s.last) m s p)) (λ t. (none t).1))

@@ -1,9 +1,8 @@
 -- Sixteen pixels as four times four.
 use Rattle.std.proofs.Common.{◌≡◌, List, [], ◌∷◌, ◌++◌, length, take, drop, refl, arith}
 use Rattle.std.specs.List.{AllByRecursion}
-use Rattle.qoi.specs.declared.encode.block.planes.Words.{Words}
 use Rattle.qoi.specs.Qoi.{RgbaPixel, IsPixel}
-use Rattle.qoi.specs.inner.block.Planes.{AreSixteen, AreFourWords, AreBlockWords}
+use Rattle.qoi.specs.inner.block.Planes.{AreSixteen}
 
 -- four pixels
 pub record AreFourPixels (ps : List RgbaPixel) : Type 0 where
@@ -32,21 +31,3 @@ four_fours (p0 ∷ p1 ∷ p2 ∷ p3 ∷ p4 ∷ p5 ∷ p6 ∷ p7 ∷ p8 ∷ p9 �
       whole = refl;
     }
 four_fours ps s = absurd (let l = s.long in omega arith)
-
--- packed four at a time
-pub record FourWords (ps : List RgbaPixel) (w : Words) : Type 0 where
-  pub one : AreFourWords (take 4 ps) w.one
-  pub two : AreFourWords (take 4 (drop 4 ps)) w.two
-  pub three : AreFourWords (take 4 (drop 8 ps)) w.three
-  pub four : AreFourWords (take 4 (drop 12 ps)) w.four
-
--- sixteen packed pixels are
-pub four_words_of : (ps : List RgbaPixel) (w : Words) → AreSixteen ps → AreBlockWords ps w → FourWords ps w
-four_words_of ps w s are =
-    let f = four_fours ps s in
-    record {
-      one = record { four = f.one.four; are = f.one.are; words_are = are.one_are };
-      two = record { four = f.two.four; are = f.two.are; words_are = are.two_are };
-      three = record { four = f.three.four; are = f.three.are; words_are = are.three_are };
-      four = record { four = f.four.four; are = f.four.are; words_are = are.four_are };
-    }

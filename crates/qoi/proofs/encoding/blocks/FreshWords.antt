@@ -2,11 +2,10 @@
 use Rattle.std.proofs.Common.{◌≡◌, ℕ, ◌+◌, ◌*◌, ◌%◌, ◌^◌, ◌<◌, Bool, not, cond, eqb, if◌then◌else◌, List, [], ◌∷◌, ◌++◌, length, map, slice_index, ◌∙◌, arith}
 use Rattle.std.proofs.lemmas.Simd.{mask_l-lt}
 use lib.Lanes.{mask_l, pick_l, top, zip2}
-use Rattle.qoi.specs.declared.encode.block.planes.Words.{Words}
 use Rattle.qoi.specs.Qoi.{RgbaPixel, pixel_eq}
 use Rattle.qoi.specs.inner.Packed.{pixel_of_word}
 use Rattle.qoi.specs.inner.block.Lanes.{fresh_marks}
-use Rattle.qoi.specs.inner.block.Planes.{AreFour, ArePacked, block_pixels}
+use Rattle.qoi.specs.inner.block.Planes.{Words, AreFour, ArePacked, block_pixels}
 use Rattle.qoi.proofs.encoding.blocks.PackedBlock.{number_pixel, repacked}
 use Rattle.qoi.proofs.encoding.lanes.StandMasks.{same_words}
 

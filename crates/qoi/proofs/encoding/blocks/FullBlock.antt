@@ -1,16 +1,18 @@
 -- Pixels of which an RGBA chunk gives each: what their lanes have, and their bytes.
-use Rattle.std.proofs.Common.{◌≡◌, ℕ, suc, ◌+◌, ◌-◌, ◌%◌, Bool, true, false, not, ◌||◌, List, [], ◌∷◌, ◌++◌, length, map, replicate, take, bit_and, bit_or, if◌then◌else◌, refl, sym, ap, ◌∙◌, arith}
+use Rattle.std.proofs.Common.{◌≡◌, ℕ, suc, ◌+◌, ◌-◌, ◌%◌, Bool, true, false, not, ◌||◌, List, [], ◌∷◌, ◌++◌, length, map, replicate, bit_and, bit_or, if◌then◌else◌, refl, sym, ap, ◌∙◌, arith, slice_index}
 use Rattle.std.specs.Prelude.{max}
-use Rattle.std.specs.List.{AllByRecursion}
+use Rattle.std.specs.List.{AllByRecursion, list_all}
 use Rattle.std.proofs.lemmas.Bool.{and_parts, and_right, true≢false}
 use Rattle.std.proofs.lemmas.Nat.{and_le_l}
 use Rattle.qoi.specs.Styles.{Style}
-use Rattle.qoi.specs.Qoi.{RgbaPixel, pixel_eq, hash}
-use Rattle.qoi.specs.inner.block.Vectors.{named_in, firsts_in, sizes, all_true, counts, is_full, AreFull}
+use Rattle.qoi.specs.Qoi.{RgbaPixel, pixel_eq, hash, bytes_of}
+use Rattle.qoi.specs.inner.block.Vectors.{named_in, firsts_in, sizes, counts, is_full, AreFull}
 use Rattle.qoi.specs.inner.block.Storing.{full_bytes}
-use Rattle.qoi.specs.inner.block.Lanes.{Lane, IsLane, mask, as_diff, as_luma, fits_in_diff, fits_in_luma, same_alpha, fits_diff, fits_luma, first_of, first_by, second_of, second_by, size_of, size_by, State, lanes_of, is_rep, goes_on, step_by, next_state, more_of, block_bytes}
+use Rattle.qoi.specs.inner.block.Lanes.{Lane, IsLane, mask, as_diff, as_luma, same_alpha, fits_diff, fits_luma, lane_bytes, second_of, State, lanes_of, is_rep, goes_on, step_by, next_by, block_bytes}
 use Rattle.qoi.proofs.format.SamePixels.{hash_below}
 use Rattle.qoi.proofs.encoding.blocks.LaneBytes.{repeat_fits, none_and}
+use Rattle.qoi.proofs.encoding.lanes.LaneChunk.{chunk_by}
+use Rattle.qoi.specs.WrittenList.{first_chunk, luma_of}
 use Rattle.qoi.proofs.encoding.blocks.StyledBytes.{fresh_stays}
 
 -- neither of two masks
@@ -20,9 +22,8 @@ neither a b = grind arith
 -- what a lane has whose pixel an RGBA chunk gives
 pub record FullLane (l : Lane) : Type 0 where
   pub fresh : is_rep l ≡ false
-  pub first_is : first_of l ≡ 255
+  pub bytes_are : lane_bytes l ≡ 255 ∷ l.px.r ∷ l.px.g ∷ l.px.b ∷ l.px.a ∷ []
   pub second_is : second_of l ≡ l.px.r
-  pub size_is : size_of l ≡ 5
 
 -- neither of two holds
 neither_of : (a b : Bool) → not (a || b) ≡ true → (a ≡ false) × (b ≡ false)
@@ -30,27 +31,27 @@ neither_of a b e = grind arith
 
 -- a lane whose pixel an RGBA chunk gives has these
 full_lane : (l : Lane) → IsLane l → is_full l ≡ true → FullLane l
+unfolding first_chunk
 full_lane l is full =
     let both = neither_of (same_alpha l) l.stands full in
     let k = both.0 in
     let st = both.1 in
-    let d : fits_diff l ≡ false = and_right (fits_in_diff (as_diff l)) (same_alpha l) k in
-    let u : fits_luma l ≡ false = and_right (fits_in_luma (as_luma l)) (same_alpha l) k in
+    let d : fits_diff l ≡ false = and_right _ (same_alpha l) k in
+    let u : fits_luma l ≡ false = and_right _ (same_alpha l) k in
     record {
       fresh = go k (is_rep l) refl;
-      first_is = λ i. if st i then hash l.px else first_by (d i) (u i) (k i) (as_diff l) (as_luma l);
-      second_is = λ i. second_by (u i) (as_luma l) l.px;
-      size_is = λ i. size_by (st i || d i) (u i) (k i);
+      bytes_are = λ i. bytes_of (chunk_by (st i) (d i) (u i) (k i) (hash l.px) (as_diff l) (as_luma l) l.px);
+      second_is = λ i. if u i then slice_index (bytes_of (luma_of (as_luma l))) 1 else l.px.r;
     }
   where
     go : same_alpha l ≡ false → (b : Bool) → is_rep l ≡ b → is_rep l ≡ false
-    go k true e = absurd (true≢false (sym (and_parts (fits_in_diff (as_diff l)) (same_alpha l) (repeat_fits l is.px_is e)).1 ∙ k))
+    go k true e = absurd (true≢false (sym (and_parts _ (same_alpha l) (repeat_fits l is.px_is e)).1 ∙ k))
     go k false e = e
 
 -- each of these has
 pub full_lanes : (ls : List Lane) → AllByRecursion IsLane ls → AreFull ls → AllByRecursion FullLane ls
 full_lanes [] are full = tt
-full_lanes (l ∷ ls) are full = let p = and_parts (is_full l) (all_true (map is_full ls)) full in (full_lane l are.0 p.0, full_lanes ls are.1 p.1)
+full_lanes (l ∷ ls) are full = let p = and_parts (is_full l) (list_all is_full ls) full in (full_lane l are.0 p.0, full_lanes ls are.1 p.1)
 
 -- none is counted
 pub none_counted : (c : ℕ) (ls : List Lane) → AllByRecursion FullLane ls → counts c (map is_rep ls) ≡ replicate (length ls) 0
@@ -62,14 +63,14 @@ pub sizes_full : (ls : List Lane) → AllByRecursion FullLane ls → sizes ls �
 sizes_full [] f = refl
 sizes_full (l ∷ ls) f =
     let none : (5 + bit_and 0 (mask (goes_on ls))) % 256 ≡ 5 = omega (arith, and_le_l 0 (mask (goes_on ls))) in
-    (λ i. (f.0.size_is i + bit_and (mask (f.0.fresh i)) (mask (goes_on ls))) % 256 ∷ sizes ls) ∙ (λ i. none i ∷ sizes_full ls f.1 i)
+    (λ i. (length (f.0.bytes_are i) + bit_and (mask (f.0.fresh i)) (mask (goes_on ls))) % 256 ∷ sizes ls) ∙ (λ i. none i ∷ sizes_full ls f.1 i)
 
 -- the first is the tag
 pub tags_in : (style : Style) (q : Bool) (c : ℕ) (ls : List Lane) → AllByRecursion FullLane ls → firsts_in style q c ls ≡ replicate (length ls) 255
 tags_in style q c [] f = refl
 tags_in style q c (l ∷ ls) f =
     (λ i. let n = if f.0.fresh i then suc c else 0 in
-    named_in style (f.0.fresh i) q (hash l.px) n (max (f.0.first_is i) (bit_and (mask (f.0.fresh i)) ((n + 191) % 256))) ∷ firsts_in style l.stands n ls)
+    named_in style (f.0.fresh i) q (hash l.px) n (max (slice_index (f.0.bytes_are i) 0) (bit_and (mask (f.0.fresh i)) ((n + 191) % 256))) ∷ firsts_in style l.stands n ls)
     ∙ (λ i. named_in style false q (hash l.px) 0 (none_and 255 (191 % 256) i) ∷ tags_in style l.stands 0 ls f.1 i)
     ∙ ap (λ z. z ∷ replicate (length ls) 255) (fresh_stays style q (hash l.px) 255 (hash_below l.px) (omega arith))
 
@@ -82,7 +83,7 @@ reds_full (l ∷ ls) f = λ i. f.0.second_is i ∷ reds_full ls f.1 i
 pub full_written : (style : Style) (s : State) (ps : List RgbaPixel) → AllByRecursion FullLane (lanes_of s.held s.last ps) → block_bytes style s ps ≡ full_bytes ps
 full_written style s [] f = refl
 full_written style s (p ∷ ps) f =
-    let m = more_of p ps in
+    let m = goes_on (lanes_of (p ∷ s.held) p ps) in
     let one : step_by (pixel_eq p s.last) m style s p ≡ 255 ∷ p.r ∷ p.g ∷ p.b ∷ p.a ∷ [] =
-    (λ i. step_by (f.0.fresh i) m style s p) ∙ (λ i. take (f.0.size_is i) (f.0.first_is i ∷ f.0.second_is i ∷ p.g ∷ p.b ∷ p.a ∷ [])) in
-    λ i. one i ++ full_written style (next_state s p m) ps f.1 i
+    (λ i. step_by (f.0.fresh i) m style s p) ∙ f.0.bytes_are in
+    λ i. one i ++ full_written style (next_by (pixel_eq p s.last) m s p) ps f.1 i

@@ -1,11 +1,10 @@
 -- A block's vectors, lane by lane.
-use Rattle.std.proofs.Common.{◌≡◌, ℕ, suc, false, List, [], ◌∷◌, length, map, take, refl, sym, ap, ◌∙◌, arith}
+use Rattle.std.proofs.Common.{◌≡◌, ℕ, suc, List, [], ◌∷◌, length, map, take, refl, sym, ap, ◌∙◌, arith}
 use Rattle.std.specs.List.{AllByRecursion}
 use Rattle.qoi.specs.Qoi.{RgbaPixel, IsPixel, Past, pixel, hash, seen, pixel_eq}
-use Rattle.qoi.specs.inner.block.Lanes.{Lane, mask, State, lanes_of, IsLane}
-use Rattle.qoi.specs.declared.encode.block.planes.Planes.{Planes}
+use Rattle.qoi.specs.inner.block.Lanes.{Lane, mask, lanes_of, IsLane}
 use Rattle.qoi.specs.inner.block.Vectors.{AreBy, AreMasks, ArePlanesBy}
-use Rattle.qoi.specs.inner.block.Planes.{AreSixteen, ArePlanes}
+use Rattle.qoi.specs.inner.block.Planes.{Planes, AreSixteen, ArePlanes}
 use Rattle.qoi.specs.inner.block.Positions.{stand_tests}
 use Rattle.qoi.proofs.encoding.lanes.LaneTests.{befores, themselves}
 
@@ -29,26 +28,22 @@ pub stands_lanes : (held : Past) (q : RgbaPixel) (ps : List RgbaPixel) → map (
 stands_lanes held q [] = refl
 stands_lanes held q (p ∷ ps) = ap (λ z. mask (pixel_eq (seen held (hash p)) p) ∷ z) (stands_lanes (p ∷ held) p ps)
 
--- any pixel may stand before a block
-abbrev pub before : State
-before = record { held = []; last = pixel 0 0 0 0; carry = 0; placed = false }
-
--- this one
-pub before_is : IsPixel before.last
+-- any pixel may stand before a block, as this one
+pub before_is : IsPixel (pixel 0 0 0 0)
 before_is = record { r = omega arith; g = omega arith; b = omega arith; a = omega arith }
 
-module _ (s : State) (ps : List RgbaPixel) (sixteen : AreSixteen ps) (last : IsPixel s.last) where
+module _ (held : Past) (q : RgbaPixel) (ps : List RgbaPixel) (sixteen : AreSixteen ps) (last : IsPixel q) where
   -- the lanes of the block
   abbrev ls : List Lane
-  ls = lanes_of s.held s.last ps
+  ls = lanes_of held q ps
 
   -- numbers for its lanes
   by : (f : Lane → ℕ) (xs : List ℕ) → xs ≡ map f ls → AreBy ls f xs
-  by f xs e = record { long = lanes_long s.held s.last ps ∙ sixteen.long; are = lanes_are s.held s.last ps last sixteen.are; is = e }
+  by f xs e = record { long = lanes_long held q ps ∙ sixteen.long; are = lanes_are held q ps last sixteen.are; is = e }
 
   -- of the lanes' own pixels
   pub plane_by : (f : RgbaPixel → ℕ) (xs : List ℕ) → xs ≡ map f ps → AreBy ls (λ l. f l.px) xs
-  plane_by f xs e = by (λ l. f l.px) xs (e ∙ sym (themselves f s.held s.last ps))
+  plane_by f xs e = by (λ l. f l.px) xs (e ∙ sym (themselves f held q ps))
 
   -- the planes of the pixels
   pub own_planes : (p : Planes) → ArePlanes ps p → ArePlanesBy ls (λ l. l.px) p
@@ -60,10 +55,10 @@ module _ (s : State) (ps : List RgbaPixel) (sixteen : AreSixteen ps) (last : IsP
   }
 
   -- of the pixels before them
-  pub before_by : (f : RgbaPixel → ℕ) (xs : List ℕ) (first : ℕ) → xs ≡ map f ps → first ≡ f s.last → AreBy ls (λ l. f l.before) (first ∷ take 15 xs)
+  pub before_by : (f : RgbaPixel → ℕ) (xs : List ℕ) (first : ℕ) → xs ≡ map f ps → first ≡ f q → AreBy ls (λ l. f l.before) (first ∷ take 15 xs)
   before_by f xs first e h = by (λ l. f l.before) (first ∷ take 15 xs)
-      ((λ i. h i ∷ take 15 (e i)) ∙ sym (befores f s.held s.last ps ∙ ap (λ n. take n (f s.last ∷ map f ps)) sixteen.long))
+      ((λ i. h i ∷ take 15 (e i)) ∙ sym (befores f held q ps ∙ ap (λ n. take n (f q ∷ map f ps)) sixteen.long))
 
   -- which of them stand at their index positions
-  pub stands_by : (xs : List ℕ) → xs ≡ map mask (stand_tests s.held ps) → AreMasks ls (λ l. l.stands) xs
-  stands_by xs e = by (λ l. mask l.stands) xs (e ∙ sym (stands_lanes s.held s.last ps))
+  pub stands_by : (xs : List ℕ) → xs ≡ map mask (stand_tests held ps) → AreMasks ls (λ l. l.stands) xs
+  stands_by xs e = by (λ l. mask l.stands) xs (e ∙ sym (stands_lanes held q ps))

@@ -8,12 +8,13 @@ use Rattle.qoi.specs.Styles.{Style, Reference, Places, Tight}
 use Rattle.qoi.specs.Qoi.{Run, RgbaPixel, IsPixel, pixel_eq, hash, seen, bytes_of}
 use Rattle.qoi.proofs.format.SamePixels.{hash_below}
 use Rattle.qoi.proofs.encoding.lists.GroupRuns.{not_one}
-use Rattle.qoi.specs.inner.block.Lanes.{Lane, mask, same_alpha, as_diff, as_luma, fits_diff, fits_luma, first_of, size_of, State, lane_of, lanes_of, is_rep, goes_on, group_bytes, next_by, step_by, next_state, more_of, block_bytes, IsLane}
+use Rattle.qoi.specs.inner.block.Lanes.{Lane, mask, first_of, size_of, State, lane_of, lanes_of, is_rep, goes_on, group_bytes, next_by, step_by, block_bytes, IsLane}
 use Rattle.qoi.specs.inner.block.Vectors.{named_in, first_in, firsts_in, sizes}
 use Rattle.qoi.specs.inner.Coder.{single_chunk}
 use Rattle.qoi.proofs.encoding.lanes.LaneBits.{or_mask}
-use Rattle.qoi.proofs.encoding.blocks.LaneBytes.{chunk_of, chunks_of, repeat_size, repeat_first, run_byte, none_and, size_small, goes_is, carry_few}
-use Rattle.qoi.proofs.encoding.stores.StoredBlock.{chunk_pixels, second_small, first_small, over_small}
+use Rattle.qoi.proofs.encoding.blocks.LaneBytes.{chunk_of, chunks_of, repeat_byte, run_byte, none_and, carry_few}
+use Rattle.qoi.proofs.encoding.lanes.LaneChunk.{parts_of}
+use Rattle.qoi.proofs.encoding.stores.StoredBlock.{chunk_pixels, second_small, over_small}
 
 -- a fresh lane's byte stays
 pub fresh_stays : (style : Style) (q : Bool) (h f : ℕ) → h < 64 → f < 256 → named_in style false q h 0 f ≡ f
@@ -68,24 +69,24 @@ same_group style (suc c) q placed p e =
 
 -- a lane's first byte, if it is no repeat's, or that of a run, is one
 over_byte : (l : Lane) (m x : ℕ) → max (first_of l) (bit_and m (x % 256)) < 256
-over_byte l m x = over_small (first_of l) m x (first_small l.stands (fits_diff l) (fits_luma l) (same_alpha l) (hash l.px) (as_diff l) (as_luma l) (hash_below l.px))
+over_byte l m x = over_small (first_of l) m x (parts_of l).first
 
 -- a lane's bytes, by whether it repeats and the next one does
 step_is : (style : Style) (s : State) (p : RgbaPixel) → IsPixel p → suc s.carry < 62 → (q b m : Bool) → pixel_eq p s.last ≡ b → (b ≡ true → s.carry ≡ 0 → q ≡ s.placed)
     → (let l = lane_of s.held s.last p in chunk_of l (first_in style b q l (if b then suc s.carry else 0)) ((size_of l + bit_and (mask b) (mask m)) % 256)) ≡ step_by b m style s p
 step_is style s p i few q true true e k =
     let l = lane_of s.held s.last p in
-    ap (λ n. chunk_of l (first_in style true q l (suc s.carry)) ((n + 255) % 256)) (repeat_size l i e)
+    ap (λ n. chunk_of l (first_in style true q l (suc s.carry)) ((n + 255) % 256)) (repeat_byte l i e).0
 step_is style s p i few q true false e k =
     let l = lane_of s.held s.last p in
-    let byte = run_byte (first_of l) (suc s.carry) (repeat_first l i e) (omega arith) few in
-    ap (λ n. chunk_of l (first_in style true q l (suc s.carry)) ((n + 0) % 256)) (repeat_size l i e)
+    let byte = run_byte (first_of l) (suc s.carry) (repeat_byte l i e).1 (omega arith) few in
+    ap (λ n. chunk_of l (first_in style true q l (suc s.carry)) ((n + 0) % 256)) (repeat_byte l i e).0
     ∙ group_first style s.carry (max (first_of l) (bit_and 255 ((suc s.carry + 191) % 256))) q p byte few ∙ same_group style s.carry q s.placed p (k refl)
 step_is style s p i few q false m e k =
     let l = lane_of s.held s.last p in
-    let size : (size_of l + bit_and 0 (mask m)) % 256 ≡ size_of l = omega (arith, and_le_l 0 (mask m), size_small l.stands (fits_diff l) (fits_luma l) (same_alpha l)) in
+    let size : (size_of l + bit_and 0 (mask m)) % 256 ≡ size_of l = omega (arith, and_le_l 0 (mask m), (parts_of l).few) in
     let first = fresh_stays style q (hash p) _ (hash_below p) (over_byte l 0 191) ∙ none_and (first_of l) (191 % 256) in
-    λ j. chunk_of l (first j) (size j)
+    (λ j. chunk_of l (first j) (size j)) ∙ (parts_of l).are
 
 -- before a fresh lane it doesn't matter what was counted and what the chunk before names
 pub firsts_anew : (style : Style) (q r : Bool) (c : ℕ) (ls : List Lane) → goes_on ls ≡ false → firsts_in style q c ls ≡ firsts_in style r 0 ls
@@ -117,15 +118,12 @@ out_from : (style : Style) (s : State) (q : Bool) (ps : List RgbaPixel) → AllB
 out_from style s q [] are few k = refl
 out_from style s q (p ∷ ps) are few k =
     let b = pixel_eq p s.last in
-    let m = more_of p ps in
     let l = lane_of s.held s.last p in
     let ls = lanes_of (p ∷ s.held) p ps in
-    let n = if b then suc s.carry else 0 in
-    let g = goes_is (p ∷ s.held) p ps in
-    let one = ap (λ z. chunk_of l (first_in style b q l n) ((size_of l + bit_and (mask b) (mask z)) % 256)) g
-    ∙ step_is style s p are.0 (omega arith) q b m refl (λ rep zero. k zero rep) in
-    let rest = ap (λ fs. chunks_of ls fs (sizes ls)) (firsts_next style s p l.stands b m ls g)
-    ∙ out_from style (next_state s p m) l.stands ps are.1 (omega (arith, carry_few b m s p)) (still_placed s p b m ls g) in
+    let m = goes_on ls in
+    let one = step_is style s p are.0 (omega arith) q b m refl (λ rep zero. k zero rep) in
+    let rest = ap (λ fs. chunks_of ls fs (sizes ls)) (firsts_next style s p l.stands b m ls refl)
+    ∙ out_from style (next_by b m s p) l.stands ps are.1 (omega (arith, carry_few b m s p)) (still_placed s p b m ls refl) in
     λ i. one i ++ rest i
 
 -- the bytes are those that are to be written
@@ -150,4 +148,4 @@ pixels_in style q c [] a = tt
 pixels_in style q c (l ∷ ls) a =
     let n = if is_rep l then suc c else 0 in
     let i = a.0.px_is in
-    (record { r = first_below style (is_rep l) q l n; g = second_small (fits_luma l) (as_luma l) l.px i; b = i.g; a = i.b }, pixels_in style l.stands n ls a.1)
+    (record { r = first_below style (is_rep l) q l n; g = second_small l i; b = i.g; a = i.b }, pixels_in style l.stands n ls a.1)

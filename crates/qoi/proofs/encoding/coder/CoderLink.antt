@@ -2,15 +2,11 @@
 use Rattle.std.proofs.Common.{◌≡◌, ◌≢◌, ◌⊎◌, inl, inr, ◌<◌, ◌≤◌, length, ℕ, true, List, [], ◌∷◌, Some, ◌++◌, refl, sym, ap, ◌∙◌, arith, subst}
 use Rattle.std.proofs.lemmas.Bool.{true≢false, true_from_ne_false}
 use Rattle.std.specs.List.{slice_get}
-use Rattle.qoi.specs.declared.encode.carry.Carry.{Carry}
-use Rattle.qoi.specs.declared.encode.coder.Coder.{Coder}
-use Rattle.qoi.specs.declared.encode.coder.LastPixel.{LastPixel}
-use Rattle.qoi.specs.declared.encode.piece.Piece.{Piece}
 use Rattle.qoi.specs.Styles.{Style, Tight}
 use Rattle.qoi.specs.Qoi.{RgbaPixel}
-use Rattle.qoi.specs.inner.block.Block.{last_pixel}
-use Rattle.qoi.specs.inner.BlockLoop.{IsCarried, OpensBlock, GoesByBlocks, InBlocks}
-use Rattle.qoi.specs.inner.Coder.{kept_bytes, CoderBetween, CoderPasses}
+use Rattle.qoi.specs.inner.BlockLoop.{IsCarried, GoesByBlocks, InBlocks, Carry}
+use Rattle.qoi.specs.inner.Coder.{kept_bytes, CoderBetween, CoderPasses, Coder, LastPixel, Piece}
+use Rattle.qoi.specs.inner.block.Planes.{last_pixel}
 use Rattle.qoi.proofs.encoding.coder.CoderSteps.{over_sent, repeats_joined}
 
 -- what stands first doesn't depend on what follows
@@ -42,18 +38,18 @@ module _ {N size : ℕ} {style : Style} {ahead : List ℕ} {pixels rest table ta
 module _ {N : ℕ} {style : Style} {ahead : List ℕ} {n : ℕ} {pixels more : List RgbaPixel} {table : List RgbaPixel} {carry : Carry N} {kept : List ℕ} where
   -- a fresh pixel came if the next one repeats the last
   pub begun_by_repeat : (b : InBlocks style ahead n pixels more table carry kept) → slice_get pixels 0 ≡ Some (last_pixel carry.before) → b.last.begun ≡ true
-  begun_by_repeat b first = true_from_ne_false b.last.begun (λ no. (b.goes.opens no).fresh (first ∙ ap Some b.is.px_is))
+  begun_by_repeat b first = true_from_ne_false b.last.begun (λ no. (b.goes.opens no).1 (first ∙ ap Some b.is.px_is))
 
   -- in style Tight, or if fewer than n pixels are left, one came, and a coder can go on
   pub still_between : {last : LastPixel} → IsCarried last carry → last.begun ≡ true → (style ≡ Tight) ⊎ (length pixels < n)
       → InBlocks style ahead n pixels more table carry kept → CoderBetween style ahead (pixels ++ more) table last kept
   still_between is begun ends b =
-      repeats_joined b.between 0 (pixels ++ more) refl (sym is.px_is ∙ b.is.px_is)
-      (begun ∙ sym (true_from_ne_false b.last.begun (λ no. never (b.goes.opens no) ends))) (sym is.placed_is ∙ b.is.placed_is) (omega (arith, is.count_is, b.is.count_is))
-    where
-      never : {last : LastPixel} → OpensBlock style last n pixels → (style ≡ Tight) ⊎ (length pixels < n) → ⊥
-      never o (inl tight) = o.other tight
-      never o (inr few) = omega (arith, o.whole, few)
+      let came = true_from_ne_false b.last.begun (λ no. elim ends [
+        | inl tight ↦ (b.goes.opens no).3 tight
+        | inr few ↦ omega (arith, (b.goes.opens no).2, few)
+      ]) in
+      repeats_joined b.between 0 (pixels ++ more) refl (sym is.px_is ∙ b.is.px_is) (begun ∙ sym came) (sym is.placed_is ∙ b.is.placed_is)
+      (omega (arith, is.count_is, b.is.count_is))
 
 -- a fresh pixel came, and few repeats are to be written
 pub goes_on : {style : Style} {last : LastPixel} {n : ℕ} {rest : List RgbaPixel} → last.begun ≡ true → (slice_get rest 0 ≡ Some last.px → last.repeats ≤ 45)

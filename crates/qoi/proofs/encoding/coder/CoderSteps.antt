@@ -3,12 +3,11 @@
 use Rattle.std.proofs.Common.{◌≡◌, ◌≢◌, ◌⊎◌, inl, inr, ℕ, suc, Bool, true, not, ◌+◌, ◌*◌, ◌%◌, ◌<◌, List, [], ◌∷◌, ◌++◌, get_or, replicate, Option, None, Some, refl, sym, ap, ◌∙◌, subst, arith, append-nil, append_assoc}
 use Rattle.std.specs.List.{AllByRecursion, slice_get}
 use Rattle.std.proofs.lemmas.Grind.{flat_map-append}
-use Rattle.qoi.specs.declared.encode.coder.LastPixel.{LastPixel}
 use Rattle.qoi.specs.Qoi.{Chunk, Run, AreBytes, RgbaPixel, IsPixel, Past, previous, hash, IsChunk, bytes_of, chunk_bytes}
 use Rattle.qoi.specs.Runs.{runs_by}
 use Rattle.qoi.specs.Styles.{Style, Reference, Places, Tight, fresh_next, some_fresh, names, choice_in, styled}
 use Rattle.qoi.specs.WrittenList.{chosen, list_after, written_list}
-use Rattle.qoi.specs.inner.Coder.{single_chunk, last_chunk, Ahead, CoderAfter, single, CoderBetween}
+use Rattle.qoi.specs.inner.Coder.{single_chunk, last_chunk, Ahead, CoderAfter, CoderBetween, LastPixel}
 use Rattle.qoi.proofs.format.ChunkSteps.{previous_repeats, all_back}
 use Rattle.qoi.proofs.encoding.lists.ListAhead.{runs_full, none_ahead, repeat_ahead, repeats_ahead, chunk_ahead, fulls_ahead, runs_ahead}
 use Rattle.qoi.proofs.encoding.styles.StyleLists.{chooses_in}
@@ -204,7 +203,7 @@ module _ {style : Style} {ahead : List ℕ} {pixels : List RgbaPixel} {table : L
   pub group_written : (n : ℕ) (rest : List RgbaPixel) (one : Chunk) {next_table : List RgbaPixel} {next : LastPixel} {next_bytes : List ℕ}
       → pixels ≡ replicate n last.px ++ rest
       → (slice_get rest 0 ≢ Some last.px) ⊎ ((last.repeats + n) % 62 ≡ 0)
-      → ((last.repeats + n) % 62 ≡ 1 → ((rest ≡ []) × (one ≡ Run 1)) ⊎ ((rest ≢ []) × (one ≡ single style last (last.repeats + n))))
+      → ((last.repeats + n) % 62 ≡ 1 → ((rest ≡ []) × (one ≡ Run 1)) ⊎ ((rest ≢ []) × (one ≡ single_chunk style last.begun last.placed (hash last.px) (last.repeats + n))))
       → next_bytes ≡ bytes ++ chunk_bytes (runs_by one (last.repeats + n)) → next.repeats ≡ 0
       → ((past : Past) (before : Option Chunk) → CoderAfter style past before table last
       → CoderAfter style (replicate (last.repeats + n) (previous past) ++ past) (last_chunk before (runs_by (Run 1) (last.repeats + n))) next_table next)
@@ -217,7 +216,7 @@ module _ {style : Style} {ahead : List ℕ} {pixels : List RgbaPixel} {table : L
         | inl other ↦ inl (λ e. other (e ∙ ap Some last_before))
         | inr full ↦ inr full
       ] in
-      let single_is : single style last count ≡ single_chunk style (some_fresh b.past) named (hash q) count =
+      let single_is : single_chunk style last.begun last.placed (hash last.px) count ≡ single_chunk style (some_fresh b.past) named (hash q) count =
       single_same style last.begun last.placed named (hash last.px) count b.state.placed_is
       ∙ (λ i. single_chunk style (b.state.begun_is i) named (hash (b.state.last_is i)) count) in
       let over = over_group count rest one (joined n rest split) stops (λ e. elim (one_is e) [

@@ -3,10 +3,10 @@ use Rattle.std.proofs.Common.{◌≡◌, ◌≢◌, ◌↔◌, ◌⊎◌, inl, i
 use lib.Lanes.{digits_l}
 use Rattle.std.proofs.lemmas.Bool.{eq-eqb, lt-ltb}
 use Rattle.qoi.specs.Qoi.{Chunk, Place, RgbaPixel, Past, previous, hash, IsChunk, bytes_of, seen}
-use Rattle.qoi.specs.inner.Table.{Holds}
 use Rattle.qoi.specs.Written.{fresh, IsFirst}
 use Rattle.qoi.specs.Styles.{Style, Reference, Places, Tight, names, choice_in}
 use Rattle.qoi.specs.inner.Coder.{held_in}
+use Rattle.qoi.specs.inner.Table.{Holds}
 use Rattle.qoi.specs.inner.block.Storing.{chunk_of}
 use Rattle.qoi.proofs.format.ChunkSteps.{previous_repeats}
 use Rattle.qoi.proofs.format.SamePixels.{hash_below}

@@ -3,13 +3,12 @@ use Rattle.std.proofs.Common.{◌≡◌, ℕ, ◌+◌, ◌*◌, ◌/◌, ◌%◌
 use Rattle.std.proofs.Math.Bool.{and_assoc}
 use Rattle.std.proofs.lemmas.Bool.{true≢false, and_from, and_left, and_right}
 use lib.Lanes.{digits_l}
-use Rattle.qoi.specs.Qoi.{Chunk, RgbaPixel, IsPixel}
+use Rattle.qoi.specs.Qoi.{Chunk, RgbaPixel, IsPixel, bytes_of}
 use Rattle.qoi.specs.Raw.{IsChannels}
-use Rattle.qoi.specs.inner.block.Lanes.{Lane, as_diff, as_luma, same_alpha, fits_in_diff, fits_in_luma, fits_diff, fits_luma, first_by, second_by, size_by, diff_of, lane_bytes}
 use Rattle.qoi.specs.inner.Coder.{SpellsOut}
-use Rattle.qoi.specs.WrittenList.{steps, diff_steps, luma_steps}
+use Rattle.qoi.specs.WrittenList.{steps, diff_steps, luma_steps, fits_in_diff, fits_in_luma, spelled, first_chunk}
+use Rattle.qoi.proofs.encoding.coder.Spelled.{diff_small, luma_small, first_after}
 use Rattle.qoi.specs.inner.Packed.{word}
-use Rattle.qoi.proofs.encoding.lanes.LaneChunk.{three_small, spelled_lane}
 
 -- three tests of equal numbers
 pub three_tests : (t : Bool) (a b c x y z l m n : ℕ) → a ≡ x → b ≡ y → c ≡ z → ((nat_lt a l && nat_lt b m) && nat_lt c n) ≡ t
@@ -48,69 +47,57 @@ after_pixel n first p ip l e =
     let four : n / 256 / 256 / 256 % 256 ≡ p.b = omega arith in
     λ i. one i ∷ two i ∷ three i ∷ four i ∷ []
 
+-- three tests of the same steps
+same_tests : (s t : RgbaPixel) (l m n : ℕ) (b : Bool) → s ≡ t → ((nat_lt s.r l && nat_lt s.g m) && nat_lt s.b n) ≡ b → (nat_lt t.r l && (nat_lt t.g m && nat_lt t.b n)) ≡ b
+same_tests s t l m n b is e = sym (ap (λ x. nat_lt x.r l && (nat_lt x.g m && nat_lt x.b n)) is) ∙ sym (and_assoc (nat_lt s.r l) (nat_lt s.g m) (nat_lt s.b n)) ∙ e
+
 module _ (q p : RgbaPixel) (iq : IsPixel q) (ip : IsPixel p) where
-  -- its lane
-  abbrev lane : Lane
-  lane = record { px = p; before = q; stands = false }
+  -- the steps, as a Diff has them
+  abbrev small : RgbaPixel
+  small = diff_steps (steps q p)
 
-  -- the lane's bytes, by the three tests
-  bytes_by : (d m k : Bool) → fits_diff lane ≡ d → fits_luma lane ≡ m → same_alpha lane ≡ k
-      → lane_bytes lane ≡ take (size_by d m k) (first_by d m k (as_diff lane) (as_luma lane) ∷ second_by m (as_luma lane) p ∷ p.g ∷ p.b ∷ p.a ∷ [])
-  bytes_by d m k ed em ek =
-      λ i. take (size_by (ed i) (em i) (ek i)) (first_by (ed i) (em i) (ek i) (as_diff lane) (as_luma lane) ∷ second_by (em i) (as_luma lane) p ∷ p.g ∷ p.b ∷ p.a ∷ [])
+  -- as a Luma has them
+  abbrev wide : RgbaPixel
+  wide = luma_steps (steps q p)
 
-  -- a number with the lane's bytes spells out the pixel
-  spells : (n size : ℕ) → take size (digits_l 256 4 n ++ p.a ∷ []) ≡ lane_bytes lane → (c : Chunk) × SpellsOut q p n size c
-  spells n size e =
-      let s = spelled_lane lane (record { px_is = ip; before_is = iq }) refl in
-      (s.0, record { chunk = s.1.chunk; bytes = e ∙ s.1.bytes; first = s.1.first })
+  -- a number with the bytes of the chunk that the tests choose spells out the pixel
+  spells : (n size : ℕ) (d m k : Bool) → fits_in_diff small ≡ d → fits_in_luma wide ≡ m → ((steps q p).a == 0) ≡ k
+      → take size (digits_l 256 4 n ++ p.a ∷ []) ≡ bytes_of (spelled d m k small wide p) → (c : Chunk) × SpellsOut q p n size c
+  unfolding first_chunk
+  spells n size d m k ed em ek e =
+      let is = first_after q p iq ip in
+      (first_chunk q p, record { chunk = is.0; bytes = e ∙ sym (λ i. bytes_of (spelled (ed i) (em i) (ek i) small wide p)); first = is.1 })
 
   -- alpha changes
   pub spells_rgba : (n : ℕ) → ((steps q p).a == 0) ≡ false → n ≡ word p % 16777216 * 256 + 255 → (c : Chunk) × SpellsOut q p n 5 c
-  spells_rgba n k e = spells n 5 (
-      ap (λ bytes. bytes ++ p.a ∷ []) (after_pixel n 255 p ip (omega arith) e)
-      ∙ sym (bytes_by false false false (and_right (fits_in_diff (as_diff lane)) (same_alpha lane) k) (and_right (fits_in_luma (as_luma lane)) (same_alpha lane) k) k)
-      )
+  spells_rgba n k e = spells n 5 false false false (and_right _ _ k) (and_right _ _ k) k (ap (λ bytes. bytes ++ p.a ∷ []) (after_pixel n 255 p ip (omega arith) e))
 
   -- the steps fit a Diff
-  pub spells_diff : (s : RgbaPixel) (n : ℕ) → s ≡ diff_steps (steps q p) → (steps q p).a ≡ 0
+  pub spells_diff : (s : RgbaPixel) (n : ℕ) → s ≡ small → (steps q p).a ≡ 0
       → ((nat_lt s.r 4 && nat_lt s.g 4) && nat_lt s.b 4) ≡ true → n ≡ 64 + s.r * 16 + (s.g * 4 + s.b) → (c : Chunk) × SpellsOut q p n 1 c
   spells_diff s n is alpha t e =
-      let k : same_alpha lane ≡ true = eq-eqb (steps q p).a 0 alpha in
-      let small : fits_in_diff (as_diff lane) ≡ true =
-      ap fits_in_diff (sym is) ∙ sym (and_assoc (nat_lt s.r 4) (nat_lt s.g 4) (nat_lt s.b 4)) ∙ t in
-      let first : n % 256 ≡ diff_of (as_diff lane) = ap (λ z. z % 256) e ∙ omega arith ∙ ap diff_of is in
-      spells n 1 ((λ i. first i ∷ []) ∙ sym (bytes_by true (fits_luma lane) true (and_from (fits_in_diff (as_diff lane)) (same_alpha lane) small k) refl k))
+      let k = eq-eqb (steps q p).a 0 alpha in
+      let fits = and_from _ _ (same_tests s small 4 4 4 true is t) k in
+      let first : n % 256 ≡ 64 + small.r * 16 + small.g * 4 + small.b = omega (arith, diff_small small fits, e ∙ ap (λ (x : RgbaPixel). 64 + x.r * 16 + (x.g * 4 + x.b)) is) in
+      spells n 1 true _ true fits refl k (λ i. first i ∷ [])
 
-  -- they don't, so it isn't one
-  not_diff : (s : RgbaPixel) → s ≡ diff_steps (steps q p) → ((nat_lt s.r 4 && nat_lt s.g 4) && nat_lt s.b 4) ≡ false → fits_diff lane ≡ false
-  not_diff s is t =
-      and_left (fits_in_diff (as_diff lane)) (same_alpha lane) (ap fits_in_diff (sym is) ∙ sym (and_assoc (nat_lt s.r 4) (nat_lt s.g 4) (nat_lt s.b 4)) ∙ t)
-
-  -- they fit a Luma
-  pub spells_luma : (s u : RgbaPixel) (n : ℕ) → s ≡ diff_steps (steps q p) → u ≡ luma_steps (steps q p) → (steps q p).a ≡ 0
+  -- they fit a Luma, but no Diff
+  pub spells_luma : (s u : RgbaPixel) (n : ℕ) → s ≡ small → u ≡ wide → (steps q p).a ≡ 0
       → ((nat_lt s.r 4 && nat_lt s.g 4) && nat_lt s.b 4) ≡ false → ((nat_lt u.r 16 && nat_lt u.g 64) && nat_lt u.b 16) ≡ true
       → n ≡ 128 + u.g + (u.r * 16 + u.b) * 256 → (c : Chunk) × SpellsOut q p n 2 c
   spells_luma s u n s_is u_is alpha st t e =
-      let k : same_alpha lane ≡ true = eq-eqb (steps q p).a 0 alpha in
-      let wide_u : fits_in_luma u ≡ true = sym (and_assoc (nat_lt u.r 16) (nat_lt u.g 64) (nat_lt u.b 16)) ∙ t in
-      let wide : fits_in_luma (as_luma lane) ≡ true = ap fits_in_luma (sym u_is) ∙ wide_u in
-      let fit = three_small u.r u.g u.b 16 64 16 0 (and_from (fits_in_luma u) (0 == 0) wide_u refl) in
-      let green = fit.1 in
-      let first : n % 256 ≡ (128 + (as_luma lane).g) % 256 = ap (λ z. z % 256) e ∙ omega arith ∙ ap (λ (x : RgbaPixel). (128 + x.g) % 256) u_is in
-      let second : n / 256 % 256 ≡ ((as_luma lane).r * 16 + (as_luma lane).b) % 256 =
-      ap (λ z. z / 256 % 256) e ∙ omega arith ∙ ap (λ (x : RgbaPixel). (x.r * 16 + x.b) % 256) u_is in
-      spells n 2 ((λ i. first i ∷ second i ∷ []) ∙ sym (bytes_by false true true (not_diff s s_is st) (and_from (fits_in_luma (as_luma lane)) (same_alpha lane) wide k) k))
+      let k = eq-eqb (steps q p).a 0 alpha in
+      let fits = and_from _ _ (same_tests u wide 16 64 16 true u_is t) k in
+      let f = luma_small wide fits in
+      let is = e ∙ ap (λ (x : RgbaPixel). 128 + x.g + (x.r * 16 + x.b) * 256) u_is in
+      let first : n % 256 ≡ 128 + wide.g = omega (arith, f, is) in
+      let second : n / 256 % 256 ≡ wide.r * 16 + wide.b = omega (arith, f, is) in
+      spells n 2 false true true (and_left _ _ (same_tests s small 4 4 4 false s_is st)) fits k (λ i. first i ∷ second i ∷ [])
 
   -- they fit neither, and alpha stays
-  pub spells_rgb : (s u : RgbaPixel) (n : ℕ) → s ≡ diff_steps (steps q p) → u ≡ luma_steps (steps q p) → (steps q p).a ≡ 0
+  pub spells_rgb : (s u : RgbaPixel) (n : ℕ) → s ≡ small → u ≡ wide → (steps q p).a ≡ 0
       → ((nat_lt s.r 4 && nat_lt s.g 4) && nat_lt s.b 4) ≡ false → ((nat_lt u.r 16 && nat_lt u.g 64) && nat_lt u.b 16) ≡ false
       → n ≡ word p % 16777216 * 256 + 254 → (c : Chunk) × SpellsOut q p n 4 c
   spells_rgb s u n s_is u_is alpha st ut e =
-      let k : same_alpha lane ≡ true = eq-eqb (steps q p).a 0 alpha in
-      let wide : fits_in_luma (as_luma lane) ≡ false =
-      ap fits_in_luma (sym u_is) ∙ sym (and_assoc (nat_lt u.r 16) (nat_lt u.g 64) (nat_lt u.b 16)) ∙ ut in
-      spells n 4 (
-      ap (λ bytes. take 4 (bytes ++ p.a ∷ [])) (after_pixel n 254 p ip (omega arith) e)
-      ∙ sym (bytes_by false false true (not_diff s s_is st) (and_left (fits_in_luma (as_luma lane)) (same_alpha lane) wide) k)
-      )
+      spells n 4 false false true (and_left _ _ (same_tests s small 4 4 4 false s_is st)) (and_left _ _ (same_tests u wide 16 64 16 false u_is ut)) (eq-eqb (steps q p).a 0 alpha)
+      (ap (λ bytes. take 4 (bytes ++ p.a ∷ [])) (after_pixel n 254 p ip (omega arith) e))

@@ -1,9 +1,9 @@
 -- Transparent black among sixteen pixels.
 use Rattle.std.proofs.Common.{◌≡◌, ℕ, ◌+◌, ◌-◌, ◌%◌, ◌<◌, Bool, true, false, not, ◌||◌, ◌&&◌, ◌==◌, List, [], ◌∷◌, map, bit_or, if◌then◌else◌, refl, sym, ap, ap₂, ◌∙◌, arith}
 use Rattle.std.proofs.lemmas.Bool.{and_parts, true≢false}
-use Rattle.qoi.specs.Qoi.{RgbaPixel, pixel_eq, blank, seen, hash}
-use Rattle.qoi.specs.inner.block.Lanes.{Lane, IsLane, mask, step_of, State, lanes_of, is_rep, next_state, more_of, NoneBlank}
-use Rattle.qoi.specs.inner.block.Vectors.{all_true}
+use Rattle.qoi.specs.Qoi.{RgbaPixel, Past, pixel_eq, blank, seen, hash}
+use Rattle.qoi.specs.inner.block.Lanes.{Lane, IsLane, mask, step_of, lanes_of, is_rep, NoneBlank}
+use Rattle.std.specs.List.{list_all}
 use Rattle.qoi.proofs.format.SamePixels.{pixel_eq-true, pixel_eq-from, pixel_eq-ne}
 use Rattle.qoi.proofs.encoding.lanes.LaneBits.{or_below, one_zero}
 use Rattle.qoi.proofs.encoding.lists.NotedPixels.{hash_blank}
@@ -41,12 +41,12 @@ abbrev pub is_plain : Lane → Bool
 is_plain l = is_rep l || not (is_blank l.px)
 
 -- if each does, no fresh pixel is transparent black
-pub plain_lanes : (s : State) (ps : List RgbaPixel) → all_true (map is_plain (lanes_of s.held s.last ps)) ≡ true → NoneBlank s ps
-plain_lanes s [] all = tt
-plain_lanes s (p ∷ ps) all =
-    let a = and_parts (pixel_eq p s.last || not (is_blank p)) (all_true (map is_plain (lanes_of (p ∷ s.held) p ps))) all in (
-      λ fresh away same. true≢false (sym a.0 ∙ ap₂ ◌||◌ (pixel_eq-ne p s.last fresh) (ap not (pixel_eq-from p blank same))),
-      plain_lanes (next_state s p (more_of p ps)) ps a.1,
+pub plain_lanes : (held : Past) (q : RgbaPixel) (ps : List RgbaPixel) → list_all (λ b. b) (map is_plain (lanes_of held q ps)) ≡ true → NoneBlank held q ps
+plain_lanes held q [] all = tt
+plain_lanes held q (p ∷ ps) all =
+    let a = and_parts (pixel_eq p q || not (is_blank p)) (list_all (λ b. b) (map is_plain (lanes_of (p ∷ held) p ps))) all in (
+      λ fresh away same. true≢false (sym a.0 ∙ ap₂ ◌||◌ (pixel_eq-ne p q fresh) (ap not (pixel_eq-from p blank same))),
+      plain_lanes (p ∷ held) p ps a.1,
     )
 
 -- a pixel is transparent black or doesn't have its index position
@@ -54,15 +54,15 @@ abbrev pub is_elsewhere : RgbaPixel → Bool
 is_elsewhere p = is_blank p || not (hash p == 0)
 
 -- if each is, transparent black stays at its index position
-pub blank_stays : (s : State) (ps : List RgbaPixel) → seen s.held 0 ≡ blank → all_true (map is_elsewhere ps) ≡ true → NoneBlank s ps
-blank_stays s [] there all = tt
-blank_stays s (p ∷ ps) there all =
-    let a = and_parts (is_elsewhere p) (all_true (map is_elsewhere ps)) all in (
-      λ fresh away same. away (ap (seen s.held) (ap hash same ∙ hash_blank) ∙ there ∙ sym same),
-      blank_stays (next_state s p (more_of p ps)) ps (put (is_blank p) (hash p == 0) refl refl a.0) a.1,
+pub blank_stays : (held : Past) (q : RgbaPixel) (ps : List RgbaPixel) → seen held 0 ≡ blank → list_all (λ b. b) (map is_elsewhere ps) ≡ true → NoneBlank held q ps
+blank_stays held q [] there all = tt
+blank_stays held q (p ∷ ps) there all =
+    let a = and_parts (is_elsewhere p) (list_all (λ b. b) (map is_elsewhere ps)) all in (
+      λ fresh away same. away (ap (seen held) (ap hash same ∙ hash_blank) ∙ there ∙ sym same),
+      blank_stays (p ∷ held) p ps (put (is_blank p) (hash p == 0) refl refl a.0) a.1,
     )
   where
-    put : (b h : Bool) → is_blank p ≡ b → (hash p == 0) ≡ h → (b || not h) ≡ true → (if hash p == 0 then p else seen s.held 0) ≡ blank
+    put : (b h : Bool) → is_blank p ≡ b → (hash p == 0) ≡ h → (b || not h) ≡ true → (if hash p == 0 then p else seen held 0) ≡ blank
     put b false eb eh t = rw eh there
     put true true eb eh t = rw eh (pixel_eq-true p blank eb)
     put false true eb eh t = absurd (true≢false (sym t))

@@ -1,13 +1,15 @@
 -- One lane of the tests, of the first byte, the second one and the size.
-use Rattle.std.proofs.Common.{◌≡◌, ℕ, ◌+◌, ◌-◌, ◌*◌, ◌/◌, ◌%◌, ◌^◌, ◌<◌, ◌≤◌, Bool, true, false, IsTrue, nat_lt, ◌&&◌, ◌||◌, ◌==◌, bit_and, bit_or, sym, ap, ap₂, ◌∙◌, arith}
+use Rattle.std.proofs.Common.{◌≡◌, ℕ, ◌+◌, ◌-◌, ◌*◌, ◌/◌, ◌%◌, ◌^◌, ◌<◌, Bool, true, false, IsTrue, nat_lt, ◌&&◌, ◌==◌, bit_and, bit_or, refl, sym, ap, ap₂, ◌∙◌, arith, slice_index, length}
 use Rattle.std.proofs.Math.Bool.{and_assoc}
 use Rattle.std.specs.Prelude.{min, if◌then◌else◌}
 use Rattle.std.proofs.lemmas.Nat.{and_mask, and_comm, and_le_l, or_comm, or_lt, le_or_l, le_or_r, or_shifted}
 use Rattle.std.proofs.lemmas.Nat.Bits.{and_high_mask}
-use Rattle.qoi.specs.Qoi.{hash}
+use Rattle.qoi.specs.Qoi.{RgbaPixel, hash, bytes_of}
 use Rattle.qoi.proofs.format.SamePixels.{hash_below}
-use Rattle.qoi.specs.inner.block.Lanes.{Lane, IsLane, mask, step_of, as_diff, as_luma, same_alpha, fits_diff, fits_luma, diff_of, first_of, second_of, size_of, size_by}
-use Rattle.qoi.proofs.encoding.lanes.LaneChunk.{three_small}
+use Rattle.qoi.specs.inner.block.Lanes.{Lane, IsLane, mask, as_diff, as_luma, same_alpha, fits_diff, fits_luma, first_of, second_of, size_of}
+use Rattle.qoi.specs.WrittenList.{fits_in_diff, fits_in_luma, diff_of, luma_of, first_chunk}
+use Rattle.qoi.proofs.encoding.coder.Spelled.{diff_small, luma_small}
+use Rattle.qoi.proofs.encoding.lanes.LaneChunk.{chunk_by}
 
 -- both of two masks
 and_masks : (a b : Bool) → bit_and (mask a) (mask b) ≡ mask (a && b)
@@ -71,22 +73,25 @@ or_mask x true l = or_zero x l
 or_mask x false l = omega (arith, le_or_r x 255, or_lt 8 x 255 l (omega arith))
 
 -- the first byte is the least of those that apply
-least : (st d l k : Bool) (h s g : ℕ) → h < 64 → (IsTrue d → (64 ≤ s) × (s < 128)) → s < 256 → (IsTrue l → g < 64) → g < 256
-    → min (min (min (if l then (g + 128) % 256 else 255) ((255 + mask k) % 256)) (if d then s else 255)) (if st then h else 255)
-    ≡ (if st then h else (if d then s else (if l then (128 + g) % 256 else (if k then 254 else 255))))
-least st d l k h s g lh ds ls dg lg = grind arith
+least : (st d l k : Bool) (h : ℕ) (s w p : RgbaPixel) → h < 64 → (d ≡ true → IsTrue (fits_in_diff s)) → (l ≡ true → IsTrue (fits_in_luma w)) → w.g < 256
+    → min (min (min (if l then (w.g + 128) % 256 else 255) ((255 + mask k) % 256)) (if d then slice_index (bytes_of (diff_of s)) 0 % 256 else 255)) (if st then h else 255)
+    ≡ slice_index (bytes_of (chunk_by st d l k h s w p)) 0
+least true d l k h s w p lh ds ls lg = grind arith
+least false true l k h s w p lh ds ls lg = let f = diff_small s (ds refl) in let r = f.0 in let g = f.1 in let b = f.2 in grind arith
+least false false true k h s w p lh ds ls lg = let f = (luma_small w (ls refl)).1 in grind arith
+least false false false true h s w p lh ds ls lg = refl
+least false false false false h s w p lh ds ls lg = refl
 
 -- the first byte of a lane's chunk
 pub first_lane : (l : Lane) → IsLane l
-    → min (min (min (bit_or (((as_luma l).g + 128) % 256) (255 - mask (fits_luma l))) ((255 + mask (same_alpha l)) % 256)) (bit_or (diff_of (as_diff l)) (255 - mask (fits_diff l))))
+    → min (min (min (bit_or (((as_luma l).g + 128) % 256) (255 - mask (fits_luma l))) ((255 + mask (same_alpha l)) % 256)) (bit_or (slice_index (bytes_of (diff_of (as_diff l))) 0 % 256) (255 - mask (fits_diff l))))
     (bit_or (hash l.px) (255 - mask l.stands)) ≡ first_of l
+unfolding first_chunk
 first_lane l is =
     let h = hash_below l.px in
     ap₂ min (ap₂ min (ap (λ x. min x ((255 + mask (same_alpha l)) % 256)) (or_mask (((as_luma l).g + 128) % 256) (fits_luma l) (omega arith)))
-    (or_mask (diff_of (as_diff l)) (fits_diff l) (omega arith))) (or_mask (hash l.px) l.stands (omega arith))
-    ∙ least l.stands (fits_diff l) (fits_luma l) (same_alpha l) (hash l.px) (diff_of (as_diff l)) (as_luma l).g (omega arith)
-    (λ t. (let f = three_small (as_diff l).r (as_diff l).g (as_diff l).b 4 4 4 (step_of l).a t in let a = f.0 in let b = f.1 in let c = f.2 in (omega arith, omega arith)))
-    (omega arith) (λ t. (let f = three_small (as_luma l).r (as_luma l).g (as_luma l).b 16 64 16 (step_of l).a t in f.1)) (omega arith)
+    (or_mask (slice_index (bytes_of (diff_of (as_diff l))) 0 % 256) (fits_diff l) (omega arith))) (or_mask (hash l.px) l.stands (omega arith))
+    ∙ least l.stands (fits_diff l) (fits_luma l) (same_alpha l) (hash l.px) (as_diff l) (as_luma l) l.px (omega arith) (λ t. t) (λ t. t) (omega arith)
 
 -- one of two bytes
 either : (b : Bool) (x y : ℕ) → x < 256 → y < 256 → bit_or (bit_and (mask b) x) (bit_and (255 - mask b) y) ≡ (if b then x else y)
@@ -104,14 +109,22 @@ pub second_lane : (l : Lane) → IsLane l
     → bit_or (bit_and (mask (fits_luma l)) (((as_luma l).r * 2 ^ 4 % 2 ^ 8 + (as_luma l).b) % 256)) (bit_and (255 - mask (fits_luma l)) l.px.r) ≡ second_of l
 second_lane l is =
     let i = is.px_is in
-    either (fits_luma l) (((as_luma l).r * 2 ^ 4 % 2 ^ 8 + (as_luma l).b) % 256) l.px.r (omega arith) i.r
-    ∙ ap (λ x. if fits_luma l then x else l.px.r) (omega arith)
+    either (fits_luma l) (((as_luma l).r * 2 ^ 4 % 2 ^ 8 + (as_luma l).b) % 256) l.px.r (omega arith) i.r ∙ go (fits_luma l) (λ t. t)
+  where
+    go : (b : Bool) → (b ≡ true → IsTrue (fits_luma l)) → (if b then ((as_luma l).r * 2 ^ 4 % 2 ^ 8 + (as_luma l).b) % 256 else l.px.r)
+        ≡ (if b then slice_index (bytes_of (luma_of (as_luma l))) 1 else l.px.r)
+    go true t = let f = luma_small (as_luma l) (t refl) in omega arith
+    go false t = refl
 
 -- a chunk's size from the masks
-size_cases : (st d l k : Bool) → (IsTrue l → IsTrue k)
+size_cases : (st d l k : Bool) (h : ℕ) (s w p : RgbaPixel) → (IsTrue l → IsTrue k)
     → (min (((4 + mask l) % 256 + mask l) % 256) (bit_or 1 (255 - bit_or (mask st) (mask d)))
-    + bit_and (bit_and (255 - mask k) (255 - bit_or (mask st) (mask d))) 1) % 256 ≡ size_by (st || d) l k
-size_cases st d l k lk = grind arith
+    + bit_and (bit_and (255 - mask k) (255 - bit_or (mask st) (mask d))) 1) % 256 ≡ length (bytes_of (chunk_by st d l k h s w p))
+size_cases true d l k h s w p lk = grind arith
+size_cases false true l k h s w p lk = grind arith
+size_cases false false true k h s w p lk = grind arith
+size_cases false false false true h s w p lk = refl
+size_cases false false false false h s w p lk = refl
 
 -- what a Luma gives keeps alpha
 luma_keeps : (a b : Bool) → IsTrue (a && b) → IsTrue b
@@ -121,4 +134,5 @@ luma_keeps a b t = grind arith
 pub size_lane : (l : Lane) → IsLane l
     → (min (((4 + mask (fits_luma l)) % 256 + mask (fits_luma l)) % 256) (bit_or 1 (255 - bit_or (mask l.stands) (mask (fits_diff l))))
     + bit_and (bit_and (255 - mask (same_alpha l)) (255 - bit_or (mask l.stands) (mask (fits_diff l)))) 1) % 256 ≡ size_of l
-size_lane l is = size_cases l.stands (fits_diff l) (fits_luma l) (same_alpha l) (luma_keeps _ (same_alpha l))
+unfolding first_chunk
+size_lane l is = size_cases l.stands (fits_diff l) (fits_luma l) (same_alpha l) (hash l.px) (as_diff l) (as_luma l) l.px (luma_keeps _ (same_alpha l))

@@ -4,20 +4,16 @@ use Rattle.std.specs.Prelude.{max, min}
 use lib.Lanes.{zip2}
 use Rattle.std.proofs.lemmas.Nat.{and_comm, and_mask}
 use Rattle.std.specs.List.{AllByRecursion}
-use Rattle.qoi.specs.inner.block.Lanes.{Lane, mask, same_alpha, fits_diff, fits_luma, first_of, size_of, is_rep, goes_on, IsLane}
+use Rattle.qoi.specs.inner.block.Lanes.{Lane, mask, first_of, size_of, is_rep, goes_on, IsLane}
 use Rattle.qoi.specs.inner.block.Vectors.{AreBy, counts, firsts_in, sizes}
 use Rattle.qoi.specs.Styles.{Reference}
-use Rattle.qoi.proofs.encoding.blocks.LaneBytes.{repeat_size, size_small}
+use Rattle.qoi.proofs.encoding.blocks.LaneBytes.{repeat_byte}
+use Rattle.qoi.proofs.encoding.lanes.LaneChunk.{parts_of}
 use Rattle.qoi.proofs.encoding.lanes.Lanewise.{sum_8, not_8}
 
 -- whether the lane repeats, as a byte
 abbrev rep_mask : Lane → ℕ
 rep_mask l = mask (is_rep l)
-
--- what the first lane counts
-pub one_count : (c : ℕ) (b : Bool) (rs : List Bool) → counts c (b ∷ rs) ≡ (if b then suc c else 0) ∷ counts (if b then suc c else 0) rs
-one_count c true rs = refl
-one_count c false rs = refl
 
 -- the lesser of a mask and a byte is what the mask leaves of it
 least_masked : (b : Bool) (x : ℕ) → x < 256 → min (mask b) x ≡ bit_and (mask b) x
@@ -33,8 +29,7 @@ firsts_laid : (n c : ℕ) (q : Bool) (ls : List Lane) → length ls ≡ n → la
 firsts_laid zero c q [] e = refl
 firsts_laid (suc n) c q (l ∷ ls) e =
     let k = if is_rep l then suc c else 0 in
-    ap (λ cs. laid (first_of l ∷ map first_of ls) (rep_mask l ∷ map rep_mask ls) cs (suc n)) (one_count c (is_rep l) (map is_rep ls))
-    ∙ (λ i. max (first_of l) (least_masked (is_rep l) ((k + 191) % 256) (omega arith) i) ∷ firsts_laid n k l.stands ls (omega arith) i)
+    (λ i. max (first_of l) (least_masked (is_rep l) ((k + 191) % 256) (omega arith) i) ∷ firsts_laid n k l.stands ls (omega arith) i)
 firsts_laid n c q ls e = absurd (omega arith)
 
 -- first bytes with those of runs
@@ -60,7 +55,7 @@ none_if r m s few one = grind arith
 sizes_laid : (ls : List Lane) → AllByRecursion IsLane ls → zip2 min (map size_of ls) (map not_8 (zip2 min (map rep_mask ls) (mores ls))) ≡ sizes ls
 sizes_laid [] are = refl
 sizes_laid (l ∷ ls) are = λ i.
-    none_if (is_rep l) (goes_on ls) (size_of l) (size_small l.stands (fits_diff l) (fits_luma l) (same_alpha l)) (repeat_size l are.0.px_is) i ∷ sizes_laid ls are.1 i
+    none_if (is_rep l) (goes_on ls) (size_of l) (parts_of l).few (λ e. (repeat_byte l are.0.px_is e).0) i ∷ sizes_laid ls are.1 i
 
 -- of sixteen lanes
 all_mores : (ls : List Lane) → length ls ≡ 16 → drop 1 (map rep_mask ls) ++ 255 ∷ [] ≡ mores ls

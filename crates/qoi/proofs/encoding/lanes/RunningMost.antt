@@ -6,7 +6,6 @@ use Rattle.std.proofs.lemmas.List.{get_or-take, get_or-append_right, length-appe
 use Rattle.std.proofs.lemmas.Simd.{get_or-zip2, length-replicate, length-zip2}
 use lib.Lanes.{zip2}
 use Rattle.qoi.specs.inner.block.Vectors.{IsMost, counts}
-use Rattle.qoi.proofs.encoding.lanes.OverlaidRuns.{one_count}
 
 -- 0 at a repeat, else 64 and the index
 abbrev pub AreStamps : List Bool → List ℕ → Type 0
@@ -86,7 +85,7 @@ counts_by c [] [] e step = refl
 counts_by c (r ∷ rs) (y ∷ ys) e step =
     let n = if r then suc c else 0 in
     let first : y ≡ n = step 0 (omega arith) in
-    (λ i. first i ∷ counts_by n rs ys (omega arith) (λ k l. rest k l) i) ∙ sym (one_count c r rs)
+    (λ i. first i ∷ counts_by n rs ys (omega arith) (λ k l. rest k l) i)
   where
     rest : (k : ℕ) → k < length rs → slice_index ys k ≡ (if get_or rs k true then suc (slice_index ((if r then suc c else 0) ∷ ys) k) else 0)
     rest zero l = step 1 (omega arith) ∙ ap (λ z. if get_or rs 0 true then suc z else 0) (step 0 (omega arith))

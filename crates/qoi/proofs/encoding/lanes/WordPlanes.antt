@@ -2,10 +2,9 @@
 use Rattle.std.proofs.Common.{◌≡◌, ℕ, suc, ◌+◌, ◌*◌, ◌/◌, ◌%◌, List, [], ◌∷◌, ◌++◌, map, refl, sym, ap, ◌∙◌, arith, subst, ◌<◌, length, take, drop}
 use Rattle.std.specs.List.{AllByRecursion}
 use lib.Lanes.{number_l, digits_l, pick_l}
-use Rattle.qoi.specs.declared.encode.block.planes.Planes.{Planes}
 use Rattle.qoi.specs.Qoi.{RgbaPixel, IsPixel, pixel}
 use Rattle.qoi.specs.inner.Packed.{word}
-use Rattle.qoi.specs.inner.block.Planes.{AreFourWords, ArePlanes, AreSixteen, four_packed, channel_words}
+use Rattle.qoi.specs.inner.block.Planes.{Planes, AreFourWords, ArePlanes, AreSixteen, channel_words}
 use Rattle.qoi.proofs.encoding.blocks.FourFours.{AreFourPixels, four_fours}
 use Rattle.qoi.proofs.encoding.stores.Shuffles.{four_bytes}
 
@@ -72,6 +71,10 @@ all_words (p0 ∷ p1 ∷ p2 ∷ p3 ∷ []) (q0 ∷ q1 ∷ q2 ∷ q3 ∷ []) (s0 
 )
 all_words ps qs rs ts x fp fq fr ft e = absurd (omega (arith, fp.four, fq.four, fr.four, ft.four))
 
+-- a packed pixel is the number of its bytes
+packed : (a b c d : ℕ) → word (pixel a b c d) ≡ number_l 256 (a ∷ b ∷ c ∷ d ∷ [])
+packed a b c d = omega arith
+
 -- a packed pixel has 32 bits
 word_below : (p : RgbaPixel) → IsPixel p → word p < 4294967296
 word_below p i = omega (arith, i.r, i.g, i.b, i.a)
@@ -111,6 +114,7 @@ channels_of (p ∷ q ∷ s ∷ t ∷ []) w are =
     ∙ four_words (pixel p.r q.r s.r t.r) (pixel p.g q.g s.g t.g) (pixel p.b q.b s.b t.b) (pixel p.a q.a s.a t.a)
     (record { r = ip.r; g = iq.r; b = is.r; a = it.r }) (record { r = ip.g; g = iq.g; b = is.g; a = it.g })
     (record { r = ip.b; g = iq.b; b = is.b; a = it.b }) (record { r = ip.a; g = iq.a; b = is.a; a = it.a })
+    ∙ (λ j. packed p.r q.r s.r t.r j ∷ packed p.g q.g s.g t.g j ∷ packed p.b q.b s.b t.b j ∷ packed p.a q.a s.a t.a j ∷ [])
 channels_of ps w are = absurd (let f = are.four in omega arith)
 
 -- the lower halves of two vectors, by turns
@@ -148,14 +152,16 @@ planes_from p q s t = record {
 -- the bytes of a channel of sixteen pixels
 sixteen_bytes : (f : RgbaPixel → ℕ) → ((p : RgbaPixel) → IsPixel p → f p < 256) → (ps qs rs ts : List RgbaPixel)
     → AreFourPixels ps → AreFourPixels qs → AreFourPixels rs → AreFourPixels ts
-    → digits_l 256 16 (number_l 4294967296 (four_packed (map f ps) ∷ four_packed (map f qs) ∷ four_packed (map f rs) ∷ four_packed (map f ts) ∷ []))
+    → digits_l 256 16 (number_l 4294967296 (number_l 256 (map f ps) ∷ number_l 256 (map f qs) ∷ number_l 256 (map f rs) ∷ number_l 256 (map f ts) ∷ []))
     ≡ map f (ps ++ (qs ++ (rs ++ ts)))
 sixteen_bytes f small (p0 ∷ p1 ∷ p2 ∷ p3 ∷ []) (q0 ∷ q1 ∷ q2 ∷ q3 ∷ []) (s0 ∷ s1 ∷ s2 ∷ s3 ∷ []) (t0 ∷ t1 ∷ t2 ∷ t3 ∷ []) fp fq fs ft =
     let ip = fp.are in
     let iq = fq.are in
     let is = fs.are in
     let it = ft.are in
-    bytes_of_words (pixel (f p0) (f p1) (f p2) (f p3)) (pixel (f q0) (f q1) (f q2) (f q3)) (pixel (f s0) (f s1) (f s2) (f s3)) (pixel (f t0) (f t1) (f t2) (f t3))
+    sym (λ j. digits_l 256 16 (number_l 4294967296 (packed (f p0) (f p1) (f p2) (f p3) j ∷ packed (f q0) (f q1) (f q2) (f q3) j
+    ∷ packed (f s0) (f s1) (f s2) (f s3) j ∷ packed (f t0) (f t1) (f t2) (f t3) j ∷ [])))
+    ∙ bytes_of_words (pixel (f p0) (f p1) (f p2) (f p3)) (pixel (f q0) (f q1) (f q2) (f q3)) (pixel (f s0) (f s1) (f s2) (f s3)) (pixel (f t0) (f t1) (f t2) (f t3))
     (record { r = small p0 ip.0; g = small p1 ip.1.0; b = small p2 ip.1.1.0; a = small p3 ip.1.1.1.0 })
     (record { r = small q0 iq.0; g = small q1 iq.1.0; b = small q2 iq.1.1.0; a = small q3 iq.1.1.1.0 })
     (record { r = small s0 is.0; g = small s1 is.1.0; b = small s2 is.1.1.0; a = small s3 is.1.1.1.0 })

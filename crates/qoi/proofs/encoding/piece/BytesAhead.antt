@@ -1,9 +1,8 @@
 -- The bytes ahead of a coder, as they go through a piece to a writer.
 use Rattle.std.proofs.Common.{◌≡◌, inl, inr, ℕ, ◌+◌, ◌%◌, ◌<◌, ◌≤◌, List, [], ◌++◌, length, refl, sym, ap, ◌∙◌, subst, arith, length-append, append_assoc, append-nil}
-use Rattle.qoi.specs.declared.encode.chunks.Pending.{Pending}
 use Rattle.qoi.specs.Qoi.{channels_number, marker_size, end_marker}
-use Rattle.qoi.specs.writers.Writes.{WroteBut, WroteBeginning}
-use Rattle.qoi.specs.inner.Sending.{pixel_size, EndsOpaque, Between, GoesOn, BreaksOff, Ends, IsReady}
+use Rattle.qoi.specs.Writers.{WroteBut, WroteBeginning}
+use Rattle.qoi.specs.inner.Sending.{pixel_size, EndsOpaque, Between, GoesOn, BreaksOff, Ends, IsReady, Pending}
 use Rattle.qoi.proofs.format.WholePixels.{by_channels}
 use Rattle.qoi.proofs.decoding.ImageSize.{channels_are}
 use Rattle.qoi.proofs.encoding.coder.CoderLink.{coder_sent}

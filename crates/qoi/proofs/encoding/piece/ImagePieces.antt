@@ -2,17 +2,14 @@
 use Rattle.std.proofs.Common.{◌≡◌, inl, ℕ, ◌*◌, ◌/◌, ◌%◌, ◌<◌, ◌≤◌, List, [], ◌++◌, length, length-append, arith, Option, refl, sym, ap, ◌∙◌, append_assoc, subst, None}
 use Rattle.std.proofs.Math.Nat.{mul-mod_left}
 use Rattle.qoi.specs.Styles.{Style}
-use Rattle.qoi.specs.declared.encode.chunks.Pending.{Pending}
-use Rattle.qoi.specs.declared.encode.pixels.Pixels.{Pixels}
-use Rattle.qoi.specs.declared.encode.piece.TheConstants.{SPARE}
 use Rattle.qoi.specs.Qoi.{Header, Channels, AreBytes, start, channels_number, pixel_count, header_bytes, chunk_bytes, end_marker}
 use Rattle.qoi.specs.Raw.{IsChannels, pixels_of, image_byte_count}
-use Rattle.qoi.specs.inner.Coder.{pixels_in, CoderAfter}
+use Rattle.qoi.specs.inner.Coder.{pixels_in, CoderAfter, Pixels, SPARE}
 use Rattle.qoi.specs.WrittenList.{written_list}
 use Rattle.qoi.specs.Encoded.{image_file}
+use Rattle.qoi.specs.Writers.{WroteBeginning, AppendsBeginning}
+use Rattle.qoi.specs.inner.Sending.{appended, pixel_size, EndsOpaque, IsNew, IsReady, ImageBetween, GoesOn, BreaksOff, Ends, Pending}
 use Rattle.qoi.specs.EncoderState.{EncoderState}
-use Rattle.qoi.specs.writers.Writes.{WroteBeginning, AppendsBeginning}
-use Rattle.qoi.specs.inner.Sending.{appended, pixel_size, EndsOpaque, IsNew, IsReady, ImageBetween, GoesOn, BreaksOff, Ends}
 use Rattle.qoi.proofs.format.RawPixels.{pixels_of-append, pixels_of_are}
 use Rattle.qoi.proofs.format.WholePixels.{by_channels, whole_pixels}
 use Rattle.qoi.proofs.decoding.ImageSize.{channels_are}

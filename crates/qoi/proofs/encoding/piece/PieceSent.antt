@@ -3,9 +3,8 @@ use Rattle.std.proofs.Common.{◌≡◌, ℕ, ◌+◌, ◌-◌, ◌≤◌, List,
 use Rattle.std.specs.List.{copy_within}
 use Rattle.std.proofs.lemmas.List.{drop-take, length-drop, length-take-le, take-append-le, take-take}
 use Rattle.std.proofs.lemmas.List.Edits.{paste_all}
-use Rattle.qoi.specs.declared.encode.piece.Piece.{Piece}
-use Rattle.qoi.specs.inner.Coder.{kept_bytes}
-use Rattle.qoi.specs.writers.Writes.{WroteBut, WroteBeginning}
+use Rattle.qoi.specs.inner.Coder.{kept_bytes, Piece}
+use Rattle.qoi.specs.Writers.{WroteBut, WroteBeginning}
 use Rattle.qoi.proofs.encoding.piece.WriterProgress.{begins}
 
 -- as many bytes are kept as the piece says

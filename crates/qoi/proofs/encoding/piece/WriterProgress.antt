@@ -1,6 +1,6 @@
 -- A writer that writes the next part of what is left.
 use Rattle.std.proofs.Common.{◌≡◌, ℕ, List, [], ◌++◌, refl, sym, ap, ◌∙◌, subst, append_assoc}
-use Rattle.qoi.specs.writers.Writes.{WroteBut, WroteBeginning}
+use Rattle.qoi.specs.Writers.{WroteBut, WroteBeginning}
 
 -- two writings compose, the second by a relation of its own
 abbrev pub Follows : {W : Type 0} → (W → List ℕ → W → Type 0) → (W → List ℕ → W → Type 0) → Type 0

@@ -3,10 +3,9 @@ use Rattle.std.proofs.Common.{◌≡◌, ℕ, zero, suc, ◌+◌, ◌*◌, ◌/�
 use Rattle.std.specs.List.{AllByRecursion}
 use Rattle.std.proofs.lemmas.List.{take-append-le}
 use lib.Lanes.{digits_l, number_l, pick_l, Each1}
-use Rattle.qoi.specs.declared.encode.block.planes.Words.{Words}
 use Rattle.qoi.specs.Qoi.{RgbaPixel, IsPixel, pixel}
 use Rattle.qoi.specs.inner.Packed.{word}
-use Rattle.qoi.specs.inner.block.Planes.{AreSixteen, ArePlanes, AreBlockWords}
+use Rattle.qoi.specs.inner.block.Planes.{Words, AreSixteen, ArePlanes, AreBlockWords}
 use Rattle.qoi.specs.inner.block.Storing.{HoldChunks, four_parts, chunk_of, four_chunks, sixteen_chunks}
 use Rattle.qoi.proofs.encoding.stores.Shuffles.{number_bytes, four_bytes}
 
@@ -30,10 +29,10 @@ pub widened_are : (xs : List ℕ) (w : Words) → length xs ≡ 16 → Each1 (Fi
 widened_are (x0 ∷ x1 ∷ x2 ∷ x3 ∷ x4 ∷ x5 ∷ x6 ∷ x7 ∷ x8 ∷ x9 ∷ x10 ∷ x11 ∷ x12 ∷ x13 ∷ x14 ∷ x15 ∷ []) w e f made =
     let xs : List ℕ = x0 ∷ x1 ∷ x2 ∷ x3 ∷ x4 ∷ x5 ∷ x6 ∷ x7 ∷ x8 ∷ x9 ∷ x10 ∷ x11 ∷ x12 ∷ x13 ∷ x14 ∷ x15 ∷ [] in
     let is = made (map wide xs) (record { long = refl; are = are_pixels xs f }) (record { r_is = refl; g_is = refl; b_is = refl; a_is = refl }) in (
-      is.one_are ∙ (λ i. narrow x0 i ∷ narrow x1 i ∷ narrow x2 i ∷ narrow x3 i ∷ []),
-      is.two_are ∙ (λ i. narrow x4 i ∷ narrow x5 i ∷ narrow x6 i ∷ narrow x7 i ∷ []),
-      is.three_are ∙ (λ i. narrow x8 i ∷ narrow x9 i ∷ narrow x10 i ∷ narrow x11 i ∷ []),
-      is.four_are ∙ (λ i. narrow x12 i ∷ narrow x13 i ∷ narrow x14 i ∷ narrow x15 i ∷ []),
+      is.one_are.words_are ∙ (λ i. narrow x0 i ∷ narrow x1 i ∷ narrow x2 i ∷ narrow x3 i ∷ []),
+      is.two_are.words_are ∙ (λ i. narrow x4 i ∷ narrow x5 i ∷ narrow x6 i ∷ narrow x7 i ∷ []),
+      is.three_are.words_are ∙ (λ i. narrow x8 i ∷ narrow x9 i ∷ narrow x10 i ∷ narrow x11 i ∷ []),
+      is.four_are.words_are ∙ (λ i. narrow x12 i ∷ narrow x13 i ∷ narrow x14 i ∷ narrow x15 i ∷ []),
     )
 widened_are xs w e f made = absurd (omega arith)
 

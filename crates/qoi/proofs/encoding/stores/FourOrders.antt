@@ -42,12 +42,12 @@ entry_total i lt = eqb-true _ _ (entry TOTALS (λ b x. eqb x (total b)) 0 0 256 
 -- what stands at the positions of an order
 parts_of : (v : List ℕ) (i : ℕ) (ws xs ys zs : List ℕ) → map (at v) (0 ∷ 1 ∷ 2 ∷ 3 ∷ []) ≡ ws → map (at v) (4 ∷ 5 ∷ 6 ∷ 7 ∷ []) ≡ xs → map (at v) (8 ∷ 9 ∷ 10 ∷ 11 ∷ []) ≡ ys
     → map (at v) (12 ∷ 13 ∷ 14 ∷ 15 ∷ []) ≡ zs
-    → map (at v) (order_of i) ≡ take (size_at i 1) ws ++ (take (size_at i 4) xs ++ (take (size_at i 16) ys ++ take (size_at i 64) zs))
+    → map (at v) (order_of i) ≡ take (size_at i 0) ws ++ (take (size_at i 1) xs ++ (take (size_at i 2) ys ++ take (size_at i 3) zs))
 parts_of v i ws xs ys zs first second third fourth =
-    part_of v (size_at i 1) (0 ∷ 1 ∷ 2 ∷ 3 ∷ []) _ ws _ first
-    (part_of v (size_at i 4) (4 ∷ 5 ∷ 6 ∷ 7 ∷ []) _ xs _ second
-    (part_of v (size_at i 16) (8 ∷ 9 ∷ 10 ∷ 11 ∷ []) _ ys _ third
-    (sym (take-map (at v) (size_at i 64) (12 ∷ 13 ∷ 14 ∷ 15 ∷ [])) ∙ ap (take (size_at i 64)) fourth)))
+    part_of v (size_at i 0) (0 ∷ 1 ∷ 2 ∷ 3 ∷ []) _ ws _ first
+    (part_of v (size_at i 1) (4 ∷ 5 ∷ 6 ∷ 7 ∷ []) _ xs _ second
+    (part_of v (size_at i 2) (8 ∷ 9 ∷ 10 ∷ 11 ∷ []) _ ys _ third
+    (sym (take-map (at v) (size_at i 3) (12 ∷ 13 ∷ 14 ∷ 15 ∷ [])) ∙ ap (take (size_at i 3)) fourth)))
 
 -- in their order, the lowest bytes of four numbers
 in_order : (ns : List ℕ) (i : ℕ) → length ns ≡ 4 → Each1 (Fits w32) ns → map (at (digits_l 256 16 (number_l 4294967296 ns))) (order_of i) ≡ close_bytes i ns

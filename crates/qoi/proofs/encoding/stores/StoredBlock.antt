@@ -1,17 +1,19 @@
 -- A block's chunks, of which each is stored from a number.
-use Rattle.std.proofs.Common.{◌≡◌, ℕ, zero, suc, ◌+◌, ◌*◌, ◌%◌, ◌<◌, ◌≤◌, ◌||◌, if◌then◌else◌, Bool, true, false, List, [], ◌∷◌, ◌++◌, length, map, take, drop, replicate, slice_index, append_assoc, append-nil, bit_and, refl, sym, ap, ◌∙◌, arith}
+use Rattle.std.proofs.Common.{◌≡◌, ℕ, zero, suc, ◌+◌, ◌*◌, ◌%◌, ◌<◌, ◌≤◌, if◌then◌else◌, Bool, true, false, List, [], ◌∷◌, ◌++◌, length, map, take, drop, replicate, slice_index, append_assoc, append-nil, bit_and, refl, sym, ap, ◌∙◌, arith, IsTrue}
 use Rattle.std.specs.Prelude.{min, max}
 use Rattle.std.specs.List.{AllByRecursion}
 use Rattle.std.proofs.lemmas.Nat.{and_le_r}
 use lib.Lanes.{sum_l, zip2}
-use Rattle.qoi.specs.declared.encode.block.planes.Words.{Words}
-use Rattle.qoi.specs.Qoi.{RgbaPixel, IsPixel, pixel}
+use Rattle.qoi.specs.Qoi.{RgbaPixel, IsPixel, pixel, bytes_of}
 use Rattle.qoi.specs.inner.block.Vectors.{sizes}
-use Rattle.qoi.specs.inner.block.Lanes.{Lane, mask, fits_luma, fits_diff, same_alpha, second_of, second_by, first_by, size_by, is_rep, goes_on}
+use Rattle.qoi.specs.inner.block.Lanes.{Lane, mask, fits_luma, second_of, size_of, as_luma, is_rep, goes_on}
 use Rattle.qoi.specs.inner.Packed.{word}
-use Rattle.qoi.specs.inner.block.Planes.{AreBlockWords, ArePlanes}
+use Rattle.qoi.specs.inner.block.Planes.{Words, AreBlockWords, ArePlanes}
 use Rattle.qoi.specs.inner.block.Storing.{four_chunks, sixteen_chunks, chunk_of}
 use Rattle.qoi.proofs.encoding.blocks.LaneBytes.{chunk_of as lane_chunk, chunks_of}
+use Rattle.qoi.proofs.encoding.lanes.LaneChunk.{parts_of}
+use Rattle.qoi.specs.WrittenList.{luma_of}
+use Rattle.qoi.proofs.encoding.coder.Spelled.{luma_small}
 use Rattle.qoi.proofs.encoding.lanes.WordPlanes.{word_bytes}
 
 -- a chunk whose first four bytes are those of a word
@@ -40,13 +42,12 @@ chunk_planes (l ∷ ls) (f ∷ fs) e =
 chunk_planes ls fs e = absurd (omega arith)
 
 -- a second byte is one
-pub second_small : (b : Bool) (w p : RgbaPixel) → IsPixel p → second_by b w p < 256
-second_small true w p i = omega arith
-second_small false w p i = i.r
-
--- a first byte is one
-pub first_small : (st d l k : Bool) (h : ℕ) (s w : RgbaPixel) → h < 64 → (if st then h else first_by d l k s w) < 256
-first_small st d l k h s w lt = grind arith
+pub second_small : (l : Lane) → IsPixel l.px → second_of l < 256
+second_small l i = go (fits_luma l) (λ t. t)
+  where
+    go : (b : Bool) → (b ≡ true → IsTrue (fits_luma l)) → (if b then slice_index (bytes_of (luma_of (as_luma l))) 1 else l.px.r) < 256
+    go true t = omega (arith, luma_small (as_luma l) (t refl))
+    go false t = i.r
 
 -- a first byte, or that of a run
 pub over_small : (f m x : ℕ) → f < 256 → max f (bit_and m (x % 256)) < 256
@@ -58,13 +59,13 @@ sizes_long [] = refl
 sizes_long (l ∷ ls) = ap (λ n. suc n) (sizes_long ls)
 
 -- a size is at most 5, less one for a repeat that goes on
-one_few : (st l k r g : Bool) → (size_by st l k + bit_and (mask r) (mask g)) % 256 ≤ 5
-one_few st l k r g = grind arith
+one_few : (n : ℕ) (r g : Bool) → 0 < n → n ≤ 5 → (n + bit_and (mask r) (mask g)) % 256 ≤ 5
+one_few n r g some few = grind arith
 
 -- each of them
 pub sizes_few : (ls : List Lane) (k : ℕ) → slice_index (sizes ls) k ≤ 5
 sizes_few [] k = omega arith
-sizes_few (l ∷ ls) zero = one_few (l.stands || fits_diff l) (fits_luma l) (same_alpha l) (is_rep l) (goes_on ls)
+sizes_few (l ∷ ls) zero = one_few (size_of l) (is_rep l) (goes_on ls) (parts_of l).some (parts_of l).few
 sizes_few (l ∷ ls) (suc k) = sizes_few ls k
 
 -- the first of few
@@ -127,8 +128,8 @@ sixteen_parts (l0 ∷ l1 ∷ l2 ∷ l3 ∷ l4 ∷ l5 ∷ l6 ∷ l7 ∷ l8 ∷ l9
     let rest2 = four_parts l8 l9 l10 l11 f8 f9 f10 f11 s8 s9 s10 s11 (l12 ∷ l13 ∷ l14 ∷ l15 ∷ []) (f12 ∷ f13 ∷ f14 ∷ f15 ∷ []) (s12 ∷ s13 ∷ s14 ∷ s15 ∷ []) i.1.1.1.1.1.1.1.1 in
     let rest1 = four_parts l4 l5 l6 l7 f4 f5 f6 f7 s4 s5 s6 s7 (l8 ∷ l9 ∷ l10 ∷ l11 ∷ l12 ∷ l13 ∷ l14 ∷ l15 ∷ []) (f8 ∷ f9 ∷ f10 ∷ f11 ∷ f12 ∷ f13 ∷ f14 ∷ f15 ∷ []) (s8 ∷ s9 ∷ s10 ∷ s11 ∷ s12 ∷ s13 ∷ s14 ∷ s15 ∷ []) i.1.1.1.1 in
     let rest0 = four_parts l0 l1 l2 l3 f0 f1 f2 f3 s0 s1 s2 s3 (l4 ∷ l5 ∷ l6 ∷ l7 ∷ l8 ∷ l9 ∷ l10 ∷ l11 ∷ l12 ∷ l13 ∷ l14 ∷ l15 ∷ []) (f4 ∷ f5 ∷ f6 ∷ f7 ∷ f8 ∷ f9 ∷ f10 ∷ f11 ∷ f12 ∷ f13 ∷ f14 ∷ f15 ∷ []) (s4 ∷ s5 ∷ s6 ∷ s7 ∷ s8 ∷ s9 ∷ s10 ∷ s11 ∷ s12 ∷ s13 ∷ s14 ∷ s15 ∷ []) i in
-    (λ j. four_chunks all (are.one_are j) (ea j) 0 ++ (four_chunks all (are.two_are j) (ea j) 4
-    ++ (four_chunks all (are.three_are j) (ea j) 8 ++ four_chunks all (are.four_are j) (ea j) 12)))
+    (λ j. four_chunks all (are.one_are.words_are j) (ea j) 0 ++ (four_chunks all (are.two_are.words_are j) (ea j) 4
+    ++ (four_chunks all (are.three_are.words_are j) (ea j) 8 ++ four_chunks all (are.four_are.words_are j) (ea j) 12)))
     ∙ ap (λ z. c0 ++ (c1 ++ (c2 ++ z))) (sym (append-nil c3) ∙ rest3)
     ∙ ap (λ z. c0 ++ (c1 ++ z)) rest2 ∙ ap (λ z. c0 ++ z) rest1 ∙ rest0
 sixteen_parts ls fs ss bs words ll lf ls2 ea i are = absurd (omega arith)

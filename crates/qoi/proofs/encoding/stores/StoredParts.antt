@@ -1,7 +1,6 @@
 -- Parts that are stored one after the other.
 use lib.Lanes.{sum_l}
-use Rattle.qoi.specs.inner.block.Storing.{AreStarts}
-use Rattle.std.proofs.Common.{◌≡◌, ℕ, zero, suc, ◌+◌, List, [], ◌∷◌, ◌++◌, take, slice_index, append_assoc, ap, ◌∙◌, arith}
+use Rattle.std.proofs.Common.{◌≡◌, ℕ, zero, suc, ◌+◌, ◌<◌, List, [], ◌∷◌, ◌++◌, take, slice_index, append_assoc, ap, ◌∙◌, arith}
 
 -- four parts
 pub four_stored : (at e0 e1 e2 e3 : ℕ) (b0 b1 b2 b3 b4 c0 c1 c2 c3 : List ℕ)
@@ -26,16 +25,17 @@ next at n m start ss old new part is more e =
     ap (λ z. take z new) (omega (arith, sum_next n ss, is, ap (λ j. sum_l (take j ss)) more)) ∙ e ∙ ap (λ z. take (at + z) old ++ part) is
 
 -- four parts, each from its start on
-pub chained : (at n : ℕ) (ss starts b0 b1 b2 b3 b4 c0 c1 c2 c3 : List ℕ) → AreStarts starts n ss
-    → take (at + slice_index starts 0 + slice_index ss n) b1 ≡ take (at + slice_index starts 0) b0 ++ c0
+pub chained : (at n : ℕ) (ss starts b0 b1 b2 b3 b4 c0 c1 c2 c3 : List ℕ) → ((k : ℕ) → k < 4 → slice_index starts k ≡ sum_l (take (n + k) ss))
+    → take (at + slice_index starts 0 + slice_index ss (n + 0)) b1 ≡ take (at + slice_index starts 0) b0 ++ c0
     → take (at + slice_index starts 1 + slice_index ss (n + 1)) b2 ≡ take (at + slice_index starts 1) b1 ++ c1
     → take (at + slice_index starts 2 + slice_index ss (n + 2)) b3 ≡ take (at + slice_index starts 2) b2 ++ c2
     → take (at + slice_index starts 3 + slice_index ss (n + 3)) b4 ≡ take (at + slice_index starts 3) b3 ++ c3
     → take (at + sum_l (take (n + 4) ss)) b4 ≡ take (at + sum_l (take n ss)) b0 ++ (c0 ++ (c1 ++ (c2 ++ c3)))
 chained at n ss starts b0 b1 b2 b3 b4 c0 c1 c2 c3 are e0 e1 e2 e3 =
-    four_stored (at + sum_l (take n ss)) (at + sum_l (take (n + 1) ss)) (at + sum_l (take (n + 2) ss)) (at + sum_l (take (n + 3) ss)) (at + sum_l (take (n + 4) ss))
-    b0 b1 b2 b3 b4 c0 c1 c2 c3 (next at n (n + 1) _ ss b0 b1 c0 are.first (omega arith) e0) (next at (n + 1) (n + 2) _ ss b1 b2 c1 are.second (omega arith) e1)
-    (next at (n + 2) (n + 3) _ ss b2 b3 c2 are.third (omega arith) e2) (next at (n + 3) (n + 4) _ ss b3 b4 c3 are.fourth (omega arith) e3)
+    four_stored (at + sum_l (take (n + 0) ss)) (at + sum_l (take (n + 1) ss)) (at + sum_l (take (n + 2) ss)) (at + sum_l (take (n + 3) ss)) (at + sum_l (take (n + 4) ss))
+    b0 b1 b2 b3 b4 c0 c1 c2 c3 (next at (n + 0) (n + 1) _ ss b0 b1 c0 (are 0 (omega arith)) (omega arith) e0) (next at (n + 1) (n + 2) _ ss b1 b2 c1 (are 1 (omega arith)) (omega arith) e1)
+    (next at (n + 2) (n + 3) _ ss b2 b3 c2 (are 2 (omega arith)) (omega arith) e2) (next at (n + 3) (n + 4) _ ss b3 b4 c3 (are 3 (omega arith)) (omega arith) e3)
+    ∙ ap (λ m. take (at + sum_l (take m ss)) b0 ++ (c0 ++ (c1 ++ (c2 ++ c3)))) (omega arith)
 
 -- twice four
 pub two_fours : (at r b t : ℕ) (o0 o1 o2 c d : List ℕ) → take (at + b) o1 ≡ take (at + 0) o0 ++ c → take (at + t) o2 ≡ take (at + b) o1 ++ d → r ≡ t

@@ -2,9 +2,10 @@
 -- fresh pixel after it.
 use Rattle.std.proofs.Common.{◌≡◌, ℕ, zero, suc, ◌+◌, ◌*◌, ◌/◌, ◌%◌, true, false, not, Bool, ◌&&◌, nat_eq, nat_lt, ◌<◌, ◌⊎◌, inl, inr, if◌then◌else◌, List, [], ◌∷◌, ◌++◌, replicate, Option, Some, refl, sym, ap, ◌∙◌, arith, append_assoc}
 use Rattle.std.proofs.lemmas.Bool.{lt-ltb, ne_eqb}
+use Rattle.std.specs.List.{list_any}
 use Rattle.qoi.specs.Qoi.{Chunk, Place, Run, RgbaPixel, Past, previous, hash, pixel_after, then_chunk}
 use Rattle.qoi.specs.Runs.{last_by, runs_by}
-use Rattle.qoi.specs.Styles.{Style, Reference, Places, Tight, is_run, fresh_next, has_pixel, some_fresh, names, place_for, placed_after, styled}
+use Rattle.qoi.specs.Styles.{Style, Reference, Places, Tight, is_run, fresh_next, some_fresh, names, place_for, placed_after, styled}
 use Rattle.qoi.specs.inner.Coder.{single_chunk, last_chunk}
 use Rattle.qoi.proofs.format.ChunkSteps.{previous_repeats, repeats_after, then_other}
 use Rattle.qoi.proofs.encoding.coder.CoderTable.{fresh_repeats}
@@ -51,7 +52,7 @@ single_is : (past : Past) (before : Option Chunk) (k : ℕ) → single (replicat
 single_is past before zero = refl
 single_is past before (suc k) =
     let more : nat_lt 1 (62 * suc k + 1) ≡ true = lt-ltb 1 (62 * suc k + 1) (omega arith) in
-    let still : some_fresh (replicate (62 * suc k) (previous past) ++ past) ≡ some_fresh past = ap has_pixel (fresh_repeats (62 * suc k) past) in
+    let still : some_fresh (replicate (62 * suc k) (previous past) ++ past) ≡ some_fresh past = ap (list_any (λ p. true)) (fresh_repeats (62 * suc k) past) in
     rw (still, more, previous_repeats (62 * suc k) past) refl
 
 -- the rest of a group that isn't single is a run, whichever chunk stands for a single one

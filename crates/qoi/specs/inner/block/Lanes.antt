@@ -1,10 +1,10 @@
 -- Sixteen pixels, a block, in lanes: the bytes of the chunk that gives each after the one before it,
 -- and the state between two pixels with repeats that are still to be written.
-use Rattle.std.specs.Prelude.{ℕ, Bool, ◌+◌, ◌*◌, ◌%◌, ◌&&◌, ◌||◌, ◌==◌, nat_lt, List, [], ◌∷◌, take, if◌then◌else◌, ◌≢◌, suc, true, false, ◌++◌}
-use Rattle.qoi.specs.Qoi.{Run, RgbaPixel, IsPixel, hash, Past, pixel_eq, blank, seen, bytes_of}
+use Rattle.std.specs.Prelude.{ℕ, Bool, ◌+◌, ◌*◌, ◌==◌, List, [], ◌∷◌, length, slice_index, if◌then◌else◌, ◌≢◌, suc, true, false, ◌++◌}
+use Rattle.qoi.specs.Qoi.{Place, Run, RgbaPixel, IsPixel, hash, Past, pixel_eq, blank, seen, bytes_of}
 use Rattle.qoi.specs.Styles.{Style}
 use Rattle.qoi.specs.inner.Coder.{single_chunk}
-use Rattle.qoi.specs.WrittenList.{steps, diff_steps, luma_steps}
+use Rattle.qoi.specs.WrittenList.{steps, diff_steps, luma_steps, fits_in_diff, fits_in_luma, luma_of, first_chunk}
 
 -- a lane: a pixel, the pixel before it, and whether the table holds the pixel at its position
 pub record Lane : Type 0 where
@@ -37,53 +37,30 @@ as_luma l = luma_steps (step_of l)
 abbrev pub same_alpha : Lane → Bool
 same_alpha l = (step_of l).a == 0
 
--- steps that fit in a Diff
-abbrev pub fits_in_diff : RgbaPixel → Bool
-fits_in_diff t = nat_lt t.r 4 && (nat_lt t.g 4 && nat_lt t.b 4)
-
--- steps that fit in a Luma
-abbrev pub fits_in_luma : RgbaPixel → Bool
-fits_in_luma t = nat_lt t.r 16 && (nat_lt t.g 64 && nat_lt t.b 16)
-
 -- a Diff gives the pixel
 abbrev pub fits_diff : Lane → Bool
-fits_diff l = fits_in_diff (as_diff l) && same_alpha l
+fits_diff l = fits_in_diff (as_diff l)
 
 -- a Luma gives the pixel
 abbrev pub fits_luma : Lane → Bool
-fits_luma l = fits_in_luma (as_luma l) && same_alpha l
+fits_luma l = fits_in_luma (as_luma l)
 
--- the byte of a Diff of these steps
-abbrev pub diff_of : RgbaPixel → ℕ
-diff_of s = (64 + s.r * 16 + s.g * 4 + s.b) % 256
-
--- the first byte of a chunk that spells out: by whether it is a Diff, a Luma or keeps alpha
-abbrev pub first_by : Bool → Bool → Bool → RgbaPixel → RgbaPixel → ℕ
-first_by d l k s w = if d then diff_of s else (if l then (128 + w.g) % 256 else (if k then 254 else 255))
-
--- its second byte, or red
-abbrev pub second_by : Bool → RgbaPixel → RgbaPixel → ℕ
-second_by l w p = if l then (w.r * 16 + w.b) % 256 else p.r
-
--- its size
-abbrev pub size_by : Bool → Bool → Bool → ℕ
-size_by d l k = if d then 1 else (if l then 2 else (if k then 4 else 5))
-
--- the first byte of a lane's chunk: its index position, if the pixel stands there
-abbrev pub first_of : Lane → ℕ
-first_of l = if l.stands then hash l.px else first_by (fits_diff l) (fits_luma l) (same_alpha l) (as_diff l) (as_luma l)
-
--- the second byte
-abbrev pub second_of : Lane → ℕ
-second_of l = second_by (fits_luma l) (as_luma l) l.px
-
--- how many bytes it has
-abbrev pub size_of : Lane → ℕ
-size_of l = size_by (l.stands || fits_diff l) (fits_luma l) (same_alpha l)
-
--- the bytes of a lane's chunk
+-- the bytes of a lane's chunk: its index position, if the pixel stands there, else as it is spelled
+-- out
 abbrev pub lane_bytes : Lane → List ℕ
-lane_bytes l = take (size_of l) (first_of l ∷ second_of l ∷ l.px.g ∷ l.px.b ∷ l.px.a ∷ [])
+lane_bytes l = bytes_of (if l.stands then Place (hash l.px) else first_chunk l.before l.px)
+
+-- the first of them
+abbrev pub first_of : Lane → ℕ
+first_of l = slice_index (lane_bytes l) 0
+
+-- the second byte of a Luma, or red
+abbrev pub second_of : Lane → ℕ
+second_of l = if fits_luma l then slice_index (bytes_of (luma_of (as_luma l))) 1 else l.px.r
+
+-- how many bytes the chunk has
+abbrev pub size_of : Lane → ℕ
+size_of l = length (lane_bytes l)
 
 -- what is known beside the bytes: the pixels that were put, the last pixel, how many repeats of
 -- it are still to be written, and whether the chunk before those names its position
@@ -115,8 +92,8 @@ goes_on (l ∷ ls) = is_rep l
 abbrev pub group_bytes : Style → Bool → RgbaPixel → ℕ → List ℕ
 group_bytes style placed p n = bytes_of (if n == 1 then single_chunk style true placed (hash p) 1 else Run n)
 
--- the state after a lane's pixel, from whether it repeats, and
--- whether the next one does or there is none
+-- the state after a lane's pixel, from whether it repeats, and whether the next one does or there is
+-- none
 abbrev pub next_by : Bool → Bool → State → RgbaPixel → State
 next_by rep more s p = record {
   held = p ∷ s.held;
@@ -130,24 +107,18 @@ abbrev pub step_by : Bool → Bool → Style → State → RgbaPixel → List �
 step_by rep more style s p =
     if rep then (if more then [] else group_bytes style s.placed p (suc s.carry)) else lane_bytes (lane_of s.held s.last p)
 
--- the state after a pixel, from whether the next one repeats it or there is none
-abbrev pub next_state : State → RgbaPixel → Bool → State
-next_state s p more = next_by (pixel_eq p s.last) more s p
-
--- whether the next pixel repeats, or there is none
-abbrev pub more_of : RgbaPixel → List RgbaPixel → Bool
-more_of p [] = true
-more_of p (q ∷ qs) = pixel_eq q p
-
 -- what is written for a block's pixels, but for the repeats at its end
 abbrev pub block_bytes : Style → State → List RgbaPixel → List ℕ
 block_bytes style s [] = []
-block_bytes style s (p ∷ ps) = step_by (pixel_eq p s.last) (more_of p ps) style s p ++ block_bytes style (next_state s p (more_of p ps)) ps
+block_bytes style s (p ∷ ps) =
+    let rep = pixel_eq p s.last in
+    let more = goes_on (lanes_of (p ∷ s.held) p ps) in
+    step_by rep more style s p ++ block_bytes style (next_by rep more s p) ps
 
--- no fresh pixel is transparent black that isn't at its position
-abbrev pub NoneBlank : State → List RgbaPixel → Type 0
-NoneBlank s [] = Unit {0}
-NoneBlank s (p ∷ ps) = (p ≢ s.last → seen s.held (hash p) ≢ p → p ≢ blank) × NoneBlank (next_state s p (more_of p ps)) ps
+-- of pixels after q no fresh one is transparent black that isn't at its position
+abbrev pub NoneBlank : Past → RgbaPixel → List RgbaPixel → Type 0
+NoneBlank held q [] = Unit {0}
+NoneBlank held q (p ∷ ps) = (p ≢ q → seen held (hash p) ≢ p → p ≢ blank) × NoneBlank (p ∷ held) p ps
 
 -- a bit for each pixel that differs from the one before it, the lowest for the first
 abbrev pub fresh_marks : RgbaPixel → List RgbaPixel → ℕ

@@ -1,5 +1,5 @@
 -- Pixels that are put at their index positions, one after the other, and which of them stood there.
-use Rattle.std.specs.Prelude.{◌≡◌, ℕ, Bool, List, [], ◌∷◌, map}
+use Rattle.std.specs.Prelude.{◌≡◌, ℕ, Bool, List, [], ◌∷◌, ◌++◌, map, reverse}
 use lib.Lanes.{zip2}
 use Rattle.qoi.specs.Qoi.{RgbaPixel, IsPixel, Past, seen, hash, pixel_eq}
 use Rattle.qoi.specs.inner.Packed.{word}
@@ -11,11 +11,6 @@ use Rattle.qoi.specs.inner.Table.{Holds}
 abbrev pub seen_before : Past → List RgbaPixel → List RgbaPixel
 seen_before held [] = []
 seen_before held (p ∷ ps) = seen held (hash p) ∷ seen_before (p ∷ held) ps
-
--- the pixels that were put, once all are
-abbrev pub put_all : Past → List RgbaPixel → Past
-put_all held [] = held
-put_all held (p ∷ ps) = put_all (p ∷ held) ps
 
 -- whether each stands at its index position when it is put
 abbrev pub stand_tests : Past → List RgbaPixel → List Bool
@@ -35,9 +30,9 @@ pub record HasPutOne (held : Past) (p : RgbaPixel) (found : ℕ) (table : List R
 -- four pixels were put: what was found, and what the table holds then
 pub record HasPut (held : Past) (ps : List RgbaPixel) (found : List ℕ) (table : List RgbaPixel) : Type 0 where
   pub found_are : AreFourWords (seen_before held ps) found
-  pub holds : Holds table (put_all held ps)
+  pub holds : Holds table (reverse ps ++ held)
 
 -- sixteen pixels were put: which of them stood there, and what the table holds then
 pub record HasPutBlock (held : Past) (ps : List RgbaPixel) (stands : List ℕ) (table : List RgbaPixel) : Type 0 where
   pub stands_are : stands ≡ map mask (stand_tests held ps)
-  pub holds : Holds table (put_all held ps)
+  pub holds : Holds table (reverse ps ++ held)

@@ -1,17 +1,17 @@
 -- Vectors of sixteen bytes: what they have of a block's lanes, from the steps to the chunks' bytes and
--- sizes and the counted repeats.
-use Rattle.std.specs.Prelude.{◌≡◌, ℕ, Bool, List, map, length, suc, ◌+◌, ◌-◌, ◌%◌, ◌==◌, min, [], ◌∷◌, max, if◌then◌else◌, ◌<◌, ◌≤◌, ◌⊎◌, true, false, slice_index, ◌&&◌, not, ◌||◌, IsTrue}
+-- sizes and the counted repeats. And what a block must meet.
+use Rattle.std.specs.Prelude.{◌≡◌, ◌≢◌, ℕ, Bool, List, map, length, suc, ◌+◌, ◌-◌, ◌%◌, ◌==◌, min, [], ◌∷◌, max, if◌then◌else◌, ◌<◌, ◌≤◌, ◌⊎◌, slice_index, not, ◌||◌, IsTrue}
 use Rattle.std.specs.Int.Bits.{bit_and, bit_or}
-use Rattle.std.specs.List.{AllByRecursion}
-use Rattle.qoi.specs.declared.encode.block.planes.Planes.{Planes}
-use Rattle.qoi.specs.declared.encode.block.steps.Changes.{Changes}
-use Rattle.qoi.specs.declared.encode.block.spelling.Fits.{Fits}
-use Rattle.qoi.specs.declared.encode.block.spelling.Spelled.{Spelled}
-use Rattle.qoi.specs.Styles.{Style, Reference, Places, Tight}
-use Rattle.qoi.specs.Qoi.{RgbaPixel, hash, IsPixel}
-use Rattle.qoi.specs.inner.block.Lanes.{Lane, mask, step_of, same_alpha, fits_diff, fits_luma, is_rep, first_of, size_of, goes_on, second_of, State, lanes_of, IsLane}
-use Rattle.qoi.specs.inner.block.Planes.{AreSixteen}
+use Rattle.std.specs.List.{AllByRecursion, list_all}
+pub use Rattle.qoi.specs.declared.encode.block.steps.Changes.{Changes}
+pub use Rattle.qoi.specs.declared.encode.block.spelling.Fits.{Fits}
+pub use Rattle.qoi.specs.declared.encode.block.spelling.Spelled.{Spelled}
+use Rattle.qoi.specs.Styles.{Style, Places, Tight}
+use Rattle.qoi.specs.Qoi.{RgbaPixel, Past, hash, IsPixel}
+use Rattle.qoi.specs.inner.block.Lanes.{Lane, mask, step_of, same_alpha, fits_diff, fits_luma, is_rep, first_of, size_of, goes_on, second_of, State, lanes_of, IsLane, fresh_marks, NoneBlank}
+use Rattle.qoi.specs.inner.block.Planes.{Planes, AreSixteen, last_pixel}
 use Rattle.qoi.specs.inner.block.Positions.{stand_tests}
+use Rattle.qoi.specs.inner.Table.{Holds}
 
 -- The numbers are what `f` gives for these lanes, of which there are sixteen.
 pub record AreBy (ls : List Lane) (f : Lane → ℕ) (xs : List ℕ) : Type 0 where
@@ -45,9 +45,8 @@ pub record AreChanges (ls : List Lane) (x : Changes) : Type 0 where
 -- isn't. `f` is the byte otherwise, and `q` is whether the pixel before the lane stands at its
 -- position.
 abbrev pub named_in : Style → Bool → Bool → ℕ → ℕ → ℕ → ℕ
-named_in Reference rep q place n f = f
 named_in Places rep q place n f = min f (bit_or place (255 - bit_and (bit_and (mask rep) (mask (n == 1))) (255 - mask q)))
-named_in Tight rep q place n f = f
+named_in style rep q place n f = f
 
 -- the first byte of a lane, by whether it is a repeat, the n-th of its group: that of a run
 abbrev pub first_in : Style → Bool → Bool → Lane → ℕ → ℕ
@@ -68,18 +67,12 @@ sizes (l ∷ ls) = (size_of l + bit_and (mask (is_rep l)) (mask (goes_on ls))) %
 -- how many repeats end with each lane, with those that came before
 abbrev pub counts : ℕ → List Bool → List ℕ
 counts c [] = []
-counts c (true ∷ rs) = suc c ∷ counts (suc c) rs
-counts c (false ∷ rs) = 0 ∷ counts 0 rs
+counts c (r ∷ rs) = let n = if r then suc c else 0 in n ∷ counts n rs
 
 -- The number is 0 or one of the w members that end at index k, and none of those is greater.
 pub record IsMost (xs : List ℕ) (w k m : ℕ) : Type 0 where
   pub above : (j : ℕ) → j ≤ k → k < j + w → slice_index xs j ≤ m
   pub one_of : (m ≡ 0) ⊎ ((j : ℕ) × (j ≤ k) × (m ≡ slice_index xs j))
-
--- all hold
-abbrev pub all_true : List Bool → Bool
-all_true [] = true
-all_true (b ∷ bs) = b && all_true bs
 
 -- the pixel has another alpha than the one before it, and doesn't stand at its index position
 abbrev pub is_full : Lane → Bool
@@ -87,7 +80,7 @@ is_full l = not (same_alpha l || l.stands)
 
 -- so are all of these
 abbrev pub AreFull : List Lane → Type 0
-AreFull ls = all_true (map is_full ls) ≡ true
+AreFull ls = IsTrue (list_all is_full ls)
 
 -- A block's pixels after the last one of the state: red of each, which of them stand at their index
 -- positions, and these positions.
@@ -107,3 +100,17 @@ pub record HasSpelled (style : Style) (s : State) (ps : List RgbaPixel) (x : Spe
   pub size_is : x.size ≡ sizes (lanes_of s.held s.last ps)
   pub count_is : x.count ≡ counts s.carry (map is_rep (lanes_of s.held s.last ps))
   pub full_is : IsTrue x.full → AreFull (lanes_of s.held s.last ps)
+
+-- from whatever the table holds, no fresh pixel is transparent black that isn't at its position
+abbrev pub MissesNoBlank : List RgbaPixel → Planes → List RgbaPixel → Type 0
+MissesNoBlank table before ps = (held : Past) → Holds table held → NoneBlank held (last_pixel before) ps
+
+-- the steps from the pixels before to these, and which of these repeat
+abbrev pub ChangesFrom : Planes → List RgbaPixel → Changes → Type 0
+ChangesFrom before ps x = (held : Past) → AreChanges (lanes_of held (last_pixel before) ps) x
+
+-- what a block of pixels must meet, after the block `before`, to be written as one
+pub record FitsBlock (style : Style) (table : List RgbaPixel) (before : Planes) (ps : List RgbaPixel) (x : Changes) : Type 0 where
+  pub changes : ChangesFrom before ps x
+  pub mixed : fresh_marks (last_pixel before) ps ≢ 0
+  pub no_blank : style ≡ Tight → MissesNoBlank table before ps

@@ -1,10 +1,9 @@
 //! How many bytes of an image are decoded at once, and the calls that do it.
 ghost use Rattle.std.specs.Prelude.{true, ◌≡◌, ◌+◌, ◌-◌, ◌%◌, ◌<◌, ◌≤◌, length, take, IfOk, IfErr, OnOk};
 ghost use Rattle.qoi.specs.Raw.{IsChannels};
-ghost use Rattle.qoi.specs.declared.decode.output.TheConstants.{RUN_ROOM};
 ghost use Rattle.qoi.specs.declared.decode.pixel_reader.room.TheConstants.{DECODED_AHEAD, IN_PLACE};
 ghost use Rattle.qoi.specs.inner.Chunks.{TakesChunks, RefusesFilling, ReadsRest, RefusesRest};
-ghost use Rattle.qoi.specs.inner.Filling.{reached, filling};
+ghost use Rattle.qoi.specs.inner.Filling.{RUN_ROOM, reached, filling};
 
 use crate::decode::chunks::Chunks;
 use crate::decode::hashed::Hashed;

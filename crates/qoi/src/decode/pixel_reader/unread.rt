@@ -40,7 +40,7 @@ pub struct Refused;
 pub type PieceResult<T> = std::result::Result<T, Refused>;
 
 impl Unread {
-    ghost use Rattle.qoi.specs.pieces.Unread.{kept_count, bytes_left, KeepsWithin, KeepsNone, KeepsNothing, KeepsPixels, IsUnread, GivesMore, Asks, Steps, Fills};
+    ghost use Rattle.qoi.specs.pieces.Unread.{kept_count, bytes_left, KeepsWithin, KeepsNothing, KeepsPixels, IsUnread, GivesMore, Asks, Steps};
 
     /// All of an image of `size` bytes.
     pub(super) fn new(size: usize) -> Unread
@@ -140,7 +140,7 @@ impl Unread {
     #[inline(never)]
     fn keep_run<const N: usize, const F: usize>(&mut self)
         requires channels { IsChannels N }
-        requires none { KeepsNone self.old }
+        requires none { kept_count self.old ≡ 0 }
         requires some { 0 < self.old.run }
         requires pixels { KeepsPixels N self.old }
         ensures gives { (now : Option (List ℕ)) → GivesMore F N now now self.old self.new [] 0 }
@@ -159,7 +159,7 @@ impl Unread {
     #[inline(always)]
     fn give_run<const N: usize, const F: usize>(&mut self, out: &mut [u8]) -> usize
         requires channels { IsChannels N }
-        requires none { KeepsNone self.old }
+        requires none { kept_count self.old ≡ 0 }
         requires pixels { KeepsPixels N self.old }
         ensures gives { (now : Option (List ℕ)) → GivesMore F N now now
             self.old self.new out.new result }
@@ -185,7 +185,7 @@ impl Unread {
         requires channels { IsChannels N }
         requires asks { Asks N self.old (length out.old) }
         ensures step { Steps F N R.in_memory (R.ahead reader.old) (R.ahead reader.new)
-            self.old self.new out.new result }
+            self.old self.new out.new (λ size. size) result }
         ensures none { IfOk result (λ size. size < length out.new → KeepsNothing self.new) }
     {
         if out.len() < IN_PLACE || self.undecoded - out.len() < RUN_ROOM {
@@ -223,7 +223,7 @@ impl Unread {
         requires asks { Asks N self.old (length out.old) }
         requires run { self.old.run ≡ 0 }
         ensures step { Steps F N R.in_memory (R.ahead reader.old) (R.ahead reader.new)
-            self.old self.new out.new result }
+            self.old self.new out.new (λ size. size) result }
         ensures few { IfOk result (λ size. length out.new < size + IN_PLACE) }
         ensures last { IfOk result (λ size. 0 < done + size
             → length out.new < size + (RUN_ROOM + 3)) }
@@ -257,8 +257,8 @@ impl Unread {
         requires none { KeepsNothing self.old }
         requires some { 0 < self.old.undecoded }
         requires pixels { KeepsPixels N self.old }
-        ensures step { Fills F N R.in_memory (R.ahead reader.old) (R.ahead reader.new)
-            self.old self.new [] result }
+        ensures step { Steps F N R.in_memory (R.ahead reader.old) (R.ahead reader.new)
+            self.old self.new [] (λ _. 0) result }
         ensures enough { OnOk result
             (min self.old.undecoded (room - RUN_ROOM) ≤ kept_count self.new) }
     {
@@ -306,7 +306,7 @@ impl Unread {
         requires channels { IsChannels N }
         requires asks { Asks N self.old (length out.old) }
         ensures step { Steps F N R.in_memory (R.ahead reader.old) (R.ahead reader.new)
-            self.old self.new out.new result }
+            self.old self.new out.new (λ size. size) result }
         ensures enough { IfOk result (λ size. length out.new ≤ size + kept_count self.new) }
     {
         let done = self.piece_front::<R, N, F>(reader, out)?;

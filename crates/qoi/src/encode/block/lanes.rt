@@ -1,7 +1,7 @@
 //! Vectors of sixteen bytes: a lane for each of sixteen pixels.
 ghost use lib.Lanes.{number_l, mask_l, zip2};
 ghost use Rattle.std.specs.Prelude.{◌≡◌, Bool, List, length, map, slice_index, ◌-◌, ◌==◌, [], ◌∷◌, min, max, take, drop, not};
-ghost use Rattle.qoi.specs.inner.block.Vectors.{all_true};
+ghost use Rattle.std.specs.List.{list_all};
 ghost use Rattle.qoi.specs.inner.block.Lanes.{mask};
 
 use std::simd::prelude::*;
@@ -55,7 +55,7 @@ pub(in crate::encode) fn shift_in(before: u8x16, v: u8x16) -> u8x16
 /// Whether all lanes of a mask are set.
 #[inline(always)]
 pub(in crate::encode) fn all_set(v: u8x16) -> bool
-    ensures { (bs : List Bool) → length bs ≡ 16 → v ≡ map mask bs → result ≡ all_true bs }
+    ensures { (bs : List Bool) → length bs ≡ 16 → v ≡ map mask bs → result ≡ list_all (λ b. b) bs }
 {
     v.simd_eq(u8x16::splat(255)).to_bitmask() == 0xffff
 }

@@ -3,10 +3,9 @@ ghost use lib.Lanes.{digits_l, number_l};
 ghost use Rattle.std.specs.Prelude.{◌≡◌, ◌^◌, List, ◌++◌, take, drop, replicate, slice_index};
 ghost use Rattle.qoi.specs.Qoi.{RgbaPixel, pixel_eq, blank};
 ghost use Rattle.qoi.specs.Raw.{AreOpaque};
-ghost use Rattle.qoi.specs.inner.block.Block.{last_pixel};
 ghost use Rattle.qoi.specs.inner.block.Vectors.{AreMasks, ArePlanesBy};
 ghost use Rattle.qoi.specs.inner.block.Lanes.{Lane};
-ghost use Rattle.qoi.specs.inner.block.Planes.{AreFour, ArePacked, AreSixteen, AreFourWords, AreBlockWords, channel_words, ArePlanes};
+ghost use Rattle.qoi.specs.inner.block.Planes.{AreFour, ArePacked, AreSixteen, AreFourWords, AreBlockWords, channel_words, ArePlanes, last_pixel};
 
 use crate::encode::block::lanes::where_is;
 use crate::encode::pixels::PixelOf;

@@ -1,10 +1,11 @@
 //! The chunks of sixteen pixels, a lane for each: first and second bytes, and sizes (QOI
 //! specification 1.0, "Chunks"). A repeat has a run's byte, and size 0 unless a fresh pixel follows.
-ghost use Rattle.std.specs.Prelude.{◌≡◌, ◌<◌, ℕ, Bool, List, map, IsTrue};
-ghost use Rattle.qoi.specs.Qoi.{RgbaPixel, IsPixel, run_max, hash};
+ghost use Rattle.std.specs.Prelude.{◌≡◌, ◌<◌, ◌%◌, ℕ, slice_index, Bool, List, map, IsTrue};
+ghost use Rattle.qoi.specs.Qoi.{RgbaPixel, IsPixel, run_max, hash, bytes_of};
+ghost use Rattle.qoi.specs.WrittenList.{diff_of};
 ghost use Rattle.qoi.specs.Styles.{Style, Reference};
 ghost use Rattle.qoi.specs.inner.block.Vectors.{firsts_in, sizes, counts, AreFull, AreBy, AreMasks, ArePlanesBy, AreFits, AreChanges, IsBlock, HasSpelled};
-ghost use Rattle.qoi.specs.inner.block.Lanes.{Lane, mask, step_of, diff_of, as_diff, as_luma, same_alpha, fits_luma, first_of, second_of, size_of, State, lanes_of, is_rep};
+ghost use Rattle.qoi.specs.inner.block.Lanes.{Lane, mask, step_of, as_diff, as_luma, same_alpha, fits_luma, first_of, second_of, size_of, State, lanes_of, is_rep};
 ghost use Rattle.qoi.specs.inner.block.Planes.{AreSixteen};
 
 use crate::encode::block::counting::count_repeats;
@@ -80,7 +81,7 @@ fn find_fits(diff: Planes, luma: Planes, kept: u8x16) -> Fits
 #[inline(always)]
 fn diffs(steps: Planes) -> u8x16
     ensures { (ls : List Lane) → ArePlanesBy ls as_diff steps
-        → AreBy ls (λ l. diff_of (as_diff l)) result }
+        → AreBy ls (λ l. slice_index (bytes_of (diff_of (as_diff l))) 0 % 256) result }
 {
     let t = steps.r + steps.r;
     let t = t + t + steps.g;

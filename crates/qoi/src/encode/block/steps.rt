@@ -1,8 +1,7 @@
 //! From each of sixteen pixels to the next: the steps of all channels, and which pixels repeat.
 ghost use Rattle.std.specs.Prelude.{◌≡◌, ◌<◌, ◌+◌, ◌-◌, ◌%◌, ℕ, List, ◌∷◌, take, slice_index};
 ghost use Rattle.qoi.specs.Qoi.{RgbaPixel};
-ghost use Rattle.qoi.specs.inner.block.Block.{ChangesFrom};
-ghost use Rattle.qoi.specs.inner.block.Vectors.{AreBy};
+ghost use Rattle.qoi.specs.inner.block.Vectors.{AreBy, ChangesFrom};
 ghost use Rattle.qoi.specs.inner.block.Lanes.{Lane};
 ghost use Rattle.qoi.specs.inner.block.Planes.{AreSixteen, ArePlanes};
 

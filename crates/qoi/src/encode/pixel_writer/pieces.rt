@@ -1,16 +1,15 @@
 //! The chunks of an image whose raw bytes come piece by piece, through the encoder's `Piece` to a
 //! writer (QOI specification 1.0, "Data").
-ghost use Rattle.std.specs.Io.KnownBytes.{Appends};
 ghost use Rattle.std.specs.Prelude.{◌≡◌, ◌⊎◌, ◌+◌, ◌*◌, ◌%◌, ◌<◌, ◌≤◌, [], ◌++◌, length, IfOk, IfErr, OnOk};
 ghost use Rattle.qoi.specs.Errors.{IsIoError};
 ghost use Rattle.qoi.specs.Qoi.{pixels_max};
-ghost use Rattle.qoi.specs.declared.encode.piece.TheConstants.{FULL_ROOM};
 ghost use Rattle.qoi.specs.declared.encode.pixel_writer.kept.TheConstants.{HELD_MOST};
-ghost use Rattle.qoi.specs.writers.Writes.{AppendsBeginning};
+ghost use Rattle.qoi.specs.Writers.{AppendsBeginning};
+ghost use Rattle.std.specs.Io.KnownBytes.{Appends};
 ghost use Rattle.qoi.specs.inner.Sending.{appended, pixel_size, EndsOpaque, StaysIn, IsReady, WritesWhole, GoesOnOrBreaks, EndsWith};
-ghost use Rattle.qoi.specs.inner.Coder.{kept_bytes};
+ghost use Rattle.qoi.specs.inner.Coder.{kept_bytes, FULL_ROOM};
 
-use crate::encode::chunks::{Pending, write_end, write_pixels};
+use crate::encode::chunks::{Pending, write_left, write_pixels};
 use crate::encode::piece::{FULL_ROOM, OpenPiece, Piece};
 use crate::encode::pixel_writer::kept::{Held, Kept};
 use crate::error::Result;
@@ -66,10 +65,9 @@ fn write_more<'a, 'p, W: Writer>(
     ensures stays { StaysIn pending.old pending.new }
     ensures less { IfOk result (λ r. length held.new + length r.0.now
         < length held.old + length raw.entry.now) }
-    ensures written { GoesOnOrBreaks W.wrote W.IsFault
-        writer.old pending.old (kept_bytes piece.entry.piece) (held.old ++ raw.entry.now)
-        writer.new pending.new (λ r. kept_bytes r.1.piece) (λ r. held.new ++ r.0.now)
-        result }
+    ensures written { GoesOnOrBreaks W.wrote
+        writer.old pending.old (kept_bytes piece.entry.piece) (held.old ++ raw.entry.now) W.IsFault
+        writer.new pending.new (λ r. kept_bytes r.1.piece) (λ r. held.new ++ r.0.now) result }
 {
     let n = usize::from(pending.channels.as_u8());
     let len = held.bytes().len();
@@ -94,8 +92,8 @@ pub(super) fn take_raw<W: Write>(writer: &mut W, kept: &mut Kept, raw: &[u8]) ->
     requires opaque { EndsOpaque kept.old.pending }
     requires most { length kept.old.held + length raw.now ≤ 5 * pixels_max }
     ensures stays { StaysIn kept.old.pending kept.new.pending }
-    ensures written { GoesOnOrBreaks appended IsIoError
-        (W.contents writer.old) kept.old.pending [] (kept.old.held ++ raw.now)
+    ensures written { GoesOnOrBreaks appended
+        (W.contents writer.old) kept.old.pending [] (kept.old.held ++ raw.now) IsIoError
         (W.contents writer.new) kept.new.pending (λ _. []) (λ _. kept.new.held) result }
 {
     let mut piece = Piece::<FULL_ROOM>::new(&mut kept.piece_bytes).open();
@@ -121,5 +119,6 @@ pub(super) fn write_held<W: Write>(writer: &mut W, kept: &mut Kept) -> Result<()
     let mut stream = GenericWriter::new(writer);
     let (left, piece) = write_pixels_apart(&mut stream, pending, piece, kept.held.bytes())?;
     let mut last_piece = piece.piece;
-    write_end(&mut stream, pending, &mut last_piece, left)
+    write_left(pending, &mut last_piece, left);
+    last_piece.finish(&mut stream)
 }

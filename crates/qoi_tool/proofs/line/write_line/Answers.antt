@@ -2,7 +2,7 @@
 use Rattle.std.proofs.Common.{subst, ◌∙◌}
 use Rattle.std.specs.Prelude.{IfErr}
 use Rattle.qoi.specs.Errors.{IsIoError}
-use Rattle.qoi.specs.writers.Writes.{AppendsBeginning}
+use Rattle.qoi.specs.Writers.{AppendsBeginning}
 use Rattle.qoi_tool.proofs.line.write_line.Goals as goal
 
 pub returns-clause-failed : goal.returns-clause-failed

@@ -8,7 +8,7 @@ ghost use Rattle.qoi.specs.Encoded.{IsFileOf, IsShortest, Spans, OpensBlack, ima
 ghost use Rattle.qoi.specs.Raw.{without_fourth};
 ghost use Rattle.qoi_tool.specs.Files.{AreFiles};
 ghost use Rattle.qoi.specs.Regular.{Regular};
-ghost use Rattle.qoi.specs.writers.Writes.{AppendsBeginning};
+ghost use Rattle.qoi.specs.Writers.{AppendsBeginning};
 ghost use Rattle.qoi.specs.declared.chunk.Chunk.{Chunk};
 ghost use Rattle.qoi.specs.Decoding.{DecodesFile, ReadsImage, TakesHeader};
 ghost use Rattle.qoi.specs.Verdicts.{AreCut};

@@ -9,10 +9,10 @@ ghost use Rattle.qoi.specs.Qoi.{AreBytes, IsChunk, Reaches, bytes_of, chunk_byte
 ghost use Rattle.qoi.specs.Errors.{IsIoError, IsReaderFault, IsErrorOfCut, IsErrorOfWrong};
 ghost use Rattle.qoi.specs.Raw.{IsChannels, without_fourth, output, pixels_of, byte_count, image_byte_count, HasImageLength, capped_byte_count, HasChannels};
 ghost use Rattle.qoi.specs.Verdicts.{IsWhole, IsCut, IsWrong};
-ghost use Rattle.qoi.specs.Decoding.{least_byte_count, RefusesBuffer, RefusesMarker, RefusesBytes, RefusesTaken, RefusesTakenMarker, RefusesTakenHeader};
+ghost use Rattle.qoi.specs.Decoding.{least_byte_count, RefusesBuffer, RefusesBytes, RefusesTaken, RefusesTakenHeader};
 ghost use Rattle.qoi.specs.DecoderState.{output_byte_count, TakesAtMost};
 ghost use Rattle.qoi.specs.Encoded.{max_len, IsFileLength};
-ghost use Rattle.qoi.specs.Regular.{Begins, Regular};
+ghost use Rattle.qoi.specs.Regular.{Covers, Regular};
 ghost use Rattle.qoi.specs.ErrorText.{printed};
 
 /// The least and the greatest numbers in bytes and chunks, the lengths of the longest chunk and of
@@ -46,8 +46,8 @@ pub fn chunk_examples()
     ensures marker_length { length end_marker ≡ marker_size }
     ensures named_there { Regular (Place 0 ∷ []) }
     ensures named_elsewhere { Regular (Place 1 ∷ []) → ⊥ }
-    ensures begins { Begins (pixel 1 2 3 4 ∷ pixel 5 6 7 8 ∷ []) (pixel 1 2 3 4 ∷ []) }
-    ensures begins_not { Begins [] (pixel 1 2 3 4 ∷ []) → ⊥ }
+    ensures begins { Covers (pixel 1 2 3 4 ∷ []) (Rgba 1 2 3 4 ∷ Rgba 5 6 7 8 ∷ []) }
+    ensures begins_not { Covers (pixel 1 2 3 4 ∷ []) [] → ⊥ }
 {}
 
 /// What small lists of chunks mean, their bytes, and which numbers of pixels they reach.
@@ -211,11 +211,11 @@ pub fn verdict_examples()
     ensures taken_whole { (e : Error) → IsIoError e → RefusesTaken 1 (0xc0 ∷ end_marker) e → ⊥ }
     ensures taken_wrong { RefusesTaken 1 (0xc0 ∷ replicate 8 0) Error.InvalidPadding }
     ensures taken_past_wrong { RefusesTaken 1 (0xc0 ∷ replicate 9 0) Error.InvalidPadding → ⊥ }
-    ensures marker_cut { RefusesMarker (replicate 7 0) Error.UnexpectedBufferEnd }
-    ensures marker_not_cut { RefusesMarker (replicate 8 0) Error.UnexpectedBufferEnd → ⊥ }
-    ensures marker_wrong { RefusesMarker (replicate 8 0 ++ 7 ∷ []) Error.InvalidPadding }
-    ensures taken_marker_cut { (e : Error) → IsIoError e → RefusesTakenMarker (replicate 7 0) e }
-    ensures taken_marker_wrong { RefusesTakenMarker (replicate 8 0) Error.InvalidPadding }
+    ensures marker_cut { RefusesBytes 0 (replicate 7 0) Error.UnexpectedBufferEnd }
+    ensures marker_not_cut { RefusesBytes 0 (replicate 8 0) Error.UnexpectedBufferEnd → ⊥ }
+    ensures marker_wrong { RefusesBytes 0 (replicate 8 0 ++ 7 ∷ []) Error.InvalidPadding }
+    ensures taken_marker_cut { (e : Error) → IsIoError e → RefusesTaken 0 (replicate 7 0) e }
+    ensures taken_marker_wrong { RefusesTaken 0 (replicate 8 0) Error.InvalidPadding }
     ensures taken_header_cut { (e : Error) → IsIoError e → RefusesTakenHeader (replicate 13 0) e }
     ensures taken_header_whole { (e : Error) → IsIoError e
         → RefusesTakenHeader (replicate 14 0) e → ⊥ }

@@ -2,9 +2,8 @@
 //! store is recovered from its bytes alone. Only `find` has a proof file: its loop's invariant and
 //! measure.
 ghost use Rattle.std.specs.Prelude.{◌≡◌, ℕ, ◌+◌, ◌<◌, ◌≤◌, List, [], ◌∷◌, ◌++◌, None, IfOk, IfSome, IsErr, IsSome, OnOk, OnErr, length, take, drop, slice_index_or};
-ghost use Rattle.qoi.specs.FrontFile.{BeginsWithFile};
-ghost use Rattle.qoi.specs.Frames.{AreFrames};
-ghost use Rattle.qoi.specs.Images.{file_image, file_rest};
+ghost use Rattle.qoi.specs.Images.{file_image, file_rest, BeginsWithFile};
+ghost use Rattle.qoi.specs.Tiles.{AreFrames};
 
 use crate::tests::fakes::{ONE_RGB_PIXEL, PIXEL};
 use crate::tests::library::support::{assert_bytes, assert_given, assert_number};

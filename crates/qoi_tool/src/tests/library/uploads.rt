@@ -2,7 +2,8 @@
 //! exactly if its clause holds. No proof file.
 ghost use Rattle.std.specs.Prelude.{◌≡◌, ◌↔◌, ◌<◌, ◌≤◌, ℕ, drop, length, Ok, IsErr, IfSome};
 ghost use Rattle.qoi.specs.declared.header.Header.{Header};
-ghost use Rattle.qoi.specs.FrontFile.{HasFrontFile, IsNoFile};
+ghost use Rattle.qoi.specs.Images.{HasFrontFile};
+ghost use Rattle.qoi.specs.Decoding.{IsNoFile};
 ghost use Rattle.qoi.specs.Qoi.{header_of, header_size};
 ghost use Rattle.qoi.specs.Raw.{image_byte_count};
 ghost use Rattle.qoi.specs.Reading.{IsCutAhead, IsWrongAhead};

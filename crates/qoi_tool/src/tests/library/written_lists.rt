@@ -7,7 +7,7 @@ ghost use Rattle.qoi.specs.declared.chunk.Chunk.TheVariants.{Place, Run, Rgb, Rg
 ghost use Rattle.qoi.specs.Qoi.{hash, pixel, tried_header, RgbaPixel, blank, start};
 ghost use Rattle.qoi.specs.Runs.{IsCount};
 ghost use Rattle.qoi.specs.Written.{fresh, noted};
-ghost use Rattle.qoi.specs.writers.Writes.{AppendsBeginning, StandsAfter};
+ghost use Rattle.qoi.specs.Writers.{AppendsBeginning, StandsAfter};
 ghost use Rattle.qoi.specs.Encoded.{image_header, OpensBlack};
 ghost use Rattle.std.specs.List.{range_with_len};
 ghost use Rattle.qoi.specs.declared.types.Style.TheVariants.{Places};

@@ -9,4 +9,4 @@ returns-clause-accepted g c = has_header _ _ _ c.in_ok-header.ensures refl
 
 pub returns-in_err-header-clause-refused : goal.returns-in_err-header-clause-refused
 returns-in_err-header-clause-refused g c =
-    handed_on _ _ _ c.from_residual.ensures.1 (has_refused_header _ _ (g.R.Read.remaining c.decode_header.new.self, c.in_err-header.ensures))
+    handed_on _ _ _ c.from_residual.ensures.1 (has_refused_header _ (g.R.Read.remaining c.decode_header.new.self) _ c.in_err-header.ensures)

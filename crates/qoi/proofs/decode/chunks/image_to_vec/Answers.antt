@@ -1,7 +1,5 @@
 -- Each step is filled, but for less than a run, before the vector grows.
 use Rattle.std.proofs.Common.{◌≡◌, [], ◌-◌, ◌/◌, ◌%◌, ◌<◌, ◌++◌, length, replicate, refl, sym, ap, ◌∙◌, arith}
-use Rattle.std.specs.Io.KnownBytes.{Consumes}
-use Rattle.std.proofs.KnownBytes.{Consumes-nil}
 use Rattle.std.proofs.lemmas.Result.{IfErr-weaker, err_from_is_err_and, on_ok_weaker}
 use Rattle.qoi.specs.inner.Filling.{filling, DecoderBetween}
 use Rattle.qoi.proofs.decoding.Grown.{grown, grows, growing_start, lent_back, between_fillable, whole_step, fewer_pixels, at_most, written_most}
@@ -16,7 +14,7 @@ whole g c = whole_step g.row.N c.loop-out.out.len c.grow.new.out.len c.requires.
 
 -- before a step is decoded
 before : (g : Over) (c : After-deref_mut g) → DecoderBetween g.row.F g.row.N [] (c.grow.new.out.len / g.row.N)
-    (Consumes (g.R.Chunks.ahead c.args.reader.now) (g.R.Chunks.ahead c.loop-out.reader))
+    (g.R.Chunks.ahead c.args.reader.now) (g.R.Chunks.ahead c.loop-out.reader)
     (filling c.loop-out.table c.loop-out.now c.deref_mut.result.now)
 before g c =
     let old = c.loop-out.out in
@@ -26,7 +24,7 @@ before g c =
 
 -- before the last step is
 before_last : (g : Over) (c : After-deref_mut-2 g) → DecoderBetween g.row.F g.row.N [] (c.args.size / g.row.N)
-    (Consumes (g.R.Chunks.ahead c.args.reader.now) (g.R.Chunks.ahead c.loop-out.reader))
+    (g.R.Chunks.ahead c.args.reader.now) (g.R.Chunks.ahead c.loop-out.reader)
     (filling c.loop-out.table c.loop-out.now c.deref_mut-2.result.now)
 before_last g c =
     let old = c.loop-out.out in
@@ -43,8 +41,8 @@ loop-out-init g c = record {
   room = c.requires.room;
   within = omega arith;
   filled = omega (arith, c.requires.empty);
-  growing = growing_start g.row.F g.row.N (Consumes (g.R.Chunks.ahead c.args.reader.now) (g.R.Chunks.ahead c.args.reader.now)) _ _ c.args.out.now.items
-      c.requires.channels (sym c.args.out.now.ok.0 ∙ c.requires.empty) c.new-table.ensures c.start-last.ensures (Consumes-nil _);
+  growing = growing_start g.row.F g.row.N (g.R.Chunks.ahead c.args.reader.now) _ _ c.args.out.now.items
+      c.requires.channels (sym c.args.out.now.ok.0 ∙ c.requires.empty) c.new-table.ensures c.start-last.ensures;
 }
 
 pub some_chunks-requires : goal.some_chunks-requires

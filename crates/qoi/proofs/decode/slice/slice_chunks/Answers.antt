@@ -3,7 +3,7 @@ use Rattle.std.proofs.Common.{Option, Some, None, IfNone, true}
 use Rattle.std.proofs.lemmas.Option.{IfSome_then}
 use Rattle.qoi.specs.inner.Filling.{filling}
 use Rattle.qoi.specs.inner.Chunks.{TakesMore}
-use Rattle.qoi.proofs.decoding.Progress.{front_taken, split_taken, chunks_after}
+use Rattle.qoi.proofs.decoding.Progress.{chunks_after}
 use Rattle.qoi.proofs.decode.slice.slice_chunks.Given.{Over}
 use Rattle.qoi.proofs.decode.slice.slice_chunks.Goals.{After-split_at}
 use Rattle.qoi.proofs.decode.slice.slice_chunks.Goals as goal
@@ -11,9 +11,7 @@ use Rattle.qoi.proofs.decode.slice.slice_chunks.Goals as goal
 -- after the fast loop
 after : (g : Over) (c : After-split_at g) → TakesMore g.row.F g.row.N true (Some c.args.data.now) (Some c.split_at.result.1.now)
     (filling c.args.table.now c.args.from c.args.out.now) (filling c.fast_chunks-now.new.table c.fast_chunks-now.result.reached c.fast_chunks-now.new.out)
-after g c =
-    let fast = c.fast_chunks-now in
-    front_taken c.args.data.now fast.result.taken fast.ensures.takes (split_taken fast.result.taken c.split_at.ensures.back)
+after g c = rw c.split_at.ensures.back c.fast_chunks-now.ensures.takes
 
 pub returns-clause-read : goal.returns-clause-read
 returns-clause-read g c =

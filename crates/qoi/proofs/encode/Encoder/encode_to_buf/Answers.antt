@@ -6,21 +6,21 @@ use Rattle.qoi.proofs.encoding.piece.BufferFilled.{buffer_filled}
 use Rattle.qoi.proofs.encode.Encoder.encode_to_buf.Goals as goal
 
 pub returns-clause-encoded : goal.returns-clause-encoded
-returns-clause-encoded c = MatchResult-weaker c.write_to_memory.result c.write_to_memory.ensures (λ n w.
+returns-clause-encoded c = let w = c.write_to_memory.ensures in MatchResult-weaker c.write_to_memory.result w.2 (λ n r.
     let old = c.args.buf.now in
     let new = c.new-writer.ensures in
-    let filled = buffer_filled c.new-writer.result c.write_to_memory.new.writer old w.0 n new.written new.left w.3 w.2 in
-    let named = w.3.same_buffer in
+    let filled = buffer_filled c.new-writer.result c.write_to_memory.new.writer old w.0 n new.written new.left r.1 r.0 in
+    let named = r.1.same_writer in
     let file = w.1 in
-    puts_file _ w.0 old _ n file w.2 (search rules)
-    (omega (arith, w.2, file.is_file.fits, c.if-buf-required.false, c.required_buf_len-required.ensures))) (λ _ _. tt)
+    puts_file _ w.0 old _ n file r.0 (search rules)
+    (omega (arith, r.0, file.is_file.fits, c.if-buf-required.false, c.required_buf_len-required.ensures))) (λ _ _. tt)
 
 pub returns-then-self-lt-FEW_BYTES-clause-encoded : goal.returns-then-self-lt-FEW_BYTES-clause-encoded
-returns-then-self-lt-FEW_BYTES-clause-encoded c = MatchResult-weaker c.encode_few.result c.encode_few.ensures (λ n w.
+returns-then-self-lt-FEW_BYTES-clause-encoded c = let w = c.encode_few.ensures in MatchResult-weaker c.encode_few.result w.2 (λ n r.
     let old = c.args.buf.now in
     let new = c.new-writer.ensures in
-    let filled = buffer_filled c.new-writer.result c.encode_few.new.writer old w.0 n new.written new.left w.3 w.2 in
-    let named = w.3.same_buffer in
+    let filled = buffer_filled c.new-writer.result c.encode_few.new.writer old w.0 n new.written new.left r.1 r.0 in
+    let named = r.1.same_writer in
     let file = w.1 in
-    puts_file _ w.0 old _ n file w.2 (search rules)
-    (omega (arith, w.2, file.is_file.fits, c.if-buf-required.false, c.required_buf_len-required.ensures))) (λ _ _. tt)
+    puts_file _ w.0 old _ n file r.0 (search rules)
+    (omega (arith, r.0, file.is_file.fits, c.if-buf-required.false, c.required_buf_len-required.ensures))) (λ _ _. tt)

@@ -8,8 +8,8 @@ pub returns-clause-encoded : goal.returns-clause-encoded
 returns-clause-encoded c =
     let e = c.args.self.now in
     let w = c.in_ok-write_to_memory.ensures in
-    let named = w.3.same_vec in
+    let named = w.2.1.same_writer in
     let empty = c.new-writer.ensures.bytes ∙ c.in_ok-file.ensures.items in
-    let appended = w.3.appended ∙ ap (λ z. z ++ w.0) empty in
+    let appended = w.2.1.appended ∙ ap (λ z. z ++ w.0) empty in
     let all : c.shrink_to_fit.new.self.items ≡ w.0 = c.shrink_to_fit.ensures.items ∙ search rules in
     makes_file _ _ (subst (IsFileOf e.style e.header e.raw) (sym all) w.1)

@@ -1,24 +1,23 @@
 -- The repeats before the block, if a fresh pixel follows them, and the block's chunks.
-use Rattle.std.proofs.Common.{◌≡◌, ◌≢◌, [], inl, inr, Some, ℕ, ◌+◌, ◌-◌, ◌≤◌, List, ◌++◌, map, ◌<◌, length, take, slice_index, arith, refl, sym, ap, ◌∙◌, subst, append_assoc, length-append, drop, zero, suc, ◌%◌, ◌||◌, Bool, true, ◌∷◌, bit_and}
+use Rattle.std.proofs.Common.{◌≡◌, ◌≢◌, [], inl, inr, Some, ℕ, ◌+◌, ◌-◌, ◌≤◌, List, ◌++◌, map, ◌<◌, length, take, slice_index, arith, refl, sym, ap, ◌∙◌, subst, append_assoc, length-append, drop, zero, suc, ◌%◌, Bool, true, ◌∷◌, bit_and}
 use Rattle.std.proofs.lemmas.List.{take-take, drop-drop}
 use Rattle.std.specs.List.{slice_get}
 use Rattle.std.proofs.lemmas.Bool.{eq-eqb}
 use Rattle.qoi.specs.Qoi.{RgbaPixel, IsPixel, hash, Past}
 use Rattle.qoi.specs.Raw.{IsChannels, AreOpaque}
 use Rattle.qoi.specs.Styles.{Places, names, style_of}
-use Rattle.qoi.specs.inner.block.Lanes.{State, group_bytes, lanes_of, mask, step_of, fits_diff, fits_luma, same_alpha, size_by, lane_of, is_rep, goes_on}
+use Rattle.qoi.specs.inner.block.Lanes.{State, group_bytes, lanes_of, mask, step_of, same_alpha, size_of, lane_of, is_rep, goes_on}
 use Rattle.qoi.specs.inner.block.Vectors.{sizes}
 use Rattle.qoi.specs.inner.Coder.{held_in, kept_bytes, Ahead}
-use Rattle.qoi.specs.inner.block.Block.{last_pixel}
-use Rattle.qoi.specs.inner.block.Planes.{block_pixels}
+use Rattle.qoi.specs.inner.block.Planes.{block_pixels, last_pixel}
 use Rattle.qoi.specs.inner.block.Positions.{stand_tests}
-use Rattle.qoi.specs.inner.Table.{Holds}
 use Rattle.qoi.proofs.encoding.blocks.BlockStep.{ready, block_step}
 use Rattle.qoi.proofs.encoding.blocks.BlockWritten.{Carrying}
 use Rattle.qoi.proofs.encoding.coder.CoderLink.{first_more}
 use Rattle.qoi.proofs.encoding.blocks.PackedBlock.{block_sixteen, block_words}
 use Rattle.qoi.proofs.encoding.stores.StoredBlock.{sizes_few}
 use Rattle.qoi.proofs.format.SamePixels.{hash_below}
+use Rattle.qoi.proofs.encoding.lanes.LaneChunk.{parts_of}
 use Rattle.qoi.proofs.encode.block.write_block.Goals as goal
 
 -- index positions are below 64
@@ -28,8 +27,8 @@ hashes_below (p ∷ ps) zero = hash_below p
 hashes_below (p ∷ ps) (suc k) = hashes_below ps k
 
 -- a chunk that keeps alpha has at most four bytes
-keep_size : (st l k : Bool) → k ≡ true → (r g : Bool) → (size_by st l k + bit_and (mask r) (mask g)) % 256 ≤ 4
-keep_size st l k e r g = grind arith
+keep_size : (n : ℕ) (r g : Bool) → 0 < n → n ≤ 4 → (n + bit_and (mask r) (mask g)) % 256 ≤ 4
+keep_size n r g some few = grind arith
 
 -- each of them
 sizes_opaque : (held : Past) (q : RgbaPixel) (ps : List RgbaPixel) → q.a ≡ 255 → AreOpaque ps → (k : ℕ) → slice_index (sizes (lanes_of held q ps)) k ≤ 4
@@ -37,7 +36,7 @@ sizes_opaque held q [] e opaque k = omega arith
 sizes_opaque held q (p ∷ ps) e opaque zero =
     let l = lane_of held q p in
     let same : same_alpha l ≡ true = eq-eqb (step_of l).a 0 (let a = opaque.0 in omega arith) in
-    keep_size (l.stands || fits_diff l) (fits_luma l) (same_alpha l) same (is_rep l) (goes_on (lanes_of (p ∷ held) p ps))
+    keep_size (size_of l) (is_rep l) (goes_on (lanes_of (p ∷ held) p ps)) (parts_of l).some ((parts_of l).short same)
 sizes_opaque held q (p ∷ ps) e opaque (suc k) = sizes_opaque (p ∷ held) p ps opaque.0 opaque.1 k
 
 -- they stay when a byte before them is stored
@@ -89,7 +88,7 @@ returns g c = λ ahead n rest more fits b.
           (subst (λ ps. Ahead style ahead now.past now.before b.last.repeats ps (kept_bytes c.args.piece.piece)) assoc now.to_write);
       last_is = sym q_is;
       begun_is = sym now.state.begun_is;
-      opens = λ no. (b.is.count_is ∙ (b.goes.opens no).none, λ e. (b.goes.opens no).fresh (sym first ∙ e ∙ ap Some b.is.px_is));
+      opens = λ no. (b.is.count_is ∙ (b.goes.opens no).0, λ e. (b.goes.opens no).1 (sym first ∙ e ∙ ap Some b.is.px_is));
       held_is = λ _. refl;
       placed_is = refl;
     } in
@@ -102,14 +101,14 @@ returns g c = λ ahead n rest more fits b.
     let run : 0 < carry.count → take (end + 1) c.store_run.new.out ≡ take end c.store_places.new.out ++ group_bytes style carry.placed q carry.count =
     λ some. subst (λ s. take (end + 1) c.store_run.new.out ≡ take end c.store_places.new.out ++ group_bytes s carry.placed q carry.count) c.style_of-style.ensures (c.store_run.ensures.run some) in
     let placed : style ≡ Places → s.placed ≡ carry.placed = λ is. ap (λ p. names now.before (hash p)) q_is ∙ sym (b.is.placed_is ∙ now.state.placed_is is) in
-    let spelled = c.spell-x.ensures s refl fits.changes refl placed
+    let spelled = c.spell-x.ensures s (fits.changes s.held) refl placed
     (record { sixteen = sixteen; last_is = last; red_is = planes.r_is; stands_are = put.stands_are; places_are = at }) in
     let x = c.spell-x.result in
     let ready_now = ready style ahead s all later x carry.placed end c.run_end-start.result _ c.store_run.new.out c.args.carry.few
     (λ e. omega (arith, b.is.count_is, b.goes.few (sym first ∙ e ∙ ap Some b.is.px_is))) start spelled sixteen placed (c.store_run.ensures.front ∙ front)
     (λ some. run some ∙ ap (λ z. z ++ group_bytes style carry.placed q carry.count) front) c.run_end-start.ensures in
     block_step style ahead n s rest more all x c.args.block.planes c.put_block-stands.new.table c.carry.result _ _ sixteen fits.mixed planes ready_now put.holds
-    (λ t held same tight. fits.no_blank tight t (subst (Holds c.args.table.now) (sym held) now.state.table_is) same)
+    (λ tight. fits.no_blank tight s.held now.state.table_is)
     c.carry.ensures.before c.carry.ensures.count (λ is. c.carry.ensures.placed (stand_tests s.held all) (c.style_of-style.ensures ∙ is) put.stands_are)
     (λ t same last_is few. c.store_sixteen-end.ensures.written style t (subst IsPixel (sym last_is) last) same (omega arith)
     (sizes_in g.row.N t t.last all x.size carry.channels c.requires (λ three. ap (λ z. z.a) last_is ∙ carry.opaque three) same.size_is))

@@ -1,10 +1,9 @@
 -- The pixels up to here are written, but for the repeats that are carried.
 use Rattle.std.proofs.Common.{◌≡◌, ◌⊎◌, ℕ, List, ◌++◌, ◌-◌, ◌<◌, length}
-use Rattle.qoi.specs.declared.encode.piece.TheConstants.{SPARE}
 use Rattle.qoi.specs.Qoi.{RgbaPixel}
 use Rattle.qoi.specs.inner.BlockLoop.{InBlocks}
 use Rattle.qoi.specs.Styles.{style_of}
-use Rattle.qoi.specs.inner.Coder.{pixels_in, kept_bytes, CoderBetween}
+use Rattle.qoi.specs.inner.Coder.{pixels_in, kept_bytes, CoderBetween, SPARE}
 use Rattle.qoi.proofs.encode.blocks.write_by_blocks.Given as goal
 
 abbrev pub invariant-loop-rest : goal.invariant-loop-rest

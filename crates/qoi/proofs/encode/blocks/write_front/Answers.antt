@@ -1,13 +1,12 @@
 -- A block, or a group. Before its groups a fresh pixel came, since the call wrote one.
 use Rattle.std.proofs.Common.{◌≡◌, ◌≤◌, ◌%◌, inl, inr, Option, None, Some, ◌++◌, take, drop, refl, sym, ap, ◌∙◌, arith, subst, take-append-drop}
 use Rattle.std.specs.List.{slice_get}
-use Rattle.qoi.specs.declared.encode.carry.TheConstants.{FRONT_CARRIED}
 use Rattle.qoi.specs.Qoi.{RgbaPixel}
-use Rattle.qoi.specs.inner.block.Block.{FitsBlock, last_pixel}
-use Rattle.qoi.specs.inner.BlockLoop.{InBlocks}
+use Rattle.qoi.specs.inner.block.Vectors.{FitsBlock}
+use Rattle.qoi.specs.inner.BlockLoop.{InBlocks, FRONT_CARRIED}
 use Rattle.qoi.specs.Styles.{style_of}
 use Rattle.qoi.specs.inner.Coder.{pixels_in, kept_bytes}
-use Rattle.qoi.specs.inner.block.Planes.{block_pixels}
+use Rattle.qoi.specs.inner.block.Planes.{block_pixels, last_pixel}
 use Rattle.qoi.specs.inner.block.Lanes.{fresh_marks}
 use Rattle.qoi.proofs.encoding.coder.CoderLink.{in_style, still_between, goes_on}
 use Rattle.qoi.proofs.encoding.coder.MarkedPixels.{none_group, repeat_even}

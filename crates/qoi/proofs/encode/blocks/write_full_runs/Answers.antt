@@ -4,20 +4,17 @@ use Rattle.std.proofs.Common.{◌≡◌, ℕ, zero, suc, Some, ◌+◌, ◌*◌,
 use Rattle.std.proofs.lemmas.Bool.{le-ltb, lt-ltb, ne_eqb}
 use Rattle.std.specs.List.{slice_get}
 use Rattle.qoi.specs.Styles.{Style}
-use Rattle.qoi.specs.declared.encode.carry.Carry.{Carry}
-use Rattle.qoi.specs.declared.encode.coder.LastPixel.{LastPixel}
 use Rattle.qoi.specs.Qoi.{Run, RgbaPixel, chunk_bytes}
-use Rattle.qoi.specs.inner.block.Block.{last_pixel}
-use Rattle.qoi.specs.inner.BlockLoop.{InBlocks}
+use Rattle.qoi.specs.inner.BlockLoop.{InBlocks, Carry}
+use Rattle.qoi.specs.inner.block.Planes.{last_pixel}
 use Rattle.qoi.proofs.format.ChunkSteps.{previous_repeats}
 use Rattle.qoi.proofs.encoding.blocks.BlockWritten.{still_begun, repeats_held}
 use Rattle.qoi.proofs.encoding.coder.CoderLink.{begun_by_repeat, goes_on}
 use Rattle.qoi.proofs.encoding.coder.CoderSteps.{fulls_written}
 use Rattle.qoi.proofs.encoding.styles.StyledGroup.{placed_repeats}
 use Rattle.std.proofs.lemmas.Option.{same_Some}
-use Rattle.qoi.specs.declared.encode.piece.TheConstants.{REPEATS_AT_ONCE}
 use Rattle.qoi.specs.Runs.{IsCount}
-use Rattle.qoi.specs.inner.Coder.{pixels_in, kept_bytes}
+use Rattle.qoi.specs.inner.Coder.{pixels_in, kept_bytes, LastPixel, REPEATS_AT_ONCE}
 use Rattle.qoi.proofs.encoding.coder.PixelsIn.{NearGroup, near_group, near_some}
 use Rattle.qoi.proofs.encode.blocks.write_full_runs.Given.{Over}
 use Rattle.qoi.proofs.encode.blocks.write_full_runs.Goals.{After-repeats_of-ahead}

@@ -3,8 +3,8 @@
 use Rattle.std.proofs.Common.{◌≡◌, ◌*◌, ◌<◌, ◌≤◌, ◌++◌, ◌∙◌, List, ℕ, [], length, refl, sym, ap, arith, subst, append_assoc}
 use Rattle.std.proofs.lemmas.List.{length-take-le}
 use Rattle.qoi.specs.Encoded.{IsFileOf}
-use Rattle.qoi.specs.EncoderState.{EncoderState}
 use Rattle.qoi.specs.inner.Sending.{pixel_size, ImageBetween}
+use Rattle.qoi.specs.EncoderState.{EncoderState}
 use Rattle.qoi.proofs.FileOf.{file_of_image}
 use Rattle.qoi.proofs.decoding.ImageSize.{channels_are}
 use Rattle.qoi.proofs.decoding.Refusals.{handed_on}
@@ -45,12 +45,11 @@ write_many-requires g c = omega (arith, (file g (goal.at.write_many-requires g c
 
 pub returns-in_err-write_many : goal.returns-in_err-write_many
 returns-in_err-write_many g c =
-    let r = c.in_err-write_many.ensures.refused in
-    handed_on _ _ _ c.from_residual.ensures.1 (r.0, _, file g (goal.at.returns-in_err-write_many g c).After-front, r.1)
+    (_, file g (goal.at.returns-in_err-write_many g c).After-front, handed_on _ _ _ c.from_residual.ensures.1 c.in_err-write_many.ensures.refused)
 
 pub returns : goal.returns
 returns g c =
     let end = c.store_marker-end.result in
     let piece = c.store_marker-end.new.self in
     let within : end ≤ length piece.bytes.now = omega (arith, c.store_marker-end.ensures.end, c.write_left.new.piece.within, piece.room) in
-    (_, file g (goal.at.returns g c).After-front, sym (length-take-le end piece.bytes.now within) ∙ ap length (sym c.front.ensures), c.in_ok-write_many.ensures.written)
+    (_, file g (goal.at.returns g c).After-front, (sym (length-take-le end piece.bytes.now within) ∙ ap length (sym c.front.ensures), c.in_ok-write_many.ensures.written))

@@ -1,8 +1,7 @@
 -- The chunks of the pixels up to here are in the piece, or sent.
 use Rattle.std.proofs.Common.{◌≤◌, length}
-use Rattle.qoi.specs.declared.encode.chunks.Pending.{Pending}
 use Rattle.qoi.specs.inner.Coder.{pixels_in, kept_bytes}
-use Rattle.qoi.specs.inner.Sending.{GoesOn, IsReady}
+use Rattle.qoi.specs.inner.Sending.{GoesOn, IsReady, Pending}
 use Rattle.qoi.proofs.encode.chunks.write_in_style.Given as goal
 
 abbrev pub invariant-loop-table : goal.invariant-loop-table

@@ -1,9 +1,9 @@
 -- Bytes of less than a pixel are left out.
 use Rattle.std.proofs.Common.{ap, ◌∙◌, subst}
 use Rattle.qoi.specs.Qoi.{rgba}
-use Rattle.qoi.specs.Raw.{pixels_of}
 use Rattle.qoi.specs.Runs.{IsCount}
 use Rattle.qoi.specs.inner.Coder.{pixels_in}
+use Rattle.qoi.specs.Raw.{pixels_of}
 use Rattle.qoi.proofs.encoding.coder.PixelsIn.{whole_part}
 use Rattle.qoi.proofs.encode.runs.repeats.Goals as goal
 

@@ -4,9 +4,8 @@ use Rattle.qoi.specs.Qoi.{Chunk, Header, Channels, file, header_bytes, header_of
 use Rattle.qoi.specs.Verdicts.{IsWhole}
 use Rattle.qoi.specs.DecoderState.{DecoderState}
 use Rattle.qoi.specs.Decoded.{HasHeader, HasDecoded}
-use Rattle.qoi.specs.Images.{file_rest, front_rest}
+use Rattle.qoi.specs.Images.{file_rest, front_rest, BeginsWithFile, HasFrontFile}
 use Rattle.qoi.specs.Reading.{IsDecoderOf, IsImage, StandsAhead}
-use Rattle.qoi.specs.FrontFile.{BeginsWithFile, HasFrontFile}
 use Rattle.qoi.proofs.decoding.FrontImage.{rest_is, file_rest_is, decodes_file, file_has_header, file_is_whole, file_parts, file_from_whole}
 use Rattle.qoi.proofs.laws.reading.files_are_read.Goals as goal
 

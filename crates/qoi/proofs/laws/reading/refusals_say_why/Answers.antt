@@ -1,6 +1,6 @@
 -- By the lemmas on refused slices.
 use Rattle.std.proofs.Common.{inl}
-use Rattle.qoi.specs.FrontFile.{IsNoFile}
+use Rattle.qoi.specs.Decoding.{IsNoFile}
 use Rattle.qoi.proofs.decoding.Promised.{has_refused_file}
 use Rattle.qoi.proofs.decoding.SlicesRefused.{file_refused, why_no_file}
 use Rattle.qoi.proofs.laws.reading.refusals_say_why.Goals as goal

@@ -7,6 +7,6 @@ use Rattle.qoi.proofs.laws.writing.tight_is_shortest.Goals as goal
 pub returns : goal.returns
 returns c = record {
   exact = style_exact;
-  shortest = λ image cs others w covers. omega (arith, style_exact image cs w, lower0 image others covers.0 covers.1);
+  shortest = λ image cs others w covers. omega (arith, style_exact image cs w, lower0 image others covers);
   floors = floor0_high;
 }

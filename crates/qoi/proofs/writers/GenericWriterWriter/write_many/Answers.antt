@@ -1,7 +1,8 @@
 -- What a write took moves from the rest to what is written.
 use Rattle.std.proofs.Common.{◌≡◌, ◌+◌, ◌-◌, ◌++◌, length, take, drop, refl, sym, ap, ◌∙◌, append_assoc, take-append-drop, arith, length-append}
+use Rattle.std.proofs.Math.Seq.{drop-nil}
 use Rattle.std.proofs.lemmas.List.{length-take-le}
-use Rattle.qoi.specs.writers.GenericWriter.{stream_laws}
+use Rattle.qoi.specs.Writers.{wrote_laws}
 use Rattle.qoi.proofs.writers.GenericWriterWriter.write_many.Goals as goal
 
 pub loop-rest-preserved : goal.loop-rest-preserved
@@ -16,6 +17,6 @@ loop-rest-preserved g c =
       front = i.front ++ take n rest;
       split = i.split ∙ ap (λ z. i.front ++ z) (sym (take-append-drop n rest)) ∙ sym (append_assoc i.front (take n rest) (drop n rest))
           ∙ ap (λ z. (i.front ++ take n rest) ++ z) (sym c.skip-rest.ensures);
-      went = (stream_laws g.W.Write.contents).both _ _ _ i.front (take n rest) i.went
-          (record { same_writer = refl; appended = c.in_ok-count.ensures.bytes; counted = counted });
+      went = (wrote_laws _ _ _ _).both _ _ _ i.front (take n rest) i.went
+          (record { same_writer = refl; appended = c.in_ok-count.ensures.bytes; later = sym (drop-nil _); counted = counted });
     }

@@ -1,7 +1,6 @@
 -- All the bytes but the rest are written.
 use Rattle.std.proofs.Common.{length}
-use Rattle.qoi.specs.writers.Writes.{WroteBut}
-use Rattle.qoi.specs.writers.GenericWriter.{StreamWrote}
+use Rattle.qoi.specs.Writers.{WroteBut, StreamWrote}
 use Rattle.qoi.proofs.writers.GenericWriterWriter.write_many.Given as goal
 
 abbrev pub invariant-loop-rest : goal.invariant-loop-rest

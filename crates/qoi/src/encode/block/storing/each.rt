@@ -1,7 +1,7 @@
 //! Chunks of at most five bytes, each stored on its own: where the sizes of those before it say.
 ghost use lib.Lanes.{digits_l, sum_l};
 ghost use Rattle.std.specs.Prelude.{◌≡◌, ◌+◌, ◌*◌, ◌/◌, ◌%◌, ◌^◌, ◌≤◌, ◌<◌, ℕ, List, ◌++◌, length, take, slice_index};
-ghost use Rattle.qoi.specs.inner.block.Storing.{AreStarts, HoldChunks, four_parts, AreEight, sixteen_chunks};
+ghost use Rattle.qoi.specs.inner.block.Storing.{HoldChunks, four_parts, AreEight, sixteen_chunks};
 
 use crate::encode::block::lanes::{halves, lesser};
 use crate::encode::block::planes::{Planes, Words, make_words};
@@ -56,7 +56,7 @@ fn store_four(out: &mut [u8], at: usize, starts: [usize; 4], numbers: [u64; 4])
     requires room { at + 43 ≤ length out.old }
     ensures same { length out.new ≡ length out.old }
     ensures written { (ss : List ℕ) (n : ℕ) → ((k : ℕ) → slice_index ss k ≤ 5)
-        → AreStarts starts n ss
+        → ((k : ℕ) → k < 4 → slice_index starts k ≡ sum_l (take (n + k) ss))
         → take (at + sum_l (take (n + 4) ss)) out.new
         ≡ take (at + sum_l (take n ss)) out.old ++ four_parts ss n numbers }
 {

@@ -1,7 +1,7 @@
 //! Chunks of at most four bytes, stored four at a time: one shuffle moves their bytes together.
-ghost use lib.Lanes.{all_below, digits_l};
-ghost use Rattle.std.specs.Prelude.{◌≡◌, ◌+◌, ◌≤◌, ◌<◌, ℕ, List, [], ◌∷◌, ◌++◌, length, take, IsTrue};
-ghost use Rattle.qoi.specs.inner.block.Storing.{HaveCodes, AreEight, joined, total, order_of, close_bytes, sixteen_chunks};
+ghost use lib.Lanes.{all_below, digits_l, number_l};
+ghost use Rattle.std.specs.Prelude.{◌≡◌, ◌+◌, ◌≤◌, ◌<◌, ℕ, List, [], ◌∷◌, ◌++◌, length, take, drop, IsTrue};
+ghost use Rattle.qoi.specs.inner.block.Storing.{HaveCodes, AreEight, total, order_of, close_bytes, sixteen_chunks};
 
 use crate::encode::block::lanes::{halves, lesser};
 use crate::encode::block::planes::Words;
@@ -98,7 +98,8 @@ fn store_four_shuffled(out: &mut [u8], at: usize, codes: u8, numbers: u32x4) -> 
 // Eight codes, each the low bits of a byte, as two numbers of four.
 #[inline(always)]
 fn join(codes: u64) -> [u8; 2]
-    ensures { (cs : List ℕ) → AreEight 3 cs codes → result ≡ joined cs 0 ∷ joined cs 4 ∷ [] }
+    ensures { (cs : List ℕ) → AreEight 3 cs codes
+        → result ≡ number_l 4 (take 4 cs) ∷ number_l 4 (drop 4 cs) ∷ [] }
 {
     let sums = codes.wrapping_mul(0x0104_1040);
     [((sums >> 24) % 256) as u8, (sums >> 56) as u8]

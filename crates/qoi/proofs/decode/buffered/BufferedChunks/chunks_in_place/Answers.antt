@@ -24,4 +24,4 @@ returns-clause-takes g c =
     let rested = c.fill_buf.follows.lender-at-none in
     let filled = subst (FillKeeps _ (g.R.Read.remaining rested) (g.R.BufRead.consumable_len rested)) c.in_ok-bytes.was c.fill_buf.follows.holds-at-none in
     let moved = Consumes_shown _ _ _ _ shown fast.result.0.taken fast.ensures.within c.in_ok-bytes.ensures.front c.in_ok-bytes.ensures.end filled.0 filled.1 c.consume.ensures.bytes in
-    rw (sym c.self.view_is) (piece_taken _ _ shown fast.result.0.taken fast.ensures.takes moved.0)
+    rw (sym c.self.view_is) (piece_taken _ _ fast.new.out fast.result.0.reached fast.result.1 shown fast.result.0.taken fast.ensures.takes moved.0)

@@ -1,6 +1,6 @@
 -- The pixel has the chunk's channels, except alpha for an RGB chunk, and the byte after it is picked.
 use Rattle.std.proofs.Common.{◌+◌, arith, refl}
-use Rattle.qoi.specs.declared.decode.fast.Progress.{Progress}
+use Rattle.qoi.specs.inner.Filling.{Progress}
 use Rattle.qoi.proofs.decoding.FastSteps.{Stores, full_size, next_byte, full_step}
 use Rattle.qoi.proofs.decode.fast.Progress.full_chunk.Goals as goal
 

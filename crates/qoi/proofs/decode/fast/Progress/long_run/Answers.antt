@@ -1,8 +1,7 @@
 -- The copies of the last pixel are written, either way.
 use Rattle.std.proofs.Common.{◌≡◌, ◌+◌, ◌-◌, ◌*◌, drop, get_or, arith, refl, sym, ◌∙◌}
 use Rattle.std.proofs.lemmas.List.{length-drop}
-use Rattle.qoi.specs.declared.decode.fast.Progress.{Progress}
-use Rattle.qoi.specs.inner.Filling.{HasCopies}
+use Rattle.qoi.specs.inner.Filling.{Progress, HasCopies}
 use Rattle.qoi.proofs.decoding.FirstChunk.{decodes_run}
 use Rattle.qoi.proofs.decoding.FastSteps.{fast_step}
 use Rattle.qoi.proofs.decode.fast.Progress.long_run.Goals.{then-out-self-ge-RUN_ROOM, else-out-self-ge-RUN_ROOM}

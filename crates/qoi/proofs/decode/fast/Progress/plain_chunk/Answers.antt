@@ -1,7 +1,7 @@
 -- The pixel is that of the chunk, and the byte after it is known by its size.
 use Rattle.std.proofs.Common.{◌+◌, ◌*◌, inl, inr, get_or, cond, nat_eq, nat_le, arith, refl, ap, ◌∙◌}
 use Rattle.std.proofs.lemmas.Bool.{cases_lt}
-use Rattle.qoi.specs.declared.decode.fast.Progress.{Progress}
+use Rattle.qoi.specs.inner.Filling.{Progress}
 use Rattle.qoi.proofs.decoding.FastSteps.{Stores, below_rgb, plain_count, plain_next, plain_short, plain_size, full_step, short_step, step_within}
 use Rattle.qoi.proofs.decode.fast.Progress.plain_chunk.Goals as goal
 

@@ -1,7 +1,6 @@
 -- The chunk's pixel is the sum, its copies are those of the vector, and the byte after it is picked.
 use Rattle.std.proofs.Common.{◌+◌, arith, refl}
-use Rattle.qoi.specs.declared.decode.fast.Progress.{Progress}
-use Rattle.qoi.specs.inner.Filling.{taken_further}
+use Rattle.qoi.specs.inner.Filling.{Progress, taken_further}
 use Rattle.qoi.proofs.decoding.FirstChunk.{size_of}
 use Rattle.qoi.proofs.decoding.FastSteps.{Stores, one_more, next_byte, short_step, step_within}
 use Rattle.qoi.proofs.decode.fast.Progress.short_chunk.Goals as goal

@@ -1,6 +1,6 @@
 -- The pixel has the chunk's channels, except alpha for an RGB chunk.
 use Rattle.std.proofs.Common.{◌+◌, ◌-◌, get_or, take, drop, length, arith, refl, sym, ap, ◌∙◌}
-use Rattle.qoi.specs.declared.decode.fast.Progress.{Progress}
+use Rattle.qoi.specs.inner.Filling.{Progress}
 use Rattle.qoi.specs.Qoi.{pixel}
 use Rattle.qoi.proofs.decoding.FastSteps.{Stores, full_step}
 use Rattle.qoi.proofs.decode.full_rows.Row.chunk_of.Goals as goal

@@ -10,19 +10,19 @@ use Rattle.qoi.proofs.encoding.lanes.BlankLanes.{is_blank, or_not, is_elsewhere,
 use Rattle.qoi.proofs.encoding.lanes.LaneTests.{themselves}
 use Rattle.qoi.proofs.encoding.lanes.Lanewise.{two, one, each, again, not_8}
 use Rattle.qoi.proofs.encoding.blocks.PackedBlock.{block_sixteen}
-use Rattle.qoi.proofs.encoding.blocks.SpelledBlock.{before, before_is, own_planes, plane_by}
+use Rattle.qoi.proofs.encoding.blocks.SpelledBlock.{before_is, own_planes, plane_by}
 use Rattle.qoi.proofs.encode.block.Block.blank_stays.Goals as goal
 
 pub returns : goal.returns
-returns c = λ holds s table.
+returns c = λ holds held q table.
     let ps : List RgbaPixel = block_pixels c.args.self.words in
     let sixteen = block_sixteen c.args.self.words c.args.self.packed in
     let planes = c.args.self.planes_are in
     let both = and_parts c.is_same.result c.all_set.result holds in
-    let black = c.blanks.ensures _ _ (own_planes before ps sixteen before_is c.args.self.planes planes) in
+    let black = c.blanks.ensures _ _ (own_planes [] (pixel 0 0 0 0) ps sixteen before_is c.args.self.planes planes) in
     let zero = again c.where_is-elsewhere.result c.where_is-elsewhere.ensures
-    (one (λ x. mask (x == 0)) (plane_by before ps sixteen before_is hash c.index_positions.result (c.index_positions.ensures ps sixteen planes))) in
+    (one (λ x. mask (x == 0)) (plane_by [] (pixel 0 0 0 0) ps sixteen before_is hash c.index_positions.result (c.index_positions.ensures ps sixteen planes))) in
     let all = each (λ l. mask (is_elsewhere l.px)) (two _ black (one not_8 zero)) (λ l is. or_not (is_blank l.px) (hash l.px == 0)) in
     let set = all.is ∙ themselves (λ p. mask (is_elsewhere p)) [] (pixel 0 0 0 0) ps ∙ sym (map-map mask is_elsewhere ps) in
-    blank_stays s ps (sym (c.at.ensures s.held table) ∙ c.is_same.ensures.0 both.0 ∙ c.blank.ensures)
+    blank_stays held q ps (sym (c.at.ensures held table) ∙ c.is_same.ensures.0 both.0 ∙ c.blank.ensures)
     (sym (c.all_set.ensures (map is_elsewhere ps) (length-map ps is_elsewhere ∙ sixteen.long) set) ∙ both.1)

@@ -1,10 +1,8 @@
 -- If the block is opaque, so is its last pixel.
 use Rattle.std.proofs.Common.{arith, ◌≡◌, ℕ, zero, suc, ◌<◌, List, [], ◌∷◌, length, map, slice_index, ap, ◌∙◌}
-use Rattle.qoi.specs.declared.encode.block.planes.Planes.{Planes}
-use Rattle.qoi.specs.declared.encode.block.planes.Words.{Words}
 use Rattle.qoi.specs.Qoi.{RgbaPixel}
 use Rattle.qoi.specs.Raw.{AreOpaque}
-use Rattle.qoi.specs.inner.block.Planes.{ArePacked, ArePlanes, block_pixels}
+use Rattle.qoi.specs.inner.block.Planes.{Words, Planes, ArePacked, ArePlanes, block_pixels}
 use Rattle.qoi.proofs.encoding.blocks.PackedBlock.{block_sixteen}
 use Rattle.qoi.proofs.encode.block.Block.carry.Goals as goal
 

@@ -4,7 +4,7 @@ use Rattle.std.proofs.lemmas.List.{length-map}
 use Rattle.std.proofs.lemmas.Simd.{bitmask_splat}
 use lib.Lanes.{zip2, mask_l, top}
 use Rattle.qoi.specs.inner.block.Lanes.{mask}
-use Rattle.qoi.specs.inner.block.Vectors.{all_true}
+use Rattle.std.specs.List.{list_all}
 use Rattle.qoi.proofs.encode.block.lanes.all_set.Goals as goal
 
 -- n bits that are set
@@ -17,7 +17,7 @@ one_more : (b : Bool) (m k : ℕ) → eqb (cond b 1 0 + 2 * m) (1 + 2 * k) ≡ (
 one_more b m k = grind arith
 
 -- all bits are set exactly if all hold
-mask_ones : (bs : List Bool) → eqb (mask_l bs) (ones (length bs)) ≡ all_true bs
+mask_ones : (bs : List Bool) → eqb (mask_l bs) (ones (length bs)) ≡ list_all (λ b. b) bs
 mask_ones [] = refl
 mask_ones (b ∷ bs) = one_more b (mask_l bs) (ones (length bs)) ∙ ap (λ z. b && z) (mask_ones bs)
 
@@ -32,7 +32,7 @@ abbrev bits_set : List ℕ → ℕ
 bits_set xs = mask_l (map (top 7) (zip2 (λ a b. cond (eqb a b) 255 0) xs (replicate 16 255))) % 2 ^ 64
 
 -- all are set exactly if all hold
-all_bits : (bs : List Bool) (xs : List ℕ) → length bs ≡ 16 → xs ≡ map mask bs → eqb (bits_set xs) 65535 ≡ all_true bs
+all_bits : (bs : List Bool) (xs : List ℕ) → length bs ≡ 16 → xs ≡ map mask bs → eqb (bits_set xs) 65535 ≡ list_all (λ b. b) bs
 all_bits bs xs long is =
     ap (λ z. eqb (bits_set z) 65535) is
     ∙ ap (λ n. eqb n 65535) (bitmask_splat w8 eqb (map mask bs) 16 255 (length-map bs mask ∙ long) (omega arith) ∙ ap mask_l (set_is bs))

@@ -2,7 +2,6 @@
 use Rattle.std.proofs.Common.{◌∙◌, ◌≡◌, ℕ, zero, suc, List, [], ◌∷◌, length, map, replicate, refl, arith}
 use Rattle.qoi.specs.Qoi.{RgbaPixel}
 use Rattle.qoi.specs.Raw.{AreOpaque}
-use Rattle.qoi.proofs.encoding.blocks.FourFours.{four_words_of}
 use Rattle.qoi.proofs.encoding.lanes.WordPlanes.{sixteen_planes}
 use Rattle.qoi.proofs.encode.block.planes.make_planes.Goals as goal
 
@@ -17,10 +16,9 @@ alphas_opaque (suc n) (p ∷ ps) long opaque =
 
 pub returns-clause-planes : goal.returns-clause-planes
 returns-clause-planes g c = λ ps s are opaque.
-    let f = four_words_of ps c.args.w s are in
     let planes = sixteen_planes ps c.by_channel.result c.by_channel-2.result c.by_channel-3.result c.by_channel-4.result s
-    (c.by_channel.ensures.channels _ f.one) (c.by_channel-2.ensures.channels _ f.two) (c.by_channel-3.ensures.channels _ f.three)
-    (c.by_channel-4.ensures.channels _ f.four) in
+    (c.by_channel.ensures.channels _ are.one_are) (c.by_channel-2.ensures.channels _ are.two_are) (c.by_channel-3.ensures.channels _ are.three_are)
+    (c.by_channel-4.ensures.channels _ are.four_are) in
     let a = c.both_halves-2.ensures.1 ∙ planes.a_is in
     record {
       r_is = c.both_halves.ensures.0 ∙ planes.r_is;

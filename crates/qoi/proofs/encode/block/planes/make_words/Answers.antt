@@ -10,4 +10,4 @@ returns c = λ ps s e.
     let f = four_fours ps s in
     let r = all_words (take 4 ps) (take 4 (drop 4 ps)) (take 4 (drop 8 ps)) (take 4 (drop 12 ps)) c.args.p
     f.one f.two f.three f.four (subst (λ xs. ArePlanes xs c.args.p) (sym f.whole) e) in
-    record { one_are = r.0.words_are; two_are = r.1.words_are; three_are = r.2.words_are; four_are = r.3.words_are }
+    record { one_are = r.0; two_are = r.1; three_are = r.2; four_are = r.3 }

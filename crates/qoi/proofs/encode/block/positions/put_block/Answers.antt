@@ -1,13 +1,11 @@
 -- Four times four pixels, one after the other.
-use Rattle.std.proofs.Common.{◌≡◌, ℕ, ◌+◌, Bool, List, [], ◌∷◌, ◌++◌, length, map, slice_index, refl, ap, arith}
-use Rattle.qoi.specs.declared.encode.block.planes.Words.{Words}
+use Rattle.std.proofs.Common.{◌≡◌, ℕ, ◌+◌, Bool, List, [], ◌∷◌, ◌++◌, length, map, reverse, slice_index, refl, ap, arith}
 use lib.Lanes.{zip2}
 use Rattle.qoi.specs.Qoi.{RgbaPixel, Past, hash, pixel_eq}
 use Rattle.qoi.specs.inner.block.Lanes.{mask}
-use Rattle.qoi.specs.inner.block.Planes.{AreSixteen, AreFourWords, AreBlockWords}
-use Rattle.qoi.specs.inner.block.Positions.{seen_before, put_all, four_times, HasPut, HasPutBlock}
+use Rattle.qoi.specs.inner.block.Planes.{Words, AreSixteen, AreFourWords, AreBlockWords}
+use Rattle.qoi.specs.inner.block.Positions.{seen_before, four_times, HasPut, HasPutBlock}
 use Rattle.qoi.specs.inner.Table.{Holds}
-use Rattle.qoi.proofs.encoding.blocks.FourFours.{four_words_of}
 use Rattle.qoi.proofs.encode.block.positions.put_block.Goals as goal
 
 -- the index positions of four lanes
@@ -31,19 +29,18 @@ block_put : (held : Past) (ps : List RgbaPixel) (w : Words) (places : List ℕ) 
     → FourPut t2 t3 (four_from places 8) w.three f2 m2 → FourPut t3 t4 (four_from places 12) w.four f3 m3
     → Joins m0 m1 m2 m3 all → HasPutBlock held ps all t4
 block_put held (p0 ∷ p1 ∷ p2 ∷ p3 ∷ p4 ∷ p5 ∷ p6 ∷ p7 ∷ p8 ∷ p9 ∷ p10 ∷ p11 ∷ p12 ∷ p13 ∷ p14 ∷ p15 ∷ []) w places t0 t1 t2 t3 t4 f0 f1 f2 f3 m0 m1 m2 m3 all h s are at c0 c1 c2 c3 join =
-    let f = four_words_of (p0 ∷ p1 ∷ p2 ∷ p3 ∷ p4 ∷ p5 ∷ p6 ∷ p7 ∷ p8 ∷ p9 ∷ p10 ∷ p11 ∷ p12 ∷ p13 ∷ p14 ∷ p15 ∷ []) w s are in
     let q0 = p0 ∷ p1 ∷ p2 ∷ p3 ∷ [] in
     let q1 = p4 ∷ p5 ∷ p6 ∷ p7 ∷ [] in
     let q2 = p8 ∷ p9 ∷ p10 ∷ p11 ∷ [] in
     let q3 = p12 ∷ p13 ∷ p14 ∷ p15 ∷ [] in
-    let k0 = c0.put held q0 h f.one (ap (λ xs. four_from xs 0) at) in
-    let k1 = c1.put (put_all held q0) q1 k0.holds f.two (ap (λ xs. four_from xs 4) at) in
-    let k2 = c2.put (put_all (put_all held q0) q1) q2 k1.holds f.three (ap (λ xs. four_from xs 8) at) in
-    let k3 = c3.put (put_all (put_all (put_all held q0) q1) q2) q3 k2.holds f.four (ap (λ xs. four_from xs 12) at) in
+    let k0 = c0.put held q0 h are.one_are (ap (λ xs. four_from xs 0) at) in
+    let k1 = c1.put (reverse q0 ++ held) q1 k0.holds are.two_are (ap (λ xs. four_from xs 4) at) in
+    let k2 = c2.put (reverse q1 ++ (reverse q0 ++ held)) q2 k1.holds are.three_are (ap (λ xs. four_from xs 8) at) in
+    let k3 = c3.put (reverse q2 ++ (reverse q1 ++ (reverse q0 ++ held))) q3 k2.holds are.four_are (ap (λ xs. four_from xs 12) at) in
     record {
-      stands_are = join (zip2 pixel_eq (seen_before held q0) q0) (zip2 pixel_eq (seen_before (put_all held q0) q1) q1)
-          (zip2 pixel_eq (seen_before (put_all (put_all held q0) q1) q2) q2) (zip2 pixel_eq (seen_before (put_all (put_all (put_all held q0) q1) q2) q3) q3) refl refl refl refl (c0.masks_are _ q0 k0.found_are f.one) (c1.masks_are _ q1 k1.found_are f.two)
-          (c2.masks_are _ q2 k2.found_are f.three) (c3.masks_are _ q3 k3.found_are f.four);
+      stands_are = join (zip2 pixel_eq (seen_before held q0) q0) (zip2 pixel_eq (seen_before (reverse q0 ++ held) q1) q1)
+          (zip2 pixel_eq (seen_before (reverse q1 ++ (reverse q0 ++ held)) q2) q2) (zip2 pixel_eq (seen_before (reverse q2 ++ (reverse q1 ++ (reverse q0 ++ held))) q3) q3) refl refl refl refl (c0.masks_are _ q0 k0.found_are are.one_are) (c1.masks_are _ q1 k1.found_are are.two_are)
+          (c2.masks_are _ q2 k2.found_are are.three_are) (c3.masks_are _ q3 k3.found_are are.four_are);
       holds = k3.holds;
     }
 block_put held ps w places t0 t1 t2 t3 t4 f0 f1 f2 f3 m0 m1 m2 m3 all h s are at c0 c1 c2 c3 join = absurd (let l = s.long in omega arith)

@@ -9,7 +9,6 @@ use Rattle.qoi.specs.Styles.{Reference, Places}
 use Rattle.qoi.proofs.encoding.lanes.LaneTests.{themselves}
 use Rattle.qoi.proofs.encoding.blocks.SpelledBlock.{lanes_long, stands_lanes}
 use Rattle.qoi.proofs.encoding.lanes.Lanewise.{not_8}
-use Rattle.qoi.proofs.encoding.lanes.OverlaidRuns.{one_count}
 use Rattle.qoi.proofs.encode.block.single_repeats.name_single.Goals as goal
 
 -- whether the pixel before each lane stood at its position, from whether the one before the first did
@@ -35,9 +34,7 @@ named_are : (q : Bool) (c : ℕ) (ls : List Lane)
 named_are q c [] = refl
 named_are q c (l ∷ ls) =
     let n = if is_rep l then suc c else 0 in
-    ap (λ ns. named (firsts_in Reference q c (l ∷ ls)) (map (λ l. hash l.px) (l ∷ ls)) (map (λ l. mask (is_rep l)) (l ∷ ls)) (map (λ n. mask (n == 1)) ns) (stoods q (l ∷ ls)))
-    (one_count c (is_rep l) (map is_rep ls))
-    ∙ ap (λ z. first_in Places (is_rep l) q l n ∷ z) (named_are l.stands n ls)
+    ap (λ z. first_in Places (is_rep l) q l n ∷ z) (named_are l.stands n ls)
 
 pub returns : goal.returns
 returns c = λ s ps sixteen placed stands places h.

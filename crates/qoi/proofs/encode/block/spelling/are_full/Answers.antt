@@ -2,6 +2,7 @@
 use Rattle.std.proofs.Common.{◌==◌, map, bit_or, sym, ◌∙◌}
 use Rattle.std.proofs.lemmas.List.{length-map}
 use Rattle.std.proofs.lemmas.Simd.{map-map}
+use Rattle.std.proofs.lemmas.List.Folds.{list_all-map}
 use Rattle.qoi.specs.inner.block.Vectors.{is_full}
 use Rattle.qoi.specs.inner.block.Lanes.{Lane, mask, same_alpha}
 use Rattle.qoi.proofs.encoding.blocks.FullBlock.{neither}
@@ -12,4 +13,4 @@ pub returns : goal.returns
 returns c = λ ls alpha stands full.
     let kept = again c.where_is.result c.where_is.ensures (one (λ x. mask (x == 0)) alpha) in
     let all = each (λ l. mask (is_full l)) (one not_8 (two bit_or kept stands)) (λ (l : Lane) is. neither (same_alpha l) l.stands) in
-    sym (c.all_set.ensures (map is_full ls) (length-map ls is_full ∙ all.long) (all.is ∙ sym (map-map mask is_full ls))) ∙ full
+    sym (c.all_set.ensures (map is_full ls) (length-map ls is_full ∙ all.long) (all.is ∙ sym (map-map mask is_full ls)) ∙ list_all-map (λ b. b) is_full ls) ∙ full

@@ -12,15 +12,15 @@ use Rattle.qoi.proofs.encode.block.spelling.spell_block.Goals as goal
 pub returns : goal.returns
 returns c = λ s ps carry changes b.
     let ls : List Lane = lanes_of s.held s.last ps in
-    let red = plane_by s ps b.sixteen b.last_is (λ (p : RgbaPixel). p.r) c.args.red b.red_is in
+    let red = plane_by s.held s.last ps b.sixteen b.last_is (λ (p : RgbaPixel). p.r) c.args.red b.red_is in
     let d = changes.steps_are in
     let rep = changes.rep_is in
     let same_alpha = again c.where_is-same_alpha.result c.where_is-same_alpha.ensures (one (λ x. mask (x == 0)) d.a_is) in
     let as_diff = c.diff_steps-as_diff.ensures ls d in
     let as_luma = c.luma_steps-as_luma.ensures ls d in
     let fits = c.find_fits-fits.ensures ls as_diff as_luma same_alpha in
-    let stands = stands_by s ps b.sixteen b.last_is c.args.stands b.stands_are in
-    let places = plane_by s ps b.sixteen b.last_is hash c.args.places b.places_are in
+    let stands = stands_by s.held s.last ps b.sixteen b.last_is c.args.stands b.stands_are in
+    let places = plane_by s.held s.last ps b.sixteen b.last_is hash c.args.places b.places_are in
     let first = c.first_bytes-first.ensures ls as_diff as_luma fits places stands in
     let size = c.sizes_of.ensures ls fits stands in
     let count = c.count_repeats-count.ensures (map is_rep ls) (length-map ls is_rep ∙ lanes_long s.held s.last ps ∙ b.sixteen.long) (rep.is ∙ sym (map-map mask is_rep ls))

@@ -4,12 +4,12 @@ use Rattle.std.specs.Prelude.{not}
 use Rattle.std.proofs.lemmas.Bool.{true≢false, and_parts}
 use Rattle.std.proofs.lemmas.List.{length-map}
 use Rattle.qoi.specs.inner.block.Lanes.{mask}
-use Rattle.qoi.specs.inner.block.Vectors.{all_true}
+use Rattle.std.specs.List.{list_all}
 use Rattle.qoi.proofs.encoding.lanes.Lanewise.{not_8}
 use Rattle.qoi.proofs.encode.block.storing.are_short.Goals as goal
 
 -- none of them is 5
-none_five : (xs : List ℕ) → all_true (map (λ n. not (n == 5)) xs) ≡ true → (k : ℕ) → slice_index xs k ≢ 5
+none_five : (xs : List ℕ) → list_all (λ b. b) (map (λ n. not (n == 5)) xs) ≡ true → (k : ℕ) → slice_index xs k ≢ 5
 none_five [] all k e = absurd (omega (arith, e))
 none_five (x ∷ xs) all zero e = absurd (true≢false (sym (and_parts (not (x == 5)) _ all).0 ∙ ap (λ n. not (n == 5)) e))
 none_five (x ∷ xs) all (suc k) e = none_five xs (and_parts (not (x == 5)) _ all).1 k e

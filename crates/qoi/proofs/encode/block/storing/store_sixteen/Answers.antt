@@ -1,49 +1,38 @@
 -- Sixteen chunks, in either way.
-use Rattle.std.proofs.Common.{◌≡◌, ◌≢◌, ◌+◌, ◌<◌, ℕ, List, ◌++◌, length, map, slice_index, take, arith, sym, ap, ◌∙◌, subst, zero, suc, ◌%◌, ◌||◌, Bool, true, false, [], ◌∷◌, bit_and, refl}
+use Rattle.std.proofs.Common.{◌≡◌, ◌≢◌, ◌+◌, ◌<◌, ℕ, List, ◌++◌, length, map, slice_index, take, arith, sym, ap, ◌∙◌, subst, zero, suc, ◌%◌, Bool, true, [], ◌∷◌, bit_and, ◌≤◌}
 use Rattle.std.specs.List.{AllByRecursion}
-use Rattle.qoi.specs.declared.encode.block.planes.Planes.{Planes}
-use Rattle.qoi.specs.declared.encode.block.planes.Words.{Words}
-use Rattle.qoi.specs.declared.encode.block.spelling.Spelled.{Spelled}
 use Rattle.qoi.specs.Styles.{Style}
-use Rattle.qoi.specs.Qoi.{RgbaPixel, IsPixel, run_max, Past, pixel_eq}
-use Rattle.qoi.specs.inner.block.Lanes.{Lane, State, lanes_of, block_bytes, mask, fits_diff, fits_luma, same_alpha, size_by, size_of, lane_of, goes_on}
-use Rattle.qoi.specs.inner.block.Storing.{HaveCodes, HasCode, sixteen_chunks}
-use Rattle.qoi.specs.inner.block.Planes.{AreSixteen, ArePlanes, AreBlockWords, block_pixels}
-use Rattle.qoi.specs.inner.block.Vectors.{HasSpelled, sizes}
+use Rattle.qoi.specs.Qoi.{RgbaPixel, IsPixel, run_max, Past}
+use Rattle.qoi.specs.inner.block.Lanes.{Lane, State, lanes_of, block_bytes, mask, size_of, lane_of, goes_on, is_rep}
+use Rattle.qoi.specs.inner.block.Storing.{HaveCodes, sixteen_chunks}
+use Rattle.qoi.specs.inner.block.Planes.{Words, Planes, AreSixteen, ArePlanes, AreBlockWords, block_pixels}
+use Rattle.qoi.specs.inner.block.Vectors.{Spelled, HasSpelled, sizes}
 use Rattle.qoi.proofs.encoding.blocks.FullBlock.{full_lanes, full_written}
 use Rattle.qoi.proofs.encoding.blocks.PackedBlock.{block_sixteen}
-use Rattle.qoi.proofs.encoding.blocks.LaneBytes.{chunks_of, repeat_size}
+use Rattle.qoi.proofs.encoding.blocks.LaneBytes.{chunks_of, repeat_byte}
 use Rattle.qoi.proofs.encoding.lanes.LaneTests.{themselves}
 use Rattle.qoi.proofs.encoding.blocks.SpelledBlock.{lanes_long, lanes_are}
 use Rattle.qoi.proofs.encoding.stores.StoredBlock.{chunk_pixels, pixels_long, chunk_planes, sizes_long, sixteen_parts}
 use Rattle.qoi.proofs.encoding.blocks.StyledBytes.{firsts_long, pixels_in, out_in}
+use Rattle.qoi.proofs.encoding.lanes.LaneChunk.{parts_of}
 use Rattle.qoi.proofs.encode.block.storing.store_sixteen.Goals as goal
 
--- a size, with the one of a repeat that goes on taken away
-abbrev laid : ℕ → Bool → Bool → ℕ
-laid n r g = (n + bit_and (mask r) (mask g)) % 256
+-- a size that has a code
+abbrev HasCode : ℕ → Type 0
+HasCode n = (n ≤ 4) × (n ≢ 3)
 
--- that of a fresh lane, if it isn't 5
-fresh_coded : (st l k g : Bool) → laid (size_by st l k) false g ≢ 5 → HasCode (laid (size_by st l k) false g)
-fresh_coded st l k g n = grind arith
-
--- that of a repeat
-repeat_coded : (g : Bool) → HasCode (laid 1 true g)
-repeat_coded g = grind arith
-
--- of either
-one_coded : (held : Past) (q p : RgbaPixel) → IsPixel p → (r g : Bool) → pixel_eq p q ≡ r
-    → laid (size_of (lane_of held q p)) r g ≢ 5 → HasCode (laid (size_of (lane_of held q p)) r g)
-one_coded held q p i true g e n = subst (λ m. HasCode (laid m true g)) (sym (repeat_size (lane_of held q p) i e)) (repeat_coded g)
-one_coded held q p i false g e n =
-    let l = lane_of held q p in
-    fresh_coded (l.stands || fits_diff l) (fits_luma l) (same_alpha l) g n
+-- a lane's size, with the one of a repeat that goes on taken away, if it isn't 5
+laid_coded : (n : ℕ) (r g : Bool) → n ≤ 5 → n ≢ 3 → (r ≡ true → n ≡ 1) → (n + bit_and (mask r) (mask g)) % 256 ≢ 5 → HasCode ((n + bit_and (mask r) (mask g)) % 256)
+laid_coded n r g few not_three one not_five = (grind arith, λ e. grind arith)
 
 -- each size that isn't 5 has a code
 sizes_coded : (held : Past) (q : RgbaPixel) (ps : List RgbaPixel) → AllByRecursion IsPixel ps → (k : ℕ)
     → slice_index (sizes (lanes_of held q ps)) k ≢ 5 → HasCode (slice_index (sizes (lanes_of held q ps)) k)
-sizes_coded held q [] are k n = refl
-sizes_coded held q (p ∷ ps) are zero n = one_coded held q p are.0 (pixel_eq p q) (goes_on (lanes_of (p ∷ held) p ps)) refl n
+sizes_coded held q [] are k n = (omega arith, λ e. omega arith)
+sizes_coded held q (p ∷ ps) are zero n =
+    let l = lane_of held q p in
+    let parts = parts_of l in
+    laid_coded (size_of l) (is_rep l) (goes_on (lanes_of (p ∷ held) p ps)) parts.few parts.not_three (λ e. (repeat_byte l are.0 e).0) n
 sizes_coded held q (p ∷ ps) are (suc k) n = sizes_coded (p ∷ held) p ps are.1 k n
 
 -- sixteen chunks of what is spelled out are the block's

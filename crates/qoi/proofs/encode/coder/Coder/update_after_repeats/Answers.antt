@@ -1,9 +1,9 @@
 -- Repeats are put once, or not at all.
-use Rattle.std.proofs.Common.{IsTrue, nat_lt, ◌∷◌, ◌++◌, replicate, sym, ap, ◌∙◌, subst}
+use Rattle.std.proofs.Common.{IsTrue, nat_lt, ◌∷◌, ◌++◌, replicate, sym, ap, ◌∙◌, subst, true}
 use Rattle.qoi.specs.Qoi.{Past, previous}
-use Rattle.qoi.specs.Styles.{has_pixel}
 use Rattle.qoi.specs.inner.Coder.{held_in}
 use Rattle.qoi.specs.inner.Table.{Holds}
+use Rattle.std.specs.List.{list_any}
 use Rattle.qoi.proofs.format.ChunkSteps.{previous_repeats}
 use Rattle.qoi.proofs.encoding.coder.CoderTable.{fresh_repeats, repeats_unput, repeats_put}
 use Rattle.qoi.proofs.encoding.styles.StyledGroup.{placed_repeats}
@@ -26,6 +26,6 @@ returns-clause-state g c past before s =
             (rw w.in-Tight.is (repeats_put n past c.args.table.now w.put_if.new.self puts w.put_if.ensures.stays held)))
       ];
       last_is = s.last_is ∙ sym (previous_repeats n past);
-      begun_is = s.begun_is ∙ sym (ap has_pixel (fresh_repeats n past));
+      begun_is = s.begun_is ∙ sym (ap (list_any (λ p. true)) (fresh_repeats n past));
       placed_is = λ is. placed_repeats n past before c.args.self.now.last.placed (s.placed_is is);
     }

@@ -1,9 +1,8 @@
 -- Repeats and a fresh pixel further, until no pixel is left; then the last run.
 use Rattle.std.proofs.Common.{◌≡◌, ◌≢◌, ◌≤◌, ◌+◌, ◌*◌, ◌++◌, inl, inr, [], length, refl, sym, ◌∙◌, arith, subst, append-nil}
 use Rattle.std.proofs.lemmas.Bool.{true≢false, cases_lt}
-use Rattle.qoi.specs.declared.encode.piece.TheConstants.{RUNS_AT_ONCE}
 use Rattle.qoi.specs.Qoi.{Run, chunk_max}
-use Rattle.qoi.specs.inner.Coder.{pixels_in, kept_bytes, CoderBetween}
+use Rattle.qoi.specs.inner.Coder.{pixels_in, kept_bytes, CoderBetween, RUNS_AT_ONCE}
 use Rattle.qoi.proofs.encoding.coder.CoderLink.{then_passes}
 use Rattle.qoi.proofs.encoding.coder.CoderSteps.{last_run}
 use Rattle.qoi.proofs.encode.coder.Coder.write_each.Goals as goal

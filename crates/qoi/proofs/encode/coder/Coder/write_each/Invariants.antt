@@ -1,9 +1,8 @@
 -- The pixels up to here are written, each as at most five bytes, and after the first step the repeats
 -- that were carried.
 use Rattle.std.proofs.Common.{◌≢◌, [], ◌+◌, ◌*◌, ◌<◌, ◌≤◌, length}
-use Rattle.qoi.specs.declared.encode.piece.TheConstants.{RUNS_AT_ONCE}
 use Rattle.qoi.specs.Qoi.{chunk_max}
-use Rattle.qoi.specs.inner.Coder.{pixels_in, CoderPasses}
+use Rattle.qoi.specs.inner.Coder.{pixels_in, CoderPasses, RUNS_AT_ONCE}
 use Rattle.qoi.proofs.encode.coder.Coder.write_each.Given as goal
 
 abbrev pub invariant-loop-rest : goal.invariant-loop-rest

@@ -1,12 +1,13 @@
 -- The chunk is chosen by the table.
-use Rattle.std.proofs.Common.{◌≡◌, inl, inr, ◌≢◌, ◌/◌, ◌^◌, refl, sym, ap, ◌∙◌, arith, subst, take, ◌++◌, [], ◌∷◌, if◌then◌else◌}
+use Rattle.std.proofs.Common.{◌≡◌, inl, inr, ◌≢◌, ◌/◌, ◌^◌, refl, sym, ap, ◌∙◌, arith, subst, take, ◌++◌, [], ◌∷◌, if◌then◌else◌, true}
 use lib.Lanes.{digits_l}
+use Rattle.std.specs.List.{list_any}
 use Rattle.qoi.specs.Qoi.{Place, Past, IsPixel, hash, seen}
 use Rattle.qoi.specs.Runs.{runs_by}
-use Rattle.qoi.specs.Styles.{Reference, Places, Tight, has_pixel}
+use Rattle.qoi.specs.Styles.{Reference, Places, Tight}
 use Rattle.qoi.specs.inner.Coder.{held_in, kept_bytes}
-use Rattle.std.proofs.lemmas.Bool.{eq-eqb}
 use Rattle.qoi.specs.inner.Table.{Holds}
+use Rattle.std.proofs.lemmas.Bool.{eq-eqb}
 use Rattle.qoi.proofs.format.SamePixels.{hash_below}
 use Rattle.qoi.proofs.format.SeenTable.{holds_again}
 use Rattle.qoi.proofs.encoding.coder.CoderTable.{fresh_chosen, fresh_held, place_chosen}
@@ -44,7 +45,7 @@ returns-clause-written g c ahead rest differs none b =
     (record {
       table_is = fresh_held style past c.args.table.now c.put.new.self p new state.table_is c.put.ensures;
       last_is = refl;
-      begun_is = sym (ap has_pixel (fresh_more past p new));
+      begun_is = sym (ap (list_any (λ p. true)) (fresh_more past p new));
       placed_is = λ places. elim c.match-self.branch [
         | in-Places w ↦ w.self-is ∙ d.4
         | in-Reference w ↦ absurd (elim w.in-Reference.is [
@@ -72,7 +73,7 @@ returns-then-stands-clause-written g c ahead rest differs none b =
     (record {
       table_is = fresh_held style past table table p new state.table_is (λ held h. holds_again table p held (there held h) h);
       last_is = refl;
-      begun_is = sym (ap has_pixel (fresh_more past p new));
+      begun_is = sym (ap (list_any (λ p. true)) (fresh_more past p new));
       placed_is = λ places. elim c.match-self.branch [
         | in-Places w ↦ w.self-is ∙ c.if-stands.true ∙ sym (eq-eqb (hash p) (hash p) refl)
         | in-Reference w ↦ absurd (elim w.in-Reference.is [

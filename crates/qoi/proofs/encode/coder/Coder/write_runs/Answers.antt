@@ -2,10 +2,9 @@
 use Rattle.std.proofs.Common.{◌≡◌, ◌≢◌, ◌⊎◌, inl, inr, ◌+◌, ◌-◌, ◌/◌, ◌%◌, ◌<◌, List, [], ◌++◌, drop, replicate, append_assoc, Some, refl, sym, ap, ◌∙◌, arith, subst}
 use Rattle.std.proofs.lemmas.Bool.{true≢false}
 use Rattle.std.specs.List.{slice_get}
-use Rattle.qoi.specs.declared.encode.piece.TheConstants.{REPEATS_AT_ONCE}
-use Rattle.qoi.specs.Qoi.{RgbaPixel}
+use Rattle.qoi.specs.Qoi.{RgbaPixel, hash}
 use Rattle.qoi.specs.Runs.{IsCount}
-use Rattle.qoi.specs.inner.Coder.{pixels_in, kept_bytes, single}
+use Rattle.qoi.specs.inner.Coder.{pixels_in, kept_bytes, single_chunk, REPEATS_AT_ONCE}
 use Rattle.qoi.proofs.encoding.coder.CoderLink.{first_more, more_some, of_coder}
 use Rattle.qoi.proofs.encoding.coder.CoderSteps.{group_written, fulls_written}
 use Rattle.qoi.proofs.encoding.coder.PixelsIn.{NearGroup, near_group, near_some}
@@ -72,7 +71,7 @@ returns-clause-written g c = record {
       let full : n ≡ REPEATS_AT_ONCE - last.repeats → count % 62 ≡ 0 = λ e. omega (arith, e, last.few) in
       let ends : (slice_get later 0 ≢ Some last.px) ⊎ (count % 62 ≡ 0) =
       elim group.ends as (λ _. (slice_get later 0 ≢ Some last.px) ⊎ (count % 62 ≡ 0)) [ inl other ↦ inl (λ e. other (sym first ∙ e)) | inr e ↦ inr (full e) ] in
-      let one = single c.args.self.now.style last count in
+      let one = single_chunk c.args.self.now.style last.begun last.placed (hash last.px) count in
       of_coder c.update_after_repeats-2.ensures.style refl (group_written b n later one (ahead_is g here more) ends (λ _. inr (more_some rest more some, refl))
       (runs_written one count (kept_bytes c.args.piece.now) _ _ c.append_full_runs.ensures.kept (c.append_run.ensures.kept one c.single_repeat_byte.ensures)) c.update_after_repeats-2.ensures.left c.update_after_repeats-2.ensures.state);
 }

@@ -2,8 +2,8 @@
 use Rattle.std.proofs.Common.{◌≡◌, ◌≢◌, inl, inr, ◌+◌, [], ◌∷◌, ◌++◌, drop, replicate, Option, None, Some, refl, sym, ap, ◌∙◌, subst, arith, append_assoc, drop-drop, take-append-drop}
 use Rattle.std.proofs.lemmas.Option.{same_Some}
 use Rattle.std.specs.List.{slice_get}
-use Rattle.qoi.specs.Qoi.{RgbaPixel}
-use Rattle.qoi.specs.inner.Coder.{pixels_in, kept_bytes, single, CoderBetween}
+use Rattle.qoi.specs.Qoi.{RgbaPixel, hash}
+use Rattle.qoi.specs.inner.Coder.{pixels_in, kept_bytes, single_chunk, CoderBetween}
 use Rattle.qoi.proofs.encoding.coder.CoderLink.{of_coder}
 use Rattle.qoi.proofs.encoding.coder.CoderSteps.{group_written}
 use Rattle.qoi.proofs.encoding.coder.MarkedPixels.{get_drop}
@@ -34,7 +34,7 @@ returns-clause-written g c = record {
       let differs : px ≢ last.px = λ e. c.requires.fresh (is ∙ ap Some e) in
       let split : raw ++ more ≡ replicate n last.px ++ later =
       ap (λ ps. ps ++ more) (sym (take-append-drop n raw) ∙ ap (λ ps. ps ++ rest) c.requires.repeat) ∙ append_assoc (replicate n last.px) rest more in
-      let one = single c.args.self.now.style last count in
+      let one = single_chunk c.args.self.now.style last.begun last.placed (hash last.px) count in
       let some : later ≢ [] = λ none. (let no : ◌≡◌ {A = Option RgbaPixel} None (Some px) = ap (λ ps. slice_get ps 0) (sym none) ∙ first in cc) in
       let group = group_written b n later one split (inl (λ e. differs (same_Some _ _ (sym first ∙ e)))) (λ _. inr (some, refl))
       (rw c.requires.count at (c.append_run.ensures.kept _ c.single_repeat_byte.ensures)) c.update_after_repeats.ensures.left (rw c.requires.count at c.update_after_repeats.ensures.state) in

@@ -2,10 +2,9 @@
 use Rattle.std.proofs.Common.{ℕ, List, ◌-◌, ◌++◌, take, sym, ap, subst, arith}
 use Rattle.std.proofs.lemmas.List.{take-take}
 use Rattle.std.proofs.lemmas.Result.{err_from_is_err_and, IfErr-weaker, on_ok_weaker}
-use Rattle.qoi.specs.declared.encode.piece.TheConstants.{SPARE}
 use Rattle.qoi.specs.Qoi.{end_marker}
-use Rattle.qoi.specs.inner.Coder.{kept_bytes}
-use Rattle.qoi.specs.writers.Writes.{WroteBut, WroteBeginning}
+use Rattle.qoi.specs.inner.Coder.{kept_bytes, SPARE}
+use Rattle.qoi.specs.Writers.{WroteBut, WroteBeginning}
 use Rattle.qoi.proofs.encoding.piece.PieceSent.{front_sent, part_of_all}
 use Rattle.qoi.proofs.encoding.piece.WriterProgress.{begins_after, but_all, none_but}
 use Rattle.qoi.proofs.encode.piece.Piece.finish.Given.{Over}

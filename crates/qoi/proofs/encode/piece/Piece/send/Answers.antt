@@ -2,9 +2,8 @@
 use Rattle.std.proofs.Common.{◌-◌, sym, subst, arith}
 use Rattle.std.proofs.lemmas.List.{take-take}
 use Rattle.std.proofs.lemmas.Result.{err_from_is_err_and}
-use Rattle.qoi.specs.declared.encode.piece.TheConstants.{SPARE}
-use Rattle.qoi.specs.inner.Coder.{kept_bytes}
-use Rattle.qoi.specs.writers.Writes.{WroteBeginning}
+use Rattle.qoi.specs.inner.Coder.{kept_bytes, SPARE}
+use Rattle.qoi.specs.Writers.{WroteBeginning}
 use Rattle.qoi.proofs.encoding.piece.PieceSent.{moved_front, part_of_all}
 use Rattle.qoi.proofs.encode.piece.Piece.send.Goals as goal
 

@@ -4,8 +4,8 @@ use Rattle.std.specs.Io.KnownBytes.{Appends}
 use Rattle.qoi.specs.Qoi.{Header, header_bytes, IsValid}
 use Rattle.qoi.specs.Raw.{image_byte_count}
 use Rattle.qoi.specs.declared.encode.pixel_writer.kept.Kept.{Kept}
-use Rattle.qoi.specs.EncoderState.{EncoderState}
 use Rattle.qoi.specs.inner.Sending.{appended, ImageBetween, IsNew}
+use Rattle.qoi.specs.EncoderState.{EncoderState}
 use Rattle.qoi.specs.pieces.PixelWriter.{HasTaken}
 use Rattle.qoi.proofs.decoding.Promised.{capped_is}
 use Rattle.qoi.proofs.format.HeaderBytes.{tried_says}

@@ -2,11 +2,11 @@
 use Rattle.std.proofs.Common.{◌≡◌, ◌++◌, [], refl, sym, ap, ◌∙◌, subst, arith, append-nil, inr, rules}
 use Rattle.std.proofs.lemmas.Result.{MatchResult-weaker}
 use Rattle.std.proofs.KnownBytes.{Appends-trans}
-use Rattle.qoi.specs.EncoderState.{EncoderState}
 use Rattle.qoi.specs.Encoded.{IsFileOf, image_file}
 use Rattle.qoi.specs.Qoi.{IsValid}
 use Rattle.qoi.specs.declared.encode.pixel_writer.kept.Kept.{Kept}
 use Rattle.qoi.specs.inner.Sending.{appended, ImageBetween}
+use Rattle.qoi.specs.EncoderState.{EncoderState}
 use Rattle.qoi.specs.pieces.PixelWriter.{HasTaken}
 use Rattle.qoi.proofs.FileOf.{file_of_image, sends_file, sends_part}
 use Rattle.qoi.proofs.encoding.piece.ImagePieces.{image_ends, begins_appended}

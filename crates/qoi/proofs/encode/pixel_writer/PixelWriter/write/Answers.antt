@@ -3,8 +3,8 @@ use Rattle.std.proofs.Common.{◌≡◌, ◌++◌, [], inl, length, refl, sym, a
 use Rattle.std.proofs.KnownBytes.{Appends-nil, Appends-trans}
 use Rattle.qoi.specs.Qoi.{IsValid, AreBytes}
 use Rattle.qoi.specs.declared.encode.pixel_writer.kept.Kept.{Kept}
-use Rattle.qoi.specs.EncoderState.{EncoderState}
 use Rattle.qoi.specs.inner.Sending.{appended, EndsOpaque, GoesOn, ImageBetween}
+use Rattle.qoi.specs.EncoderState.{EncoderState}
 use Rattle.qoi.specs.pieces.PixelWriter.{and_raw, HasTaken}
 use Rattle.qoi.proofs.FileOf.{file_of_image, sends_part}
 use Rattle.qoi.proofs.encoding.piece.ImagePieces.{image_on, image_off, begins_appended}

@@ -1,8 +1,8 @@
 -- What came is written or held.
 use Rattle.std.proofs.Common.{rules, ◌++◌, [], refl, sym, ◌∙◌, arith, subst, append-nil}
 use Rattle.std.proofs.KnownBytes.{Appends-trans}
+use Rattle.qoi.specs.Writers.{AppendsBeginning}
 use Rattle.std.specs.Io.KnownBytes.{Appends}
-use Rattle.qoi.specs.writers.Writes.{AppendsBeginning}
 use Rattle.qoi.specs.inner.Coder.{kept_bytes}
 use Rattle.qoi.specs.inner.Sending.{appended, GoesOn}
 use Rattle.qoi.proofs.encoding.piece.BytesAhead.{then_on, then_breaks, stands, sent_on, sent_part}

@@ -1,11 +1,12 @@
 -- All that was ahead, and the end marker, was sent.
-use Rattle.std.proofs.Common.{rules, List, ℕ, ◌++◌, [], sym, ◌∙◌, subst}
-use Rattle.std.proofs.lemmas.Result.{MatchResult-weaker}
+use Rattle.std.proofs.Common.{rules, arith, List, ℕ, ◌++◌, [], sym, ◌∙◌, subst}
+use Rattle.std.proofs.lemmas.Result.{MatchResult-from_both, MatchResult-weaker}
 use Rattle.qoi.specs.Qoi.{end_marker}
 use Rattle.qoi.specs.inner.Coder.{kept_bytes}
 use Rattle.qoi.specs.inner.Sending.{Between}
-use Rattle.qoi.specs.writers.GenericWriter.{stream_writer, stream_laws}
-use Rattle.qoi.proofs.encoding.piece.BytesAhead.{then_ends, ends_early}
+use Rattle.qoi.specs.Writers.{wrote_laws}
+use Rattle.qoi.proofs.encoding.piece.BytesAhead.{all_sent, room_end, then_ends, ends_early}
+use Rattle.qoi.proofs.encoding.piece.PieceSent.{kept_length}
 use Rattle.qoi.proofs.encoding.piece.StreamSent.{appends_as, but_sent}
 use Rattle.qoi.proofs.encoding.piece.WriterProgress.{begins_after}
 use Rattle.qoi.proofs.decoding.Refusals.{handed_on}
@@ -21,9 +22,15 @@ starts g c ahead s =
     subst (Between ahead p (kept_bytes c.open-piece.result.piece)) (sym c.bytes.ensures.are)
     (subst (λ kept. Between ahead p kept c.args.kept.now.held) (sym (c.open-piece.ensures ∙ c.new.ensures)) s)
 
+pub finish-requires : goal.finish-requires
+finish-requires g c =
+    let last = c.write_left.new.piece in
+    let ready = c.in_ok-left.ensures.written.1.2 in
+    (omega arith, (omega (arith, kept_length last, room_end ready c.write_left.ensures (omega (arith, kept_length last, last.within))), ready.large))
+
 pub returns-in_err-left : goal.returns-in_err-left
 returns-in_err-left g c =
-    let r = c.in_err-left.ensures.written in
+    let r = c.in_err-left.ensures.written.0 in
     let here = (goal.at.returns-in_err-left g c).After-bytes in
     handed_on _ _ _ c.from_residual.ensures.1 (
       r.0,
@@ -40,20 +47,20 @@ pub returns : goal.returns
 returns g c =
     let here = (goal.at.returns g c).After-bytes in
     let contents = g.W.Write.contents in
-    let both = (stream_laws contents).both in
-    MatchResult-weaker c.write_end.result c.write_end.ensures
-    (λ _ ends. record {
+    let both = (wrote_laws _ _ _ _).both in
+    MatchResult-weaker c.finish.result (MatchResult-from_both c.finish.result _ _ c.finish.ensures.written c.finish.ensures.refused)
+    (λ _ went. record {
       all = λ ahead s.
-          (let w = (then_ends both c.in_ok-left.ensures.written.written both ends).all ahead (starts g here ahead s) in
+          (let w = (then_ends both c.in_ok-left.ensures.written.0 both (all_sent c.write_left.ensures went)).all ahead (starts g here ahead s) in
           let same = w.same_writer in
-          let went = appends_as contents (contents (stream_writer c.write_end.new.writer)) (ahead ++ end_marker) c.new-stream.ensures.value w.appended in
+          let went = appends_as contents (contents c.finish.new.writer.writer.now) (ahead ++ end_marker) c.new-stream.ensures.value w.appended in
           search rules);
     })
     (λ e r. (
       r.0,
       record {
         all = λ ahead s.
-            (let v = (then_ends both c.in_ok-left.ensures.written.written (begins_after both) r.1).all ahead (starts g here ahead s) in
+            (let v = (then_ends both c.in_ok-left.ensures.written.0 (begins_after both) (all_sent c.write_left.ensures r.1)).all ahead (starts g here ahead s) in
             let same = v.1.went.same_writer in
             let went = but_sent contents c.new-stream.ensures.value v.1 in
             (v.0, search rules));

@@ -24,23 +24,23 @@ held g c =
 
 pub returns-in_err-left-clause-written : goal.returns-in_err-left-clause-written
 returns-in_err-left-clause-written g c =
-    let r = c.in_err-left.ensures.written in
+    let r = c.in_err-left.ensures.written.0 in
     handed_on _ _ _ c.from_residual.ensures.1 (r.0, breaks_within c.split_at.result.1.now r.1 (came g (goal.at.returns-in_err-left-clause-written g c).After-write_pixels_apart))
 
 pub returns-then-len-eq0-clause-written : goal.returns-then-len-eq0-clause-written
 returns-then-len-eq0-clause-written g c =
     let part = c.split_at.result.1.now in
     let left = c.in_ok-left.left.now in
-    goes_within part c.write_pixels_apart.ensures.stays.0 c.in_ok-left.ensures.written.written (came g (goal.at.returns-then-len-eq0-clause-written g c).After-write_pixels_apart)
+    goes_within part c.write_pixels_apart.ensures.stays.0 c.in_ok-left.ensures.written.0 (came g (goal.at.returns-then-len-eq0-clause-written g c).After-write_pixels_apart)
     (ap (λ z. z ++ part) (c.push.ensures ∙ ap (λ z. z ++ left) (nil_from_length c.args.held.now (omega (arith, ap length c.bytes-len.ensures.are, c.if-len-eq0.true)))))
 
 pub returns-in_err-left-2-clause-written : goal.returns-in_err-left-2-clause-written
 returns-in_err-left-2-clause-written g c =
-    let r = c.in_err-left-2.ensures.written in
+    let r = c.in_err-left-2.ensures.written.0 in
     handed_on _ _ _ c.from_residual-in_err-left-2.ensures.1 (r.0, breaks_within c.split_at-2.result.1.now r.1 (held g (goal.at.returns-in_err-left-2-clause-written g c).After-write_pixels_apart-2))
 
 pub returns-clause-written : goal.returns-clause-written
 returns-clause-written g c =
     let rest = c.split_at-2.result.1.now in
-    goes_within rest c.write_pixels_apart-2.ensures.stays.0 c.in_ok-left-2.ensures.written.written (held g (goal.at.returns-clause-written g c).After-write_pixels_apart-2)
+    goes_within rest c.write_pixels_apart-2.ensures.stays.0 c.in_ok-left-2.ensures.written.0 (held g (goal.at.returns-clause-written g c).After-write_pixels_apart-2)
     (ap (λ z. z ++ rest) (c.replace.ensures ∙ c.copy_after-count.ensures.front))

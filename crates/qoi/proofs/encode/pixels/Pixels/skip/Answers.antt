@@ -1,8 +1,8 @@
 -- So many pixels have so many bytes.
 use Rattle.std.proofs.Common.{◌≡◌, length, drop, sym, ap, ◌∙◌, arith}
 use Rattle.std.proofs.lemmas.List.{length-drop}
-use Rattle.qoi.specs.Raw.{pixels_of}
 use Rattle.qoi.specs.inner.Coder.{pixels_in}
+use Rattle.qoi.specs.Raw.{pixels_of}
 use Rattle.qoi.proofs.encoding.lists.GroupRuns.{pixels_drop}
 use Rattle.qoi.proofs.encoding.coder.PixelsIn.{bytes_within}
 use Rattle.qoi.proofs.encode.pixels.Pixels.skip.Goals as goal

@@ -1,15 +1,11 @@
 -- Each is put together from its chunks.
-use Rattle.std.proofs.Common.{◌≡◌, ◌≢◌, [], ◌∷◌, replicate, slice_index, refl, ap, arith, rules, inl}
+use Rattle.std.proofs.Common.{[], ◌∷◌, replicate, refl, arith, rules, inl}
 use Rattle.qoi.specs.declared.error.Error.TheVariants.{IoError}
 use Rattle.qoi.specs.declared.chunk.Chunk.TheVariants.{Run, Rgb}
 use Rattle.qoi.specs.Qoi.{end_marker}
 use Rattle.qoi.specs.Verdicts.{IsWhole, IsCut, IsWrong}
-use Rattle.qoi.proofs.format.OneVerdict.{wrong_is_one, whole_not_cut}
+use Rattle.qoi.proofs.format.OneVerdict.{wrong_is_one, whole_not_cut, cut_not_wrong}
 use Rattle.qoi_tool.proofs.tests.library.definitions.verdict_examples.Goals as goal
-
--- eight zeros aren't the end marker
-zeros : replicate 8 0 ≢ end_marker
-zeros e = let last : 0 ≡ 1 = ap (λ bytes. slice_index bytes 7) e in absurd (omega (arith, last))
 
 -- `[]` is cut before the first pixel
 nothing : IsCut 1 [] [] []
@@ -21,6 +17,10 @@ nothing = record {
 -- eight zeros after the first pixel are wrong
 eight : IsWrong 1 (0xc0 ∷ replicate 8 0) (Run 1 ∷ []) (replicate 8 0) []
 eight = search rules
+
+-- eight zeros after no pixel are wrong
+alone : IsWrong 0 (replicate 8 0) [] (replicate 8 0) []
+alone = search rules
 
 -- of nine zeros after the first pixel, one is left
 nine : IsWrong 1 (0xc0 ∷ replicate 9 0) (Run 1 ∷ []) (replicate 8 0) (0 ∷ [])
@@ -49,8 +49,14 @@ returns-clause-taken_cut c _ is = absurd is
 pub returns-clause-taken_wrong : goal.returns-clause-taken_wrong
 returns-clause-taken_wrong c = (Run 1 ∷ [], replicate 8 0, eight)
 
+pub returns-clause-marker_not_cut : goal.returns-clause-marker_not_cut
+returns-clause-marker_not_cut c (cs, part, cut) = cut_not_wrong 0 (replicate 8 0) cs [] part (replicate 8 0) [] cut alone
+
+pub returns-clause-taken_marker_wrong : goal.returns-clause-taken_marker_wrong
+returns-clause-taken_marker_wrong c = ([], replicate 8 0, alone)
+
 pub returns-clause-marker_wrong : goal.returns-clause-marker_wrong
-returns-clause-marker_wrong c = (replicate 8 0, 7 ∷ [], refl, zeros, refl)
+returns-clause-marker_wrong c = (7 ∷ [], ([], replicate 8 0, search rules))
 
 pub returns-clause-taken_whole : goal.returns-clause-taken_whole
 returns-clause-taken_whole c (IoError i) is cut = whole_not_cut 1 _ _ cut.0 [] cut.1 marked cut.2

@@ -1,6 +1,6 @@
 -- The frames in front of `end` were found.
 use Rattle.std.proofs.Common.{ℕ, ◌≤◌, ◌-◌, List, length, take}
-use Rattle.qoi.specs.Frames.{AreFrames}
+use Rattle.qoi.specs.Tiles.{AreFrames}
 use Rattle.qoi_tool.proofs.tests.library.frames.find.Given as goal
 
 abbrev pub invariant-loop-offsets : goal.invariant-loop-offsets

@@ -16,7 +16,7 @@ valid c = subst (λ (s : PixelsState (List ℕ)). IsValid s.header) c.self.view_
 keeps : (c : After-copied) → c.args.self.now.refused ≡ false → KeepsPixels (channels_number c.args.self.now.channels) c.args.self.now.unread
 keeps c =
     subst (λ (s : PixelsState (List ℕ)). s.refused ≡ false → KeepsPixels (channels_number s.channels) s.unread) c.self.view_is
-    (λ going. (c.self.invariant.1, c.self.invariant.3 going))
+    c.self.invariant.3
 
 pub returns-clause-state : goal.returns-clause-state
 returns-clause-state c = search rules

@@ -1,10 +1,9 @@
 -- What was lent is decoded, and at the end of the image the end marker is taken.
 use Rattle.std.proofs.Common.{refl, ◌≡◌, ℕ, ◌/◌, ◌%◌, ◌<◌, ◌≤◌, ◌-◌, List, take, drop, take-append-drop, length, Option, arith, ◌∙◌, subst}
 use Rattle.std.proofs.lemmas.List.{length-take-le}
-use Rattle.qoi.specs.declared.decode.pixel_reader.unread.Unread.{Unread}
 use Rattle.qoi.specs.Raw.{IsChannels}
 use Rattle.qoi.specs.inner.Chunks.{RefusesChunks}
-use Rattle.qoi.specs.pieces.Unread.{KeepsNothing, IsUnread}
+use Rattle.qoi.specs.pieces.Unread.{Unread, KeepsNothing, IsUnread}
 use Rattle.qoi.proofs.format.WholePixels.{whole_pixels}
 use Rattle.qoi.proofs.decoding.Progress.{none_written}
 use Rattle.qoi.proofs.decoding.GivenMore.{faulted, gives_none, refuses_lent}
@@ -33,12 +32,12 @@ returns-in-Err-clause-step g c =
 
 pub returns-then-self-gt-DECODED_AHEAD-clause-step : goal.returns-then-self-gt-DECODED_AHEAD-clause-step
 returns-then-self-gt-DECODED_AHEAD-clause-step g c =
-    let pixels = c.requires.pixels.1 in
+    let pixels = c.requires.pixels in
     let out = c.front_of_image-front.new.out in
     let now = c.in-Ok.now in
     let old : length c.args.self.now.bytes ≡ 3072 = omega arith in
     let within : c.args.room ≤ length c.args.self.now.bytes = omega (arith, old, c.requires.room.1) in
-    let whole = minus_whole g.row.N c.args.self.now.undecoded now.at c.requires.channels pixels.0 c.in-Ok.ensures.read.goes_on.fillable.whole.1 in
+    let whole = minus_whole g.row.N c.args.self.now.undecoded now.at c.requires.channels pixels.1 c.in-Ok.ensures.read.goes_on.fillable.whole.1 in
     let size = length-take-le c.args.room out (omega (arith, within, c.front_of_image-front.auto.out)) in
     let below = c.in-Ok.ensures.read.goes_on.below refl (omega (arith, size, length-take-le c.args.room c.args.self.now.bytes within, c.requires.room.0)) in
     gives_none (λ n start given h.
@@ -47,7 +46,7 @@ returns-then-self-gt-DECODED_AHEAD-clause-step g c =
     (record c.args.self.now { table = c.front_of_image-front.new.table; last = now.last; bytes = z; from = 0; to = now.at; undecoded = c.args.self.now.undecoded - now.at })) (take-append-drop c.args.room out)
     (kept_read (take c.args.room out) (drop c.args.room out) c.requires.channels h c.requires.none l (c.in-Ok.ensures.read.goes_on.between l.gone _ _ l.before)
     below (omega (arith, size, c.if-self-gt-DECODED_AHEAD.true, c.requires.room.1))))
-    ((omega arith, omega (arith, below, size, c.requires.room.1)), (whole, pixels.1, pixels.2, λ some. absurd (omega (arith, some, c.requires.none))))
+    ((omega arith, omega (arith, below, size, c.requires.room.1)), whole, pixels.2, pixels.3, λ some. absurd (omega (arith, some, c.requires.none)))
     (omega (arith, c.requires.none, below, size, c.if-self-gt-DECODED_AHEAD.true, c.requires.room.1)) refl
 
 pub returns-in-Err-rest-clause-step : goal.returns-in-Err-rest-clause-step
@@ -61,12 +60,12 @@ returns-in-Err-rest-clause-step g c = record {
 
 pub returns-clause-step : goal.returns-clause-step
 returns-clause-step g c =
-    let pixels = c.requires.pixels.1 in
+    let pixels = c.requires.pixels in
     let size : length c.args.self.now.bytes ≡ 3072 = omega arith in
     let short : c.args.self.now.undecoded ≤ 3072 = omega (arith, c.if-self-gt-DECODED_AHEAD.false) in
     gives_none (λ n start given h.
     let l = rest_lent c.args.self.now c.requires.channels h c.requires.none size c.requires.some short in
     rest_read c.rest_of_image-rest.new.out c.requires.channels h c.requires.none l (c.in_default.ensures.read l.gone _ _ l.before)
     (omega (arith, short, size, c.rest_of_image-rest.auto.out)) (rest_whole c.requires.channels h c.requires.none.0 c.requires.some))
-    ((omega arith, omega (arith, short, size, c.rest_of_image-rest.auto.out)), (none_written g.row.N c.requires.channels, pixels.1, pixels.2, λ some. absurd (omega (arith, some, c.requires.none))))
+    ((omega arith, omega (arith, short, size, c.rest_of_image-rest.auto.out)), none_written g.row.N c.requires.channels, pixels.2, pixels.3, λ some. absurd (omega (arith, some, c.requires.none)))
     (omega (arith, c.requires.none)) refl

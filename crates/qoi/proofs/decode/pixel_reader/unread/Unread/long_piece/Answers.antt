@@ -17,15 +17,15 @@ returns-clause-step g c =
     let most = front_most g.row.N out c.requires.channels in
     let same : KeepsNothing c.args.self.now = (c.requires.asks.none, c.requires.run) in
     let size : length c.some_chunks.new.out ≡ length (take (length out / g.row.N * g.row.N) out) = c.some_chunks.auto.out in
-    let pixels = c.requires.asks.pixels.1 in
-    let whole = minus_whole g.row.N c.args.self.now.undecoded c.in-Ok.now.at c.requires.channels pixels.0 c.in-Ok.ensures.read.goes_on.fillable.whole.1 in
+    let pixels = c.requires.asks.pixels in
+    let whole = minus_whole g.row.N c.args.self.now.undecoded c.in-Ok.now.at c.requires.channels pixels.1 c.in-Ok.ensures.read.goes_on.fillable.whole.1 in
     record {
       read = λ n start given h.
           let l = front_lent c.args.self.now out c.requires.channels h same c.requires.asks.fits (omega (arith, long)) in
           long_read c.some_chunks.new.out _ c.requires.channels h same l (c.in-Ok.ensures.read.goes_on.between l.gone _ _ l.before)
           (c.in-Ok.ensures.read.goes_on.below refl (omega (arith, most, long))) (omega (arith, size, most.0, c.requires.asks.fits, same));
       within = search rules;
-      pixels = (c.requires.asks.pixels.0, (whole, pixels.1, pixels.2, λ some. absurd (omega (arith, some, same))));
+      pixels = (pixels.0, whole, pixels.2, pixels.3, λ some. absurd (omega (arith, some, same)));
       left = search rules;
       fault = refl;
     }

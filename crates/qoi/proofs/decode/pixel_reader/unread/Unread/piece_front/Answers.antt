@@ -10,7 +10,7 @@ returns-then-out-lt-IN_PLACE-clause-step g c = c.give_run.ensures.gives _
 
 pub returns-in-Err-clause-step : goal.returns-in-Err-clause-step
 returns-in-Err-clause-step g c =
-    refuses_lent (λ n start given h. piece_lent c.args.self.now c.args.out.now c.store_run.new.out c.requires.channels h c.requires.asks.none c.requires.asks.pixels.1 (omega (arith, c.if-out-lt-IN_PLACE.false)) (omega (arith, c.if-out-lt-IN_PLACE.false)) c.store_run.auto.out c.store_run.ensures)
+    refuses_lent (λ n start given h. piece_lent c.args.self.now c.args.out.now c.store_run.new.out c.requires.channels h c.requires.asks.none c.requires.asks.pixels (omega (arith, c.if-out-lt-IN_PLACE.false)) (omega (arith, c.if-out-lt-IN_PLACE.false)) c.store_run.auto.out c.store_run.ensures)
     c.in-Err.ensures.refused c.fail.ensures
 
 pub returns-then-now-out-clause-step : goal.returns-then-now-out-clause-step

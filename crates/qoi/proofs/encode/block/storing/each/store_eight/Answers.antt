@@ -1,5 +1,5 @@
 -- Twice four chunks.
-use Rattle.std.proofs.Common.{◌≡◌, ℕ, zero, suc, ◌+◌, ◌*◌, ◌<◌, ◌≤◌, List, [], ◌∷◌, slice_index, arith, refl, ◌∙◌, take}
+use Rattle.std.proofs.Common.{◌≡◌, ℕ, zero, suc, ◌+◌, ◌*◌, ◌<◌, ◌≤◌, List, slice_index, arith, refl, ◌∙◌, take}
 use lib.Lanes.{sum_l}
 use Rattle.qoi.proofs.encoding.stores.StoredBlock.{first_few}
 use Rattle.qoi.proofs.encoding.stores.StoredParts.{two_fours}
@@ -9,13 +9,13 @@ use Rattle.qoi.proofs.encode.block.storing.each.store_eight.Goals as goal
 end_few : (ss : List ℕ) (k e r : ℕ) → ((k : ℕ) → slice_index ss k ≤ 5) → r ≡ e → e ≡ sum_l (take (k + 1) ss) → r ≤ 5 * (k + 1)
 end_few ss k e r few is sum = omega (arith, first_few (k + 1) ss few)
 
--- four numbers that aren't more than m
-four_few : (m a b c d : ℕ) → a ≤ m → b ≤ m → c ≤ m → d ≤ m → (k : ℕ) → k < 4 → slice_index (a ∷ b ∷ c ∷ d ∷ []) k ≤ m
-four_few m a b c d la lb lc ld zero lt = la
-four_few m a b c d la lb lc ld (suc zero) lt = lb
-four_few m a b c d la lb lc ld (suc (suc zero)) lt = lc
-four_few m a b c d la lb lc ld (suc (suc (suc zero))) lt = ld
-four_few m a b c d la lb lc ld (suc (suc (suc (suc k)))) lt = absurd (omega arith)
+-- what holds of each number below 4
+each_of_four : (P : ℕ → Type 0) → P 0 → P 1 → P 2 → P 3 → (k : ℕ) → k < 4 → P k
+each_of_four P a b c d zero lt = a
+each_of_four P a b c d (suc zero) lt = b
+each_of_four P a b c d (suc (suc zero)) lt = c
+each_of_four P a b c d (suc (suc (suc zero))) lt = d
+each_of_four P a b c d (suc (suc (suc (suc k)))) lt = absurd (omega arith)
 
 pub store_four-requires-clause-few : goal.store_four-requires-clause-few
 store_four-requires-clause-few c =
@@ -23,7 +23,7 @@ store_four-requires-clause-few c =
     let e0 = end_few s.0 0 _ _ s.1.few c.after.ensures (c.ends-e.ensures s.0 s.1 0 (omega arith)) in
     let e1 = end_few s.0 1 _ _ s.1.few c.after-2.ensures (c.ends-e.ensures s.0 s.1 1 (omega arith)) in
     let e2 = end_few s.0 2 _ _ s.1.few c.after-3.ensures (c.ends-e.ensures s.0 s.1 2 (omega arith)) in
-    four_few 35 _ _ _ _ (omega arith) (omega arith) (omega arith) (omega arith)
+    each_of_four _ (omega arith) (omega arith) (omega arith) (omega arith)
 
 pub store_four-requires-2-clause-few : goal.store_four-requires-2-clause-few
 store_four-requires-2-clause-few c =
@@ -32,7 +32,7 @@ store_four-requires-2-clause-few c =
     let e4 = end_few s.0 4 _ _ s.1.few c.after-5.ensures (c.ends-e.ensures s.0 s.1 4 (omega arith)) in
     let e5 = end_few s.0 5 _ _ s.1.few c.after-6.ensures (c.ends-e.ensures s.0 s.1 5 (omega arith)) in
     let e6 = end_few s.0 6 _ _ s.1.few c.after-7.ensures (c.ends-e.ensures s.0 s.1 6 (omega arith)) in
-    four_few 35 _ _ _ _ (omega arith) (omega arith) (omega arith) (omega arith)
+    each_of_four _ (omega arith) (omega arith) (omega arith) (omega arith)
 
 pub returns-clause-near : goal.returns-clause-near
 returns-clause-near c =
@@ -51,5 +51,5 @@ returns-clause-written c = λ ss s.
     let e6 = c.after-7.ensures ∙ c.ends-e.ensures ss s 6 (omega arith) in
     let e7 = c.after-8.ensures ∙ c.ends-e.ensures ss s 7 (omega arith) in
     two_fours c.args.at c.after-8.result _ _ c.args.out.now c.store_four.new.out c.store_four-2.new.out _ _
-    (c.store_four.ensures.written ss 0 s.few (record { first = refl; second = e0; third = e1; fourth = e2 }))
-    (c.store_four-2.ensures.written ss 4 s.few (record { first = e3; second = e4; third = e5; fourth = e6 })) e7
+    (c.store_four.ensures.written ss 0 s.few (each_of_four _ refl e0 e1 e2))
+    (c.store_four-2.ensures.written ss 4 s.few (each_of_four _ e3 e4 e5 e6)) e7

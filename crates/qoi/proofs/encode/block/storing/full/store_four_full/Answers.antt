@@ -26,7 +26,7 @@ last v = pick_l 0 (v ++ replicate 16 255) (16 ∷ 12 ∷ 13 ∷ 14 ∷ 15 ∷ 16
 four_full : (xs : List ℕ) → AreFour xs → take 15 (three (bytes_in xs)) ++ take 5 (last (bytes_in xs)) ≡ full_bytes (map pixel_of_word xs)
 four_full (a ∷ b ∷ c ∷ d ∷ []) f =
     let n = four_numbers (a ∷ b ∷ c ∷ d ∷ []) f in
-    let e = (λ i. bytes_in (n.packed i)) ∙ bytes_of_words (pixel_of_word a) (pixel_of_word b) (pixel_of_word c) (pixel_of_word d) n.are.0 n.are.1.0 n.are.1.1.0 n.are.1.1.1.0 in
+    let e = (λ i. bytes_in (n.words_are i)) ∙ bytes_of_words (pixel_of_word a) (pixel_of_word b) (pixel_of_word c) (pixel_of_word d) n.are.0 n.are.1.0 n.are.1.1.0 n.are.1.1.1.0 in
     λ i. take 15 (three (e i)) ++ take 5 (last (e i))
 four_full xs f = absurd (let l = f.0 in omega arith)
 
