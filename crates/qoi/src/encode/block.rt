@@ -147,7 +147,7 @@ impl Block {
         ensures placed { (stood : List Bool) → style ≡ Places → stands ≡ map mask stood
             → result.placed ≡ slice_index_or stood (15 - result.count) false }
     {
-        // If the block doesn't repeat whole, at most fifteen are left.
+        // If the block doesn't repeat whole, at most fifteen are left: the remainder changes nothing.
         let count = x.count.to_array()[15] % 16;
         let placed = match style {
             Reference | Tight => false,

@@ -18,9 +18,9 @@ use crate::types::Channels::{self, Rgb, Rgba};
 use crate::types::Style::{self, Places, Reference, Tight};
 use crate::writers::Writer;
 
-/// What is known between two calls: the table, channels and style of the image, and the last pixel
-/// that was written or repeated. Channels and style stand between table and pixel, since the zeros
-/// of both at the start would be cleared by a call.
+/// What is known between two calls: the table, channels and style of the image, and its last pixel,
+/// with the repeats that wait and whether a fresh one came. Channels and style stand between table
+/// and pixel, since the zeros of both at the start would be cleared by a call.
 #[derive(Drop)]
 pub(super) struct Pending {
     pub(super) table: PixelTable,

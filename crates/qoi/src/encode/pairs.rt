@@ -32,7 +32,7 @@ fn begin_with_pairs<const N: usize>(last: Packed, raw: Pixels<N>) -> bool
 }
 
 /// Whether the pixels go by `write_pairs`: if they are many, and two pairs of a repeat and a fresh
-/// pixel come next, or come after a fresh pixel. Not in three channels.
+/// pixel come next, or come behind the first pixel. Not in three channels.
 #[inline(always)]
 pub(super) fn go_by_pairs<const N: usize>(last: Packed, raw: Pixels<N>) -> bool
     requires { pixels_in raw ≢ [] }

@@ -20,7 +20,7 @@ pub(super) const DECODED_AHEAD: usize = 3072;
 pub(super) const IN_PLACE: usize = 512;
 
 /// How many bytes to decode at once, and to keep, for a piece of `size` bytes of which so many are
-/// done: just enough after chunks in place, else all that can be kept.
+/// done, if more is left of the image: just enough after chunks in place, else all that can be kept.
 #[inline]
 pub(super) fn kept_room(size: usize, done: usize) -> usize
     requires within { done ≤ size }

@@ -1,5 +1,5 @@
-//! The chunks of an image whose raw bytes come piece by piece, through the encoder's `Piece` to a
-//! writer (QOI specification 1.0, "Data").
+//! The chunks of an image whose raw bytes come in several calls, through the encoder's `Piece`, which
+//! holds bytes of the file, to a writer (QOI specification 1.0, "Data").
 ghost use Rattle.std.specs.Prelude.{◌≡◌, ◌⊎◌, ◌+◌, ◌*◌, ◌%◌, ◌<◌, ◌≤◌, [], ◌++◌, length, IfOk, IfErr, OnOk};
 ghost use Rattle.qoi.specs.Errors.{IsIoError};
 ghost use Rattle.qoi.specs.Qoi.{pixels_max};
