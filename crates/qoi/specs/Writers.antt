@@ -61,6 +61,10 @@ module _ {W : Type 0} (name : W → GName) (contents : W → Option (List ℕ)) 
     counts = λ a b bytes p. p.counted;
   }
 
+-- which buffer a writer has
+abbrev pub buffer_name : BytesMut → GName
+buffer_name s = s.buf.ghost_name
+
 -- the bytes that a buffer's writer has written so far
 abbrev pub written_bytes : BytesMut → List ℕ
 written_bytes s = take s.written s.buf.now
@@ -71,12 +75,24 @@ bytes_left s = drop s.written s.buf.now
 
 -- a buffer is written from the front
 abbrev pub BufferWrote : BytesMut → List ℕ → BytesMut → Type 0
-BufferWrote = Wrote (λ s. s.buf.ghost_name) (λ s. Some (written_bytes s)) bytes_left (λ s. length (bytes_left s))
+BufferWrote = Wrote buffer_name (λ s. Some (written_bytes s)) bytes_left (λ s. length (bytes_left s))
 
 -- a vector is appended to within its capacity
 abbrev pub VecWrote : VecMut → List ℕ → VecMut → Type 0
 VecWrote = Wrote (λ s. s.vec.ghost_name) (λ s. Some s.vec.now.items) (λ _. []) (λ s. s.room)
 
+-- which writer of the standard library it is
+abbrev pub stream_name : {W : Type 0} → GenericWriter W → GName
+stream_name s = s.writer.ghost_name
+
+-- that writer as it stands
+abbrev pub stream_writer : {W : Type 0} → GenericWriter W → W
+stream_writer s = s.writer.now
+
+-- how many bytes it can still be given
+abbrev pub stream_room : {W : Type 0} → GenericWriter W → ℕ
+stream_room s = s.room
+
 -- a writer of the standard library, by reference, whose contract may state its bytes
 abbrev pub StreamWrote : {W : Type 0} → (W → Option (List ℕ)) → GenericWriter W → List ℕ → GenericWriter W → Type 0
-StreamWrote contents = Wrote (λ s. s.writer.ghost_name) (λ s. contents s.writer.now) (λ _. []) (λ s. s.room)
+StreamWrote contents = Wrote stream_name (λ s. contents (stream_writer s)) (λ _. []) stream_room

@@ -56,12 +56,12 @@ pub struct BytesMut<'a> {
 }
 
 impl<'a> BytesMut<'a> {
-    ghost use Rattle.qoi.specs.Writers.{BufferWrote, written_bytes, bytes_left};
+    ghost use Rattle.qoi.specs.Writers.{BufferWrote, buffer_name, written_bytes, bytes_left};
 
     /// A writer over the whole buffer, in which nothing is written yet.
     #[inline]
     pub fn new(buf: &'a mut [u8]) -> BytesMut<'a>
-        ensures same_buffer { result.buf.ghost_name ≡ buf.entry.ghost_name }
+        ensures same_buffer { buffer_name result ≡ buf.entry.ghost_name }
         ensures written { written_bytes result ≡ [] }
         ensures left { bytes_left result ≡ buf.old }
     {
@@ -175,11 +175,13 @@ pub struct GenericWriter<'a, W> {
 }
 
 impl<'a, W: Write> GenericWriter<'a, W> {
+    ghost use Rattle.qoi.specs.Writers.{stream_name, stream_writer, stream_room};
+
     /// A writer that can still take the greatest `usize` of bytes.
     pub fn new(writer: &'a mut W) -> GenericWriter<'a, W>
-        ensures same_writer { result.writer.ghost_name ≡ writer.entry.ghost_name }
-        ensures value { result.writer.now ≡ writer.old }
-        ensures room { result.room ≡ usize.MAX }
+        ensures same_writer { stream_name result ≡ writer.entry.ghost_name }
+        ensures value { stream_writer result ≡ writer.old }
+        ensures room { stream_room result ≡ usize.MAX }
     {
         GenericWriter {
             writer,
@@ -189,11 +191,11 @@ impl<'a, W: Write> GenericWriter<'a, W> {
 }
 
 impl<'a, W: Write> Writer for GenericWriter<'a, W> {
-    ghost use Rattle.qoi.specs.Writers.{StreamWrote, wrote_laws};
+    ghost use Rattle.qoi.specs.Writers.{StreamWrote, stream_room, wrote_laws};
 
     ghost wrote = { StreamWrote W.contents };
 
-    ghost room = { λ s. s.room };
+    ghost room = { stream_room };
 
     ghost IsFault = { IsIoError };
 

@@ -6,8 +6,7 @@ use crate::encode::piece::REPEATS_AT_ONCE;
 use crate::packed::Packed;
 use crate::utils::skip;
 
-/// From so many raw bytes on it is asked whether they go by a loop of their own: with fewer, to ask takes
-/// longer than it brings.
+/// With fewer raw bytes, to ask whether they go by a loop of their own takes longer than it brings.
 pub(super) const MANY_BYTES: usize = 1024;
 
 /// Raw bytes of whole pixels, which have `N` bytes each.
