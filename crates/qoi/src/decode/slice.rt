@@ -64,7 +64,7 @@ fn careful_chunks<'a, const N: usize, const F: usize, const RUN_FITS: bool, cons
     Some(Left { reached: now, rest })
 }
 
-// `careful_chunks`, but by the fast loop while there is room ahead.
+// What `careful_chunks` decodes: first by `fast_chunks` of `blocks`, then by itself.
 #[inline(always)]
 fn slice_chunks<'a, const N: usize, const F: usize, const RUN_FITS: bool>(
     table: &mut TermTable,

@@ -11,13 +11,13 @@ ghost use Rattle.qoi.specs.inner.Sending.{pixel_size, EndsOpaque};
 ghost use Rattle.qoi.specs.pieces.PixelWriter.{WriterState, HasTaken, HasFailed, RefusesRaw, SendsSome, and_raw, raw_left};
 
 mod kept;
-mod pieces;
+mod sending;
 
 use crate::consts::QOI_HEADER_SIZE;
 use crate::encode::chunks::Pending;
 use crate::encode::piece::FULL_ROOM;
 use crate::encode::pixel_writer::kept::{Held, Kept};
-use crate::encode::pixel_writer::pieces::{send_bytes, take_raw, write_held};
+use crate::encode::pixel_writer::sending::{send_bytes, take_raw, write_held};
 use crate::error::{Error, Result};
 use crate::header::Header;
 use crate::types::Style;

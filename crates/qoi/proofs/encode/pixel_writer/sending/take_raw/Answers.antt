@@ -8,7 +8,7 @@ use Rattle.qoi.specs.inner.Sending.{appended, GoesOn}
 use Rattle.qoi.proofs.encoding.piece.BytesAhead.{then_on, then_breaks, stands, sent_on, sent_part}
 use Rattle.qoi.proofs.encoding.piece.StreamSent.{but_sent}
 use Rattle.qoi.proofs.decoding.Refusals.{handed_on}
-use Rattle.qoi.proofs.encode.pixel_writer.pieces.take_raw.Goals as goal
+use Rattle.qoi.proofs.encode.pixel_writer.sending.take_raw.Goals as goal
 
 pub returns-in_err-rest-clause-written : goal.returns-in_err-rest-clause-written
 returns-in_err-rest-clause-written g c =

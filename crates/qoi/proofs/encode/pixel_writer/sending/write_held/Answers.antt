@@ -10,9 +10,9 @@ use Rattle.qoi.proofs.encoding.piece.PieceSent.{kept_length}
 use Rattle.qoi.proofs.encoding.piece.StreamSent.{appends_as, but_sent}
 use Rattle.qoi.proofs.encoding.piece.WriterProgress.{begins_after}
 use Rattle.qoi.proofs.decoding.Refusals.{handed_on}
-use Rattle.qoi.proofs.encode.pixel_writer.pieces.write_held.Given.{Over}
-use Rattle.qoi.proofs.encode.pixel_writer.pieces.write_held.Goals.{After-bytes}
-use Rattle.qoi.proofs.encode.pixel_writer.pieces.write_held.Goals as goal
+use Rattle.qoi.proofs.encode.pixel_writer.sending.write_held.Given.{Over}
+use Rattle.qoi.proofs.encode.pixel_writer.sending.write_held.Goals.{After-bytes}
+use Rattle.qoi.proofs.encode.pixel_writer.sending.write_held.Goals as goal
 
 -- nothing is in the piece before the bytes that were held
 starts : (g : Over) (c : After-bytes g) (ahead : List ℕ) → Between ahead c.args.kept.now.pending [] c.args.kept.now.held

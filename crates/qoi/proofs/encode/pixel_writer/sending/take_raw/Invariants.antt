@@ -2,7 +2,7 @@
 use Rattle.std.proofs.Common.{◌+◌, ◌≤◌, [], ◌++◌, length}
 use Rattle.qoi.specs.inner.Coder.{kept_bytes}
 use Rattle.qoi.specs.inner.Sending.{appended, GoesOn, StaysIn}
-use Rattle.qoi.proofs.encode.pixel_writer.pieces.take_raw.Given as goal
+use Rattle.qoi.proofs.encode.pixel_writer.sending.take_raw.Given as goal
 
 abbrev pub invariant-loop-writer : goal.invariant-loop-writer
 invariant-loop-writer g l = record {

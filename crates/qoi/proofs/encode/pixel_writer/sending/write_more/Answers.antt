@@ -3,9 +3,9 @@ use Rattle.std.proofs.Common.{◌≡◌, ◌++◌, length, sym, ap, ◌∙◌, a
 use Rattle.qoi.proofs.encoding.piece.BytesAhead.{goes_within, breaks_within}
 use Rattle.std.proofs.lemmas.List.{nil_from_length}
 use Rattle.qoi.proofs.decoding.Refusals.{handed_on}
-use Rattle.qoi.proofs.encode.pixel_writer.pieces.write_more.Given.{Over}
-use Rattle.qoi.proofs.encode.pixel_writer.pieces.write_more.Goals.{After-write_pixels_apart, After-write_pixels_apart-2}
-use Rattle.qoi.proofs.encode.pixel_writer.pieces.write_more.Goals as goal
+use Rattle.qoi.proofs.encode.pixel_writer.sending.write_more.Given.{Over}
+use Rattle.qoi.proofs.encode.pixel_writer.sending.write_more.Goals.{After-write_pixels_apart, After-write_pixels_apart-2}
+use Rattle.qoi.proofs.encode.pixel_writer.sending.write_more.Goals as goal
 
 -- none are held, and whole pixels came
 came : (g : Over) (c : After-write_pixels_apart g) → c.args.held.now ++ c.args.raw.now ≡ c.split_at.result.0.now ++ c.split_at.result.1.now
