@@ -19,8 +19,9 @@ pub(super) const DECODED_AHEAD: usize = 3072;
 /// A piece of at least so many bytes is decoded in place.
 pub(super) const IN_PLACE: usize = 512;
 
-/// How many bytes to decode at once, and to keep, for a piece of `size` bytes of which so many are
-/// done, if more is left of the image: just enough after chunks in place, else all that can be kept.
+/// Into how many bytes to decode at once, for a piece of `size` bytes of which so many are done, if more
+/// is left of the image: after chunks in place what the piece lacks and a run's room, which may stay
+/// empty, else all that can be kept.
 #[inline]
 pub(super) fn kept_room(size: usize, done: usize) -> usize
     requires within { done ≤ size }

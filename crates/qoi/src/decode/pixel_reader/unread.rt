@@ -244,8 +244,9 @@ impl Unread {
         Ok(now.at)
     }
 
-    // Decodes ahead of the caller, into the bytes that are kept: chunks for `room` of them or, if at
-    // most `DECODED_AHEAD` of the image are left, all of these and then the end marker.
+    // Decodes ahead of the caller, into the bytes that are kept: chunks into `room` of them, of which
+    // fewer than `RUN_ROOM` stay empty, or, if at most `DECODED_AHEAD` of the image are left, all of
+    // these and then the end marker.
     fn decode_ahead<R: Chunks<N, F>, const N: usize, const F: usize>(
         &mut self,
         reader: &mut R,
