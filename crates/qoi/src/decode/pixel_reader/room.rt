@@ -20,8 +20,8 @@ pub(super) const DECODED_AHEAD: usize = 3072;
 pub(super) const IN_PLACE: usize = 512;
 
 /// Into how many bytes to decode at once, for a piece of `size` bytes of which so many are done, if more
-/// is left of the image: after chunks in place what the piece lacks and a run's room, which may stay
-/// empty, else all that can be kept.
+/// is left of the image: behind these what the piece lacks and a run's room, which may stay empty; if
+/// none are done, all that can be kept.
 #[inline]
 pub(super) fn kept_room(size: usize, done: usize) -> usize
     requires within { done ≤ size }
