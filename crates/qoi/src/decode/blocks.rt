@@ -1,7 +1,7 @@
 //! Chunks in memory while input and output have room ahead, from any pixel on: in blocks, after
-//! each of which a row of RGB or of RGBA chunks is looked for (`full_rows`), and then one of plain
-//! chunks (`plain_rows`). So such rows cost the fast loop no test a chunk. A row here is chunks one after the other, and not a
-//! row of the image; `ROW` is for how many short ones room is tested at once.
+//! each of which a row of RGB or of RGBA chunks is looked for (`full_rows`), then one of plain
+//! chunks (`plain_rows`): so these cost the fast loop no test a chunk. Such a row is chunks one after
+//! the other, not a row of the image; `ROW` is for how many short ones room is tested at once.
 ghost use Rattle.std.specs.Prelude.{◌≡◌, ◌⊎◌, ◌+◌, ◌*◌, ◌<◌, ◌≤◌, length, drop, Some, true};
 
 use crate::decode::fast::{FEW, INPUT_ROOM, OUTPUT_ROOM, Progress};

@@ -188,7 +188,6 @@ pub(super) fn write_block<'p, const N: usize, const STYLE: u8, const ROOM: usize
     let Piece { bytes, end } = piece.piece;
     let places = index_positions(block.planes);
     store_places::<ROOM, FULL>(places, bytes);
-    // Two stores away from each other; `run_end` says whether the run's byte stays.
     carry.store_run(style, bytes, end);
     let lanes = places.to_array();
     let stands = put_block(table, read_places::<ROOM, FULL>(&lanes, bytes), block.words);

@@ -31,7 +31,7 @@ pub(super) const SMALL_ROOM: usize = 512 + SPARE;
 /// The least room, of a piece of 128 bytes, for a tiny image that goes to memory.
 pub(super) const TINY_ROOM: usize = 128 + SPARE;
 
-/// The room for the file of an image of fewer than `FEW_BYTES` raw bytes: header, chunks and end marker.
+/// The room for the file of an image below `FEW_BYTES` raw bytes: header, chunks and end marker.
 pub(super) const FEW_ROOM: usize = 16 + SPARE;
 
 /// The most runs that are kept at a time, stored at once as a vector.

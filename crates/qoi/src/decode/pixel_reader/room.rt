@@ -19,9 +19,8 @@ pub(super) const DECODED_AHEAD: usize = 3072;
 /// A piece of at least so many bytes is decoded in place.
 pub(super) const IN_PLACE: usize = 512;
 
-/// Into how many bytes to decode at once, for a piece of `size` bytes of which so many are done, if more
-/// is left of the image: behind these what the piece lacks and a run's room, which may stay empty; if
-/// none are done, all that can be kept.
+/// Room to decode into for a piece of `size` bytes, so many of them done, if more is left of the
+/// image: all that can be kept or, if some are done, what the piece lacks and what a run may take.
 #[inline]
 pub(super) fn kept_room(size: usize, done: usize) -> usize
     requires within { done ≤ size }

@@ -244,9 +244,8 @@ impl Unread {
         Ok(now.at)
     }
 
-    // Decodes ahead of the caller, into the bytes that are kept: chunks into `room` of them, of which
-    // fewer than `RUN_ROOM` stay empty, or, if at most `DECODED_AHEAD` of the image are left, all of
-    // these and then the end marker.
+    // Decodes ahead of the caller, and keeps it: chunks into `room` bytes, of which fewer than 256
+    // stay empty, or, if at most `DECODED_AHEAD` of the image are left, all these and the marker.
     fn decode_ahead<R: Chunks<N, F>, const N: usize, const F: usize>(
         &mut self,
         reader: &mut R,
