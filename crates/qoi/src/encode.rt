@@ -25,7 +25,7 @@ mod table;
 
 use crate::consts::{QOI_HEADER_SIZE, QOI_PADDING_SIZE};
 use crate::encode::chunks::{FEW_BYTES, encode_few, encode_file};
-use crate::encode::piece::{FULL_ROOM, SMALL_ROOM, SPARE, TINY_ROOM};
+use crate::encode::piece::{FEW_ROOM, FULL_ROOM, SMALL_ROOM, SPARE, TINY_ROOM};
 pub use crate::encode::pixel_writer::PixelWriter;
 use crate::error::{Error, Result};
 use crate::header::Header;
@@ -249,10 +249,7 @@ impl<'a> Encoder<'a> {
         ensures { WritesImage W.wrote W.IsFault self.now writer.old writer.new result }
     {
         if self.data.len() < FEW_BYTES {
-            return encode_few(writer, self);
-        }
-        if self.data.len() < TINY_ROOM - SPARE {
-            return encode_file::<W, TINY_ROOM>(writer, self);
+            return encode_few::<W, FEW_ROOM>(writer, self);
         }
         if self.data.len() < FULL_ROOM - SPARE {
             return encode_file::<W, SMALL_ROOM>(writer, self);
@@ -287,7 +284,10 @@ impl<'a> Encoder<'a> {
         let mut writer = BytesMut::new(buf);
         // Asked here first: each call that passes a `Result` on copies its room.
         if self.data.len() < FEW_BYTES {
-            return encode_few(&mut writer, self);
+            return encode_few::<_, FEW_ROOM>(&mut writer, self);
+        }
+        if required <= TINY_ROOM - SPARE {
+            return encode_few::<_, TINY_ROOM>(&mut writer, self);
         }
         self.write_to_memory(&mut writer)
     }
@@ -327,7 +327,7 @@ impl<'a> Encoder<'a> {
     {
         let mut writer = GenericWriter::new(writer);
         if self.data.len() < FEW_BYTES {
-            return encode_few(&mut writer, self);
+            return encode_few::<_, FEW_ROOM>(&mut writer, self);
         }
         encode_file::<_, FULL_ROOM>(&mut writer, self)
     }

@@ -3,6 +3,7 @@
 use Rattle.std.specs.Prelude.{◌≡◌, ⊤, ℕ, ◌+◌, ◌*◌, ◌%◌, ◌<◌, ◌≤◌, ◌⊎◌, List, [], ◌++◌, length, Option, None, Result, MatchResult, IfOk}
 use Rattle.std.specs.Borrow.{Bor}
 pub use Rattle.qoi.specs.declared.encode.piece.OpenPiece.{OpenPiece}
+use Rattle.qoi.specs.declared.encode.piece.Piece.{Piece}
 pub use Rattle.qoi.specs.declared.encode.chunks.Pending.{Pending}
 use Rattle.qoi.specs.Styles.{Style}
 use Rattle.qoi.specs.Encoded.{IsFileOf, image_file}
@@ -36,6 +37,19 @@ StaysIn p p' = (p'.channels ≡ p.channels) × (p'.style ≡ p.style)
 -- and the chunks of these raw bytes
 abbrev pub Between : (ahead : List ℕ) → Pending → (kept raw : List ℕ) → Type 0
 Between ahead p kept raw = CoderBetween p.style ahead (pixels_of (pixel_size p) raw) p.table p.last kept
+
+-- the coder went on, whatever raw bytes follow: what was ahead still is
+pub record CoderGoes (p : Pending) (kept raw : List ℕ) (p' : Pending) (kept' raw' : List ℕ) : Type 0 where
+  pub on : (ahead more : List ℕ) → Between ahead p kept (raw ++ more) → Between ahead p' kept' (raw' ++ more)
+
+-- whole pixels went into the piece, until it was full or fewer than a block has were left
+pub record FillsPiece {size : ℕ} (p : Pending) (piece : OpenPiece size) (raw : List ℕ) (p' : Pending) (piece' : Piece size) (raw' : List ℕ) : Type 0 where
+  pub goes : CoderGoes p (kept_bytes piece.piece) raw p' (kept_bytes piece') raw'
+  pub opaque : EndsOpaque p'
+  pub whole : length raw' % pixel_size p' ≡ 0
+  pub less : 16 * pixel_size p ≤ length raw → length raw' < length raw
+  pub same : length raw < 16 * pixel_size p → piece' ≡ piece.piece
+  pub until : (length raw' < 16 * pixel_size p') ⊎ (size ≤ piece'.end + SPARE)
 
 module _ {W : Type 0} (wrote : W → List ℕ → W → Type 0) (a : W) (p : Pending) (kept raw : List ℕ) where
   -- From one state to another, whatever raw bytes follow: of the bytes that were ahead the first ones

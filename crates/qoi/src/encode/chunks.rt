@@ -2,7 +2,7 @@
 //! or those of some raw bytes.
 ghost use Rattle.std.specs.Prelude.{◌≡◌, ℕ, ◌-◌, ◌*◌, ◌%◌, ◌<◌, ◌≤◌, List, length};
 ghost use Rattle.qoi.specs.Encoded.{max_file_len};
-ghost use Rattle.qoi.specs.inner.Sending.{IsNew, pixel_size, EndsOpaque, StaysIn, Between, IsReady, WritesWhole, WritesImage};
+ghost use Rattle.qoi.specs.inner.Sending.{IsNew, pixel_size, EndsOpaque, StaysIn, Between, FillsPiece, IsReady, WritesWhole, WritesImage};
 ghost use Rattle.qoi.specs.Styles.{style_of};
 ghost use Rattle.qoi.specs.inner.Coder.{kept_bytes, CoderEnds, SPARE, FULL_ROOM};
 ghost use Rattle.qoi.specs.Raw.{pixels_of};
@@ -44,37 +44,62 @@ impl Pending {
     }
 }
 
-// Writes whole pixels of `N` channels (see `write_pixels`), in the style of the number `STYLE`
+// Writes whole pixels of `N` channels (see `fill_piece`), in the style of the number `STYLE`
 // (`style_of`). For each pair the compiler makes a loop of its own: one for all would test the style at
-// each pixel.
+// each pixel. The last pixel isn't copied: to read it as a whole, just after its parts were stored,
+// waits until all are in the cache.
 #[inline(always)]
-fn write_in_style<'a, 'p, W: Writer, const N: usize, const STYLE: u8, const ROOM: usize>(
-    writer: &mut W,
+fn fill_in_style<'a, 'p, W: Writer, const N: usize, const STYLE: u8, const ROOM: usize>(
     pending: &mut Pending,
-    mut piece: OpenPiece<'p, ROOM>,
+    piece: OpenPiece<'p, ROOM>,
     data: &'a [u8],
-) -> Result<(&'a [u8], OpenPiece<'p, ROOM>)>
+) -> (Piece<'p, ROOM>, &'a [u8])
     requires channels { pixel_size pending.old ≡ N }
     requires style { pending.old.style ≡ style_of STYLE }
-    requires ready { IsReady (W.room writer.old) ROOM pending.old (kept_bytes piece.piece)
-        «data».now }
+    requires opaque { EndsOpaque pending.old }
+    requires whole { length «data».now % N ≡ 0 }
     ensures stays { StaysIn pending.old pending.new }
-    ensures written { WritesWhole W.wrote W.room W.IsFault writer.old pending.old piece.entry
-        «data».entry.now writer.new pending.new result }
+    ensures filled { FillsPiece pending.old piece.entry «data».entry.now
+        pending.new result.0 result.1.now }
 {
     let table = &mut pending.table;
-    let mut last = pending.last;
+    let last = &mut pending.last;
+    let mut piece = piece.piece;
     let mut rest = Pixels::<N>::new(data);
-    while rest.has_block() {
-        let (mut filled, after) = write_some::<N, STYLE, ROOM>(&mut last, table, piece, rest);
-        if filled.is_full() {
-            filled.send(writer)?;
-        }
-        rest = after;
-        piece = filled.open();
+    while rest.has_block() && !piece.is_full() {
+        (piece, rest) = write_some::<N, STYLE, ROOM>(last, table, piece.open(), rest);
     }
-    pending.last = last;
-    Ok((rest.bytes, piece))
+    (piece, rest.bytes)
+}
+
+// Writes whole pixels into the piece, until it is full or fewer than a block has are left. Returns the
+// piece, and those. In `FEW_ROOM` there are no more from the start. `W` is the writer that the piece is
+// sent to: with a copy for each, which the compiler inlines, the piece stays in registers.
+#[inline(always)]
+fn fill_piece<'a, 'p, W: Writer, const ROOM: usize>(
+    pending: &mut Pending,
+    piece: OpenPiece<'p, ROOM>,
+    data: &'a [u8],
+) -> (Piece<'p, ROOM>, &'a [u8])
+    requires opaque { EndsOpaque pending.old }
+    requires whole { length «data».now % pixel_size pending.old ≡ 0 }
+    requires few { ROOM ≡ FEW_ROOM → length «data».now < FEW_BYTES }
+    ensures stays { StaysIn pending.old pending.new }
+    ensures filled { FillsPiece pending.old piece.entry «data».entry.now
+        pending.new result.0 result.1.now }
+{
+    if ROOM == FEW_ROOM {
+        return (piece.piece, data);
+    }
+    // A loop for each pair, in which channels and style are constants.
+    match (pending.channels, pending.style) {
+        (Rgb, Reference) => fill_in_style::<W, 3, 0, ROOM>(pending, piece, data),
+        (Rgb, Places) => fill_in_style::<W, 3, 1, ROOM>(pending, piece, data),
+        (Rgb, Tight) => fill_in_style::<W, 3, 2, ROOM>(pending, piece, data),
+        (Rgba, Reference) => fill_in_style::<W, 4, 0, ROOM>(pending, piece, data),
+        (Rgba, Places) => fill_in_style::<W, 4, 1, ROOM>(pending, piece, data),
+        (Rgba, Tight) => fill_in_style::<W, 4, 2, ROOM>(pending, piece, data),
+    }
 }
 
 /// Writes whole pixels through the piece, which the writer is sent each time it is full (and else
@@ -83,7 +108,7 @@ fn write_in_style<'a, 'p, W: Writer, const N: usize, const STYLE: u8, const ROOM
 pub(super) fn write_pixels<'a, 'p, W: Writer, const ROOM: usize>(
     writer: &mut W,
     pending: &mut Pending,
-    piece: OpenPiece<'p, ROOM>,
+    mut piece: OpenPiece<'p, ROOM>,
     data: &'a [u8],
 ) -> Result<(&'a [u8], OpenPiece<'p, ROOM>)>
     requires { IsReady (W.room writer.old) ROOM pending.old (kept_bytes piece.piece) «data».now }
@@ -91,15 +116,17 @@ pub(super) fn write_pixels<'a, 'p, W: Writer, const ROOM: usize>(
     ensures written { WritesWhole W.wrote W.room W.IsFault writer.old pending.old piece.entry
         «data».entry.now writer.new pending.new result }
 {
-    // A loop for each pair, in which channels and style are constants.
-    match (pending.channels, pending.style) {
-        (Rgb, Reference) => write_in_style::<W, 3, 0, ROOM>(writer, pending, piece, data),
-        (Rgb, Places) => write_in_style::<W, 3, 1, ROOM>(writer, pending, piece, data),
-        (Rgb, Tight) => write_in_style::<W, 3, 2, ROOM>(writer, pending, piece, data),
-        (Rgba, Reference) => write_in_style::<W, 4, 0, ROOM>(writer, pending, piece, data),
-        (Rgba, Places) => write_in_style::<W, 4, 1, ROOM>(writer, pending, piece, data),
-        (Rgba, Tight) => write_in_style::<W, 4, 2, ROOM>(writer, pending, piece, data),
+    let block = 16 * usize::from(pending.channels.as_u8());
+    let mut rest = data;
+    while rest.len() >= block {
+        let (mut filled, after) = fill_piece::<W, ROOM>(pending, piece, rest);
+        if filled.is_full() {
+            filled.send(writer)?;
+        }
+        rest = after;
+        piece = filled.open();
     }
+    Ok((rest, piece))
 }
 
 // `write_left` in `N` channels.
@@ -175,17 +202,24 @@ pub(super) fn encode_file<W: Writer, const ROOM: usize>(
 /// An image of fewer raw bytes has no block: fewer than sixteen pixels, of three channels or four.
 pub(super) const FEW_BYTES: usize = 48;
 
-/// Writes the file of an image of fewer than `FEW_BYTES`, and returns how many bytes it has. It is
-/// apart from `encode_file`, which would clear its room too.
-pub(super) fn encode_few<W: Writer>(writer: &mut W, encoder: &Encoder) -> Result<usize>
-    requires few { length encoder.now.raw < FEW_BYTES }
+/// Writes the file of an image that fits one piece, and returns how many bytes it has: in this room, of
+/// fewer than `FEW_BYTES` if it is `FEW_ROOM`. It is apart from `encode_file`, which would clear its
+/// room too, and has no `Result` but the one that it returns: each takes a dozen stores.
+pub(super) fn encode_few<W: Writer, const ROOM: usize>(
+    writer: &mut W,
+    encoder: &Encoder,
+) -> Result<usize>
+    requires piece { (FEW_ROOM ≤ ROOM) × (ROOM ≤ FULL_ROOM) }
+    requires few { ROOM ≡ FEW_ROOM → length encoder.now.raw < FEW_BYTES }
+    requires fits { FEW_ROOM < ROOM → max_file_len encoder.now.header ≤ ROOM - SPARE }
     requires room { max_file_len encoder.now.header ≤ W.room writer.old }
     ensures { WritesImage W.wrote W.IsFault encoder.now writer.old writer.new result }
 {
-    let mut bytes = [0; FEW_ROOM];
-    let mut piece = Piece::<FEW_ROOM>::with_header(&mut bytes, &encoder.header);
+    let mut bytes = [0; ROOM];
+    let piece = Piece::<ROOM>::with_header(&mut bytes, &encoder.header).open();
     let mut pending = Pending::new(encoder.header.channels, encoder.style);
-    write_left(&mut pending, &mut piece, encoder.data);
+    let (mut piece, left) = fill_piece::<W, ROOM>(&mut pending, piece, encoder.data);
+    write_left(&mut pending, &mut piece, left);
     let end = piece.store_marker();
     writer.write_many(piece.front(end))?;
     Ok(end)

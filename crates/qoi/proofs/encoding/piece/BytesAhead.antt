@@ -2,15 +2,11 @@
 use Rattle.std.proofs.Common.{◌≡◌, inl, inr, ℕ, ◌+◌, ◌%◌, ◌<◌, ◌≤◌, List, [], ◌++◌, length, refl, sym, ap, ◌∙◌, subst, arith, length-append, append_assoc, append-nil}
 use Rattle.qoi.specs.Qoi.{channels_number, marker_size, end_marker}
 use Rattle.qoi.specs.Writers.{WroteBut, WroteBeginning}
-use Rattle.qoi.specs.inner.Sending.{pixel_size, EndsOpaque, Between, GoesOn, BreaksOff, Ends, IsReady, Pending}
+use Rattle.qoi.specs.inner.Sending.{pixel_size, EndsOpaque, Between, CoderGoes, GoesOn, BreaksOff, Ends, IsReady, Pending}
 use Rattle.qoi.proofs.format.WholePixels.{by_channels}
 use Rattle.qoi.proofs.decoding.ImageSize.{channels_are}
 use Rattle.qoi.proofs.encoding.coder.CoderLink.{coder_sent}
 use Rattle.qoi.proofs.encoding.piece.WriterProgress.{Follows, none_but, but_on, but_all, but_more, begins}
-
--- the coder went on
-pub record CoderGoes (p : Pending) (kept raw : List ℕ) (p' : Pending) (kept' raw' : List ℕ) : Type 0 where
-  pub on : (ahead more : List ℕ) → Between ahead p kept (raw ++ more) → Between ahead p' kept' (raw' ++ more)
 
 -- if no raw bytes follow
 pub none_follow : (p : Pending) (raw : List ℕ) {ahead kept : List ℕ} → Between ahead p kept raw → Between ahead p kept (raw ++ [])
@@ -105,11 +101,12 @@ module _ {W : Type 0} {wrote : W → List ℕ → W → Type 0} {a b : W} {p : P
   pub breaks_within : BreaksOff wrote a p kept front b → all ≡ front ++ after → BreaksOff wrote a p kept all b
   breaks_within h is = record { off = λ ahead more s. h.off ahead (after ++ more) (in_front p front after all more is s) }
 
-module _ {free size : ℕ} {p : Pending} {kept raw : List ℕ} (has : IsReady free size p kept raw) where
-  -- what is ahead after the coder went on
-  goes_to : {q : Pending} {kept' raw' : List ℕ} → CoderGoes p kept raw q kept' raw' → (ahead : List ℕ) → Between ahead p kept raw → Between ahead q kept' raw'
-  goes_to {q} {kept'} {raw'} goes ahead s = subst (Between ahead q kept') (append-nil raw') (goes.on ahead [] (none_follow p raw s))
+-- what is ahead after the coder went on
+pub goes_to : {p q : Pending} {kept kept' raw raw' : List ℕ} → CoderGoes p kept raw q kept' raw' → (ahead : List ℕ) → Between ahead p kept raw
+    → Between ahead q kept' raw'
+goes_to {p} {q} {kept} {kept'} {raw} {raw'} goes ahead s = subst (Between ahead q kept') (append-nil raw') (goes.on ahead [] (none_follow p raw s))
 
+module _ {free size : ℕ} {p : Pending} {kept raw : List ℕ} (has : IsReady free size p kept raw) where
   -- there is room for the bytes that are kept after the coder went on
   pub room_kept : {q : Pending} {kept' raw' : List ℕ} → CoderGoes p kept raw q kept' raw' → length kept' ≤ size → length kept' ≤ free
   room_kept {q} {kept'} {raw'} goes within = elim has.enough [

@@ -1,20 +1,22 @@
 -- The file of an image, from one state to the next, and whole pixels of raw bytes.
-use Rattle.std.proofs.Common.{◌≡◌, inl, ℕ, ◌*◌, ◌/◌, ◌%◌, ◌<◌, ◌≤◌, List, [], ◌++◌, length, length-append, arith, Option, refl, sym, ap, ◌∙◌, append_assoc, subst, None}
+use Rattle.std.proofs.Common.{◌≡◌, inl, ℕ, ◌+◌, ◌*◌, ◌/◌, ◌%◌, ◌<◌, ◌≤◌, List, [], ◌++◌, length, length-append, append-nil, arith, Option, refl, sym, ap, ◌∙◌, append_assoc, subst, None}
 use Rattle.std.proofs.Math.Nat.{mul-mod_left}
 use Rattle.qoi.specs.Styles.{Style}
-use Rattle.qoi.specs.Qoi.{Header, Channels, AreBytes, start, channels_number, pixel_count, header_bytes, chunk_bytes, end_marker}
+use Rattle.qoi.specs.Qoi.{Header, Channels, AreBytes, start, channels_number, pixel_count, header_bytes, chunk_bytes, marker_size, end_marker}
 use Rattle.qoi.specs.Raw.{IsChannels, pixels_of, image_byte_count}
 use Rattle.qoi.specs.inner.Coder.{pixels_in, CoderAfter, Pixels, SPARE}
 use Rattle.qoi.specs.WrittenList.{written_list}
 use Rattle.qoi.specs.Encoded.{image_file}
 use Rattle.qoi.specs.Writers.{WroteBeginning, AppendsBeginning}
-use Rattle.qoi.specs.inner.Sending.{appended, pixel_size, EndsOpaque, IsNew, IsReady, ImageBetween, GoesOn, BreaksOff, Ends, Pending}
+use Rattle.qoi.specs.inner.Sending.{appended, pixel_size, EndsOpaque, IsNew, IsReady, ImageBetween, CoderGoes, GoesOn, BreaksOff, Ends, Pending}
 use Rattle.qoi.specs.EncoderState.{EncoderState}
 use Rattle.qoi.proofs.format.RawPixels.{pixels_of-append, pixels_of_are}
 use Rattle.qoi.proofs.format.WholePixels.{by_channels, whole_pixels}
 use Rattle.qoi.proofs.decoding.ImageSize.{channels_are}
 use Rattle.qoi.proofs.encoding.coder.PixelsIn.{byte_count}
+use Rattle.qoi.proofs.encoding.coder.CoderLink.{coder_sent}
 use Rattle.qoi.proofs.encoding.coder.CoderSteps.{all_bytes, coder_starts}
+use Rattle.qoi.proofs.encoding.piece.BytesAhead.{goes_to}
 use Rattle.qoi.proofs.encoding.piece.WriterProgress.{Follows, begins, but_all, but_more, but_on}
 
 -- before the first pixel, if the front of the header went and the rest is kept
@@ -46,6 +48,13 @@ module _ {W : Type 0} {wrote : W → List ℕ → W → Type 0} {e : EncoderStat
     large = large;
     enough = inl (b.ahead, b.between, omega (arith, fits, ap length b.went.split, length-append b.went.front (b.ahead ++ end_marker), length-append b.ahead end_marker));
   }
+
+  -- what is kept is a part of the file, before its end marker
+  pub image_kept : {q : Pending} {raw kept' raw' : List ℕ} → ImageBetween wrote e a now p kept raw → CoderGoes p kept raw q kept' raw'
+      → length kept' + marker_size ≤ length (image_file e.style e.header e.raw)
+  image_kept {kept' = kept'} b goes =
+      let t = coder_sent (goes_to goes b.ahead b.between) kept' [] (sym (append-nil kept')) in
+      omega (arith, ap length t.1, length-append kept' t.0, ap length b.went.split, length-append b.went.front (b.ahead ++ end_marker), length-append b.ahead end_marker)
 
   module _ (both : Follows wrote wrote) where
     -- it went on
