@@ -2,7 +2,7 @@
 //! or those of some raw bytes.
 ghost use Rattle.std.specs.Prelude.{◌≡◌, ℕ, ◌-◌, ◌*◌, ◌%◌, ◌<◌, ◌≤◌, List, length};
 ghost use Rattle.qoi.specs.Encoded.{max_file_len};
-ghost use Rattle.qoi.specs.inner.Sending.{IsNew, pixel_size, EndsOpaque, StaysIn, Between, FillsPiece, IsReady, WritesWhole, WritesImage};
+ghost use Rattle.qoi.specs.inner.Sending.{IsNew, pixel_size, EndsOpaque, StaysIn, Between, GoesByPixels, FillsPiece, IsReady, WritesWhole, WritesImage};
 ghost use Rattle.qoi.specs.Styles.{style_of};
 ghost use Rattle.qoi.specs.inner.Coder.{kept_bytes, CoderEnds, SPARE, FULL_ROOM};
 ghost use Rattle.qoi.specs.Raw.{pixels_of};
@@ -46,8 +46,7 @@ impl Pending {
 
 // Writes whole pixels of `N` channels (see `fill_piece`), in the style of the number `STYLE`
 // (`style_of`). For each pair the compiler makes a loop of its own: one for all would test the style at
-// each pixel. The last pixel isn't copied: to read it as a whole, just after its parts were stored,
-// waits until all are in the cache.
+// each pixel. A copy of the last pixel would wait until its parts, just stored, are in the cache.
 #[inline(always)]
 fn fill_in_style<'a, 'p, W: Writer, const N: usize, const STYLE: u8, const ROOM: usize>(
     pending: &mut Pending,
@@ -58,9 +57,7 @@ fn fill_in_style<'a, 'p, W: Writer, const N: usize, const STYLE: u8, const ROOM:
     requires style { pending.old.style ≡ style_of STYLE }
     requires opaque { EndsOpaque pending.old }
     requires whole { length «data».now % N ≡ 0 }
-    ensures stays { StaysIn pending.old pending.new }
-    ensures filled { FillsPiece pending.old piece.entry «data».entry.now
-        pending.new result.0 result.1.now }
+    ensures { FillsPiece pending.old piece.entry «data».entry.now pending.new result }
 {
     let table = &mut pending.table;
     let last = &mut pending.last;
@@ -81,12 +78,9 @@ fn fill_piece<'a, 'p, W: Writer, const ROOM: usize>(
     piece: OpenPiece<'p, ROOM>,
     data: &'a [u8],
 ) -> (Piece<'p, ROOM>, &'a [u8])
-    requires opaque { EndsOpaque pending.old }
-    requires whole { length «data».now % pixel_size pending.old ≡ 0 }
+    requires whole { GoesByPixels pending.old «data».now }
     requires few { ROOM ≡ FEW_ROOM → length «data».now < FEW_BYTES }
-    ensures stays { StaysIn pending.old pending.new }
-    ensures filled { FillsPiece pending.old piece.entry «data».entry.now
-        pending.new result.0 result.1.now }
+    ensures { FillsPiece pending.old piece.entry «data».entry.now pending.new result }
 {
     if ROOM == FEW_ROOM {
         return (piece.piece, data);
@@ -104,7 +98,6 @@ fn fill_piece<'a, 'p, W: Writer, const ROOM: usize>(
 
 /// Writes whole pixels through the piece, which the writer is sent each time it is full (and else
 /// not), but for fewer than a block has at their end. Returns those, and the piece.
-#[inline(always)]
 pub(super) fn write_pixels<'a, 'p, W: Writer, const ROOM: usize>(
     writer: &mut W,
     pending: &mut Pending,

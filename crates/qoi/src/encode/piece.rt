@@ -81,9 +81,8 @@ impl<'a, const ROOM: usize> Piece<'a, ROOM> {
         requires room { length room.old ≡ ROOM }
         ensures { kept_bytes result ≡ header_bytes header.now }
     {
-        let mut piece = Piece::new(room);
-        piece.append(&header.encode()[..QOI_HEADER_SIZE]);
-        piece
+        let end = copy_after(room, 0, &header.encode()[..QOI_HEADER_SIZE]);
+        Piece { bytes: room, end }
     }
 
     /// Whether there are enough bytes for a full piece.
@@ -102,15 +101,6 @@ impl<'a, const ROOM: usize> Piece<'a, ROOM> {
         ensures { kept_bytes result.piece ≡ kept_bytes self.entry }
     {
         OpenPiece { piece: self }
-    }
-
-    /// Appends these bytes.
-    #[inline(always)]
-    pub(super) fn append(&mut self, v: &[u8])
-        requires { self.old.end + (length v.now + marker_size) ≤ ROOM }
-        ensures { kept_bytes self.new ≡ kept_bytes self.old ++ v.now }
-    {
-        self.end = copy_after(self.bytes, self.end, v);
     }
 
     /// Appends a chunk of `size` bytes, as `store_chunk` stores it. With `JUMP` an RGBA chunk has a

@@ -30,23 +30,6 @@ pub(super) fn send_bytes<W: Write>(writer: &mut W, bytes: &[u8]) -> Result<()>
     Ok(())
 }
 
-// `write_pixels` as a function of its own: three calls of its loops would be long.
-#[inline(never)]
-fn write_pixels_apart<'a, 'p, W: Writer>(
-    writer: &mut W,
-    pending: &mut Pending,
-    piece: OpenPiece<'p, FULL_ROOM>,
-    data: &'a [u8],
-) -> Result<(&'a [u8], OpenPiece<'p, FULL_ROOM>)>
-    requires { IsReady (W.room writer.old) FULL_ROOM pending.old (kept_bytes piece.piece)
-        «data».now }
-    ensures stays { StaysIn pending.old pending.new }
-    ensures written { WritesWhole W.wrote W.room W.IsFault writer.old pending.old piece.entry
-        «data».entry.now writer.new pending.new result }
-{
-    write_pixels(writer, pending, piece, data)
-}
-
 // If raw bytes are held, writes them and as many of `raw` as their last block needs, else whole
 // pixels of `raw`. Holds the pixels that are left, fewer than a block has (even of whole blocks some
 // may be, since not all ways go by sixteen), and returns the rest.
@@ -73,13 +56,13 @@ fn write_more<'a, 'p, W: Writer>(
     let len = held.bytes().len();
     if len == 0 {
         let (pixels, part) = raw.split_at(raw.len() - raw.len() % n);
-        let (left, piece) = write_pixels_apart(writer, pending, piece, pixels)?;
+        let (left, piece) = write_pixels(writer, pending, piece, pixels)?;
         held.push(left);
         return Ok((part, piece));
     }
     let (front, rest) = raw.split_at((16 * n - len % (16 * n)) % (16 * n));
     held.push(front);
-    let (left, piece) = write_pixels_apart(writer, pending, piece, held.bytes())?;
+    let (left, piece) = write_pixels(writer, pending, piece, held.bytes())?;
     let mut few = [0; 64];
     let count = copy_after(&mut few, 0, left);
     held.replace(&few[..count]);
@@ -117,7 +100,7 @@ pub(super) fn write_held<W: Write>(writer: &mut W, kept: &mut Kept) -> Result<()
     let pending = &mut kept.pending;
     let piece = Piece::<FULL_ROOM>::new(&mut kept.piece_bytes).open();
     let mut stream = GenericWriter::new(writer);
-    let (left, piece) = write_pixels_apart(&mut stream, pending, piece, kept.held.bytes())?;
+    let (left, piece) = write_pixels(&mut stream, pending, piece, kept.held.bytes())?;
     let mut last_piece = piece.piece;
     write_left(pending, &mut last_piece, left);
     last_piece.finish(&mut stream)

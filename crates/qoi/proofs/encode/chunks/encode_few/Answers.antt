@@ -24,7 +24,7 @@ open-piece-requires g c = (omega arith, (omega arith, omega (arith, kept_length 
 pub fill_piece-piece-requires : goal.fill_piece-piece-requires
 fill_piece-piece-requires g c =
     let new = c.new-pending.ensures in
-    (omega arith, (omega arith, (new_opaque new, (new_whole c.encoder.inside.header new c.encoder.invariant.1, λ is. omega (arith, ap (λ (s : EncoderState). length s.raw) c.encoder.view_is, c.requires.few is)))))
+    (omega arith, (omega arith, ((new_opaque new, new_whole c.encoder.inside.header new c.encoder.invariant.1), λ is. omega (arith, ap (λ (s : EncoderState). length s.raw) c.encoder.view_is, c.requires.few is))))
 
 -- the encoder
 abbrev own : (g : Over) → After-new-pending g → EncoderState
@@ -51,7 +51,7 @@ are_few g c is =
 pub write_left-requires : goal.write_left-requires
 write_left-requires g c =
     let here = (goal.at.write_left-requires g c).After-new-pending in
-    let filled = c.fill_piece-piece.ensures.filled in
+    let filled = c.fill_piece-piece.ensures in
     let not_full : c.fill_piece-piece.result.0.end < g.row.ROOM - SPARE = elim (cases_lt FEW_ROOM g.row.ROOM) [
       | inl more ↦ omega (
         arith,
@@ -67,7 +67,7 @@ write_left-requires g c =
       | inl few ↦ few
       | inr full ↦ omega (arith, not_full, full)
     ] in
-    (omega arith, (filled.whole, (few, (filled.opaque, not_full))))
+    (omega arith, (filled.whole.1, (few, (filled.whole.0, not_full))))
 
 -- the piece has the file
 made : (g : Over) (c : After-front g) → IsFileOf c.args.encoder.now.style c.args.encoder.now.header c.args.encoder.now.raw c.front.result.now
@@ -75,7 +75,7 @@ made g c =
     let here = (goal.at.write_many-requires g c).After-new-pending in
     let follows = λ (a b z xs ys : List ℕ) (e : b ≡ a ++ xs) (h : z ≡ b ++ ys). h ∙ ap (λ x. x ++ ys) e ∙ append_assoc a xs ys in
     let ends : (ahead : List ℕ) → Between ahead c.new-pending.result (kept_bytes c.open-piece.result.piece) (own g here).raw → ahead ≡ kept_bytes c.write_left.new.piece
-    = λ ahead s. c.write_left.ensures ahead (goes_to c.fill_piece-piece.ensures.filled.goes ahead s) in
+    = λ ahead s. c.write_left.ensures ahead (goes_to c.fill_piece-piece.ensures.goes ahead s) in
     let is = c.front.ensures ∙ c.store_marker-end.ensures.stored ∙ image_ends follows (starts g here) (all_sent ends refl) in
     subst (λ (s : EncoderState). IsFileOf s.style s.header s.raw c.front.result.now) c.encoder.view_is
     (subst (IsFileOf (own g here).style (own g here).header (own g here).raw) (sym is) (file g here))

@@ -1,5 +1,5 @@
 -- Block by block.
-use Rattle.std.proofs.Common.{◌≡◌, ℕ, ◌*◌, ◌+◌, ◌≤◌, List, ◌++◌, ◌%◌, ◌<◌, ◌∙◌, inl, inr, length, sym, ap, arith, subst}
+use Rattle.std.proofs.Common.{◌≡◌, ℕ, ◌*◌, ◌+◌, ◌≤◌, List, ◌++◌, ◌%◌, ◌<◌, ◌∙◌, inl, inr, length, refl, sym, ap, arith, subst}
 use Rattle.std.proofs.lemmas.Bool.{true≢false, cases_lt}
 use Rattle.qoi.specs.Styles.{Style, style_of}
 use Rattle.qoi.specs.inner.Coder.{pixels_in, kept_bytes, CoderBetween, SPARE}
@@ -47,22 +47,22 @@ loop-piece-preserved g c =
       less = λ full. omega (arith, fewer, was.left);
     }
 
-pub returns-clause-filled : goal.returns-clause-filled
-returns-clause-filled g c =
+pub returns : goal.returns
+returns g c =
     let rest = c.loop-piece.rest in
     let was = c.loop-piece.invariant in
     let now : Pending = record c.args.pending.now { table = c.loop-piece.table; last = c.loop-piece.last } in
-    let Fills = λ (p : Pending). FillsPiece {size = g.row.ROOM} c.args.pending.now c.args.piece c.args.data.now p c.loop-piece.piece rest.bytes.now in
+    let Fills = λ (p : Pending). FillsPiece {size = g.row.ROOM} c.args.pending.now c.args.piece c.args.data.now p (c.loop-piece.piece, rest.bytes) in
     let whole : length rest.bytes.now % pixel_size now ≡ 0 = ap (λ n. length rest.bytes.now % n) c.requires.channels ∙ rest.whole in
     elim c.loop-piece-test.branch [
       | then-loop-piece-test+else-not-is_full w ↦
           let full : g.row.ROOM ≤ c.loop-piece.piece.end + SPARE = omega (arith, w.is_full.ensures.full w.if-not-is_full.false) in
-          subst Fills (sym w.pending-is) (record { goes = was.goes; opaque = was.opaque; whole = whole; less = λ many. was.less full; same = was.same; until = inr full })
+          subst Fills (sym w.pending-is) (record { stays = (refl, refl); goes = was.goes; whole = (was.opaque, whole); less = λ many. was.less full; same = was.same; until = inr full })
       | else-loop-piece-test w ↦
           let few : length (pixels_in rest) < 16 = elim (cases_lt (length (pixels_in rest)) 16) [
             | inl few ↦ few
             | inr many ↦ absurd (true≢false (sym (c.has_block.ensures.1 many) ∙ w.loop-piece-test.false))
           ] in
           let fewer : length rest.bytes.now < 16 * pixel_size now = omega (arith, bytes_in rest, few_bytes g.row.N (length (pixels_in rest)) rest.channels few, c.requires.channels) in
-          subst Fills (sym w.pending-is) (record { goes = was.goes; opaque = was.opaque; whole = whole; less = λ many. omega (arith, fewer, many); same = was.same; until = inl fewer })
+          subst Fills (sym w.pending-is) (record { stays = (refl, refl); goes = was.goes; whole = (was.opaque, whole); less = λ many. omega (arith, fewer, many); same = was.same; until = inl fewer })
     ]

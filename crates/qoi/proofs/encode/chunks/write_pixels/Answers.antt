@@ -14,7 +14,7 @@ pub send-requires : goal.send-requires
 send-requires g c =
     let filled = c.fill_piece-filled.result.0 in
     let full = c.is_full.ensures.full c.if-is_full.true in
-    let room = room_kept c.loop-rest.invariant.ready c.fill_piece-filled.ensures.filled.goes (omega (arith, kept_length filled, filled.within)) in
+    let room = room_kept c.loop-rest.invariant.ready c.fill_piece-filled.ensures.goes (omega (arith, kept_length filled, filled.within)) in
     (omega arith, (full, (omega (arith, full, kept_length filled, room), c.requires.large)))
 
 pub loop-rest-preserved : goal.loop-rest-preserved
@@ -24,8 +24,7 @@ loop-rest-preserved g c =
     let a = c.loop-rest.writer in
     let was = c.loop-rest.invariant in
     let old = c.fill_piece-filled.result.0 in
-    let stays = c.fill_piece-filled.ensures.stays in
-    let filled = c.fill_piece-filled.ensures.filled in
+    let filled = c.fill_piece-filled.ensures in
     let but : WroteBut wrote a (kept_bytes old) (kept_bytes c.if-is_full.filled) c.if-is_full.writer = elim c.if-is_full.branch [
       | then-is_full+in_ok-send w ↦
           sent_but a w.send.new.writer c.if-is_full.writer old w.send.new.self c.if-is_full.filled (g.row.ROOM - _) w.filled-is w.writer-is
@@ -36,16 +35,16 @@ loop-rest-preserved g c =
     let now = subst (λ z. WroteBut wrote a (kept_bytes old) z c.if-is_full.writer) (sym c.open-piece.ensures) but in
     let fewer = filled.less (omega (arith, c.loop-rest-test.true, c.from-block.ensures, c.as_u8.ensures, ap channels_number was.stays.0)) in
     record {
-      stays = (stays.0 ∙ was.stays.0, stays.1 ∙ was.stays.1);
+      stays = (filled.stays.0 ∙ was.stays.0, filled.stays.1 ∙ was.stays.1);
       left = omega (arith, fewer, was.left);
       ready = still_ready was.ready now.front filled.goes (omega (arith, kept_length old, old.within)) now.split
-          (laws.counts a c.if-is_full.writer now.front now.went) fewer filled.opaque filled.whole;
-      written = then_on laws.both was.written (sent_on filled.goes filled.opaque (filled.whole ∙ sym was.ready.whole) now);
+          (laws.counts a c.if-is_full.writer now.front now.went) fewer filled.whole.0 filled.whole.1;
+      written = then_on laws.both was.written (sent_on filled.goes filled.whole.0 (filled.whole.1 ∙ sym was.ready.whole) now);
     }
 
 pub returns-in_err-send-clause-written : goal.returns-in_err-send-clause-written
 returns-in_err-send-clause-written g c =
     let e = err_from_is_err_and c.from_residual.result c.from_residual.ensures.1 in
     let r = c.in_err-send.ensures.refused in
-    let goes = c.fill_piece-filled.ensures.filled.goes in
+    let goes = c.fill_piece-filled.ensures.goes in
     rw (e.1, e.2) ((r.0, then_breaks g.met.W.Writer.laws.both c.loop-rest.invariant.written (sent_part goes r.1)), tt)
