@@ -242,7 +242,7 @@ impl<'a> Encoder<'a> {
     }
 
     // Writes the file of the image to memory, and returns how many bytes it has: through a piece with
-    // little room, if the image has fewer raw bytes than the tiny piece, or than the full one.
+    // little room, if the image has no block, or fewer raw bytes than a full piece.
     #[inline(always)]
     fn write_to_memory<W: Writer>(&self, writer: &mut W) -> Result<usize>
         requires room { max_file_len self.now.header ≤ W.room writer.old }

@@ -28,7 +28,7 @@ pub(super) const FULL_ROOM: usize = 4096 + SPARE;
 /// good part of the time.
 pub(super) const SMALL_ROOM: usize = 512 + SPARE;
 
-/// The least room, of a piece of 128 bytes, for a tiny image that goes to memory.
+/// The room of a piece of 128 bytes, which hold the whole file of a tiny image.
 pub(super) const TINY_ROOM: usize = 128 + SPARE;
 
 /// The room for the file of an image below `FEW_BYTES` raw bytes: header, chunks and end marker.
