@@ -45,8 +45,8 @@ impl Pending {
 }
 
 // Writes whole pixels of `N` channels (see `fill_piece`), in the style of the number `STYLE`
-// (`style_of`). For each pair the compiler makes a loop of its own: one for all would test the style at
-// each pixel. A copy of the last pixel would wait until its parts, just stored, are in the cache.
+// (`style_of`). The compiler makes a loop for each pair: one for all would test the style at each
+// pixel. A copy of the last pixel would wait until its parts, just stored, are in the cache.
 #[inline(always)]
 fn fill_in_style<'a, 'p, W: Writer, const N: usize, const STYLE: u8, const ROOM: usize>(
     pending: &mut Pending,
@@ -69,9 +69,9 @@ fn fill_in_style<'a, 'p, W: Writer, const N: usize, const STYLE: u8, const ROOM:
     (piece, rest.bytes)
 }
 
-// Writes whole pixels into the piece, until it is full or fewer than a block has are left. Returns the
-// piece, and those. In `FEW_ROOM` there are no more from the start. `W` is the writer that the piece is
-// sent to: with a copy for each, which the compiler inlines, the piece stays in registers.
+// Writes whole pixels into the piece, until it is full or fewer than a block has are left. Returns
+// the piece, and those. In `FEW_ROOM` there are no more from the start. `W` is the writer that gets
+// the piece: with a copy for each, which the compiler inlines, the piece stays in registers.
 #[inline(always)]
 fn fill_piece<'a, 'p, W: Writer, const ROOM: usize>(
     pending: &mut Pending,
@@ -195,9 +195,9 @@ pub(super) fn encode_file<W: Writer, const ROOM: usize>(
 /// An image of fewer raw bytes has no block: fewer than sixteen pixels, of three channels or four.
 pub(super) const FEW_BYTES: usize = 48;
 
-/// Writes the file of an image that fits one piece, and returns how many bytes it has: in this room, of
-/// fewer than `FEW_BYTES` if it is `FEW_ROOM`. It is apart from `encode_file`, which would clear its
-/// room too, and has no `Result` but the one that it returns: each takes a dozen stores.
+/// Writes the file of an image through one piece, which can hold all of it, and returns how many
+/// bytes it has. In `FEW_ROOM` images are below `FEW_BYTES`. It isn't in `encode_file`, which would
+/// clear its room too, and has no `Result` but the one returned: each takes a dozen stores.
 pub(super) fn encode_few<W: Writer, const ROOM: usize>(
     writer: &mut W,
     encoder: &Encoder,
