@@ -42,7 +42,7 @@ Between ahead p kept raw = CoderBetween p.style ahead (pixels_of (pixel_size p) 
 pub record CoderGoes (p : Pending) (kept raw : List ℕ) (p' : Pending) (kept' raw' : List ℕ) : Type 0 where
   pub on : (ahead more : List ℕ) → Between ahead p kept (raw ++ more) → Between ahead p' kept' (raw' ++ more)
 
--- the raw bytes are whole pixels, which may follow
+-- the raw bytes are whole pixels, which may come next: in three channels the last one was opaque
 abbrev pub GoesByPixels : Pending → List ℕ → Type 0
 GoesByPixels p raw = EndsOpaque p × (length raw % pixel_size p ≡ 0)
 
@@ -87,8 +87,7 @@ EndsWith wrote IsFault a p kept raw b result =
 -- Whole pixels can be written through a piece of this size. A writer that can take `free` bytes has
 -- room: for what is ahead and the end marker, or for a full piece at each raw byte and one more.
 pub record IsReady (free size : ℕ) (p : Pending) (kept raw : List ℕ) : Type 0 where
-  pub whole : length raw % pixel_size p ≡ 0
-  pub opaque : EndsOpaque p
+  pub whole : GoesByPixels p raw
   pub large : 2 * SPARE ≤ size
   pub enough : ((ahead : List ℕ) × Between ahead p kept raw × (length ahead + marker_size ≤ free))
       ⊎ ((size ≤ FULL_ROOM) × (FULL_ROOM * (length raw + 1) ≤ free))

@@ -2,7 +2,7 @@
 //! or those of some raw bytes.
 ghost use Rattle.std.specs.Prelude.{◌≡◌, ℕ, ◌-◌, ◌*◌, ◌%◌, ◌<◌, ◌≤◌, List, length};
 ghost use Rattle.qoi.specs.Encoded.{max_file_len};
-ghost use Rattle.qoi.specs.inner.Sending.{IsNew, pixel_size, EndsOpaque, StaysIn, Between, GoesByPixels, FillsPiece, IsReady, WritesWhole, WritesImage};
+ghost use Rattle.qoi.specs.inner.Sending.{IsNew, pixel_size, StaysIn, Between, GoesByPixels, FillsPiece, IsReady, WritesWhole, WritesImage};
 ghost use Rattle.qoi.specs.Styles.{style_of};
 ghost use Rattle.qoi.specs.inner.Coder.{kept_bytes, CoderEnds, SPARE, FULL_ROOM};
 ghost use Rattle.qoi.specs.Raw.{pixels_of};
@@ -55,8 +55,7 @@ fn fill_in_style<'a, 'p, W: Writer, const N: usize, const STYLE: u8, const ROOM:
 ) -> (Piece<'p, ROOM>, &'a [u8])
     requires channels { pixel_size pending.old ≡ N }
     requires style { pending.old.style ≡ style_of STYLE }
-    requires opaque { EndsOpaque pending.old }
-    requires whole { length «data».now % N ≡ 0 }
+    requires whole { GoesByPixels pending.old «data».now }
     ensures { FillsPiece pending.old piece.entry «data».entry.now pending.new result }
 {
     let table = &mut pending.table;
@@ -151,9 +150,8 @@ pub(super) fn write_left<const ROOM: usize>(
     piece: &mut Piece<ROOM>,
     left: &[u8],
 )
-    requires whole { length left.now % pixel_size pending.old ≡ 0 }
+    requires whole { GoesByPixels pending.old left.now }
     requires few { length left.now < 16 * pixel_size pending.old }
-    requires opaque { EndsOpaque pending.old }
     requires not_full { piece.old.end < ROOM - SPARE }
     ensures { (ahead : List ℕ) → Between ahead pending.old (kept_bytes piece.old) left.now
         → ahead ≡ kept_bytes piece.new }

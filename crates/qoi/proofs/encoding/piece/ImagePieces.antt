@@ -8,7 +8,7 @@ use Rattle.qoi.specs.inner.Coder.{pixels_in, CoderAfter, Pixels, SPARE}
 use Rattle.qoi.specs.WrittenList.{written_list}
 use Rattle.qoi.specs.Encoded.{image_file}
 use Rattle.qoi.specs.Writers.{WroteBeginning, AppendsBeginning}
-use Rattle.qoi.specs.inner.Sending.{appended, pixel_size, EndsOpaque, IsNew, IsReady, ImageBetween, CoderGoes, GoesOn, BreaksOff, Ends, Pending}
+use Rattle.qoi.specs.inner.Sending.{appended, pixel_size, EndsOpaque, IsNew, IsReady, ImageBetween, CoderGoes, GoesByPixels, GoesOn, BreaksOff, Ends, Pending}
 use Rattle.qoi.specs.EncoderState.{EncoderState}
 use Rattle.qoi.proofs.format.RawPixels.{pixels_of-append, pixels_of_are}
 use Rattle.qoi.proofs.format.WholePixels.{by_channels, whole_pixels}
@@ -40,11 +40,10 @@ image_starts e a b p front kept are new split went =
 
 module _ {W : Type 0} {wrote : W → List ℕ → W → Type 0} {e : EncoderState} {a now : W} {p : Pending} {kept : List ℕ} where
   -- pixels can be written if there is room for the whole file
-  pub image_ready : {raw : List ℕ} {free size : ℕ} → ImageBetween wrote e a now p kept raw → length raw % pixel_size p ≡ 0 → EndsOpaque p → 2 * SPARE ≤ size
+  pub image_ready : {raw : List ℕ} {free size : ℕ} → ImageBetween wrote e a now p kept raw → GoesByPixels p raw → 2 * SPARE ≤ size
       → length (image_file e.style e.header e.raw) ≤ free → IsReady free size p kept raw
-  image_ready b whole opaque large fits = record {
+  image_ready b whole large fits = record {
     whole = whole;
-    opaque = opaque;
     large = large;
     enough = inl (b.ahead, b.between, omega (arith, fits, ap length b.went.split, length-append b.went.front (b.ahead ++ end_marker), length-append b.ahead end_marker));
   }

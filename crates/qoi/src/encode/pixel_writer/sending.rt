@@ -1,12 +1,12 @@
 //! The chunks of an image whose raw bytes come in several calls, through the encoder's `Piece`, which
 //! holds bytes of the file, to a writer (QOI specification 1.0, "Data").
-ghost use Rattle.std.specs.Prelude.{◌≡◌, ◌⊎◌, ◌+◌, ◌*◌, ◌%◌, ◌<◌, ◌≤◌, [], ◌++◌, length, IfOk, IfErr, OnOk};
+ghost use Rattle.std.specs.Prelude.{◌≡◌, ◌⊎◌, ◌+◌, ◌*◌, ◌<◌, ◌≤◌, [], ◌++◌, length, IfOk, IfErr, OnOk};
 ghost use Rattle.qoi.specs.Errors.{IsIoError};
 ghost use Rattle.qoi.specs.Qoi.{pixels_max};
 ghost use Rattle.qoi.specs.declared.encode.pixel_writer.kept.TheConstants.{HELD_MOST};
 ghost use Rattle.qoi.specs.Writers.{AppendsBeginning};
 ghost use Rattle.std.specs.Io.KnownBytes.{Appends};
-ghost use Rattle.qoi.specs.inner.Sending.{appended, pixel_size, EndsOpaque, StaysIn, IsReady, WritesWhole, GoesOnOrBreaks, EndsWith};
+ghost use Rattle.qoi.specs.inner.Sending.{appended, EndsOpaque, StaysIn, GoesByPixels, IsReady, WritesWhole, GoesOnOrBreaks, EndsWith};
 ghost use Rattle.qoi.specs.inner.Coder.{kept_bytes, FULL_ROOM};
 
 use crate::encode::chunks::{Pending, write_left, write_pixels};
@@ -92,8 +92,7 @@ pub(super) fn take_raw<W: Write>(writer: &mut W, kept: &mut Kept, raw: &[u8]) ->
 
 /// Writes an image's last raw bytes, which were held, and the end marker.
 pub(super) fn write_held<W: Write>(writer: &mut W, kept: &mut Kept) -> Result<()>
-    requires opaque { EndsOpaque kept.old.pending }
-    requires whole { length kept.old.held % pixel_size kept.old.pending ≡ 0 }
+    requires { GoesByPixels kept.old.pending kept.old.held }
     ensures { EndsWith appended IsIoError (W.contents writer.old) kept.old.pending []
         kept.old.held (W.contents writer.new) result }
 {

@@ -67,7 +67,7 @@ write_left-requires g c =
       | inl few ↦ few
       | inr full ↦ omega (arith, not_full, full)
     ] in
-    (omega arith, (filled.whole.1, (few, (filled.whole.0, not_full))))
+    (omega arith, (filled.whole, (few, not_full)))
 
 -- the piece has the file
 made : (g : Over) (c : After-front g) → IsFileOf c.args.encoder.now.style c.args.encoder.now.header c.args.encoder.now.raw c.front.result.now

@@ -46,7 +46,7 @@ write_pixels-requires g c =
     let here = (goal.at.write_pixels-requires g c).After-new-pending in
     let new = c.new-pending.ensures in
     let fits : length (made g here) ≤ g.W.Writer.room c.args.writer.now = omega (arith, (file g here).is_file.fits, c.requires.room, ap (λ (s : EncoderState). max_file_len s.header) c.encoder.view_is) in
-    (omega arith, image_ready (starts g here) (new_whole c.encoder.inside.header new c.encoder.invariant.1) (new_opaque new) c.requires.piece.0 fits)
+    (omega arith, image_ready (starts g here) (new_opaque new, new_whole c.encoder.inside.header new c.encoder.invariant.1) c.requires.piece.0 fits)
 
 pub finish-requires : goal.finish-requires
 finish-requires g c =

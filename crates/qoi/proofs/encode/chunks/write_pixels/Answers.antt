@@ -38,8 +38,8 @@ loop-rest-preserved g c =
       stays = (filled.stays.0 ∙ was.stays.0, filled.stays.1 ∙ was.stays.1);
       left = omega (arith, fewer, was.left);
       ready = still_ready was.ready now.front filled.goes (omega (arith, kept_length old, old.within)) now.split
-          (laws.counts a c.if-is_full.writer now.front now.went) fewer filled.whole.0 filled.whole.1;
-      written = then_on laws.both was.written (sent_on filled.goes filled.whole.0 (filled.whole.1 ∙ sym was.ready.whole) now);
+          (laws.counts a c.if-is_full.writer now.front now.went) fewer filled.whole;
+      written = then_on laws.both was.written (sent_on filled.goes filled.whole.0 (filled.whole.1 ∙ sym was.ready.whole.1) now);
     }
 
 pub returns-in_err-send-clause-written : goal.returns-in_err-send-clause-written
