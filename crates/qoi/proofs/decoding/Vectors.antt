@@ -73,11 +73,12 @@ pub three_bytes_written : (f c : ℕ) (p : RgbaPixel) (out bytes : List ℕ) (at
     → HasWritten f c out at (set (set (set out at (get_or bytes 0 0)) (at + 1) (get_or bytes 1 0)) (at + 2) (get_or bytes 2 0)) (at + c) (p ∷ [])
 three_bytes_written f c p out bytes at e room is = rw (is, e) (record { at_is = omega arith; same = grind (arith, take-set_at, length-set, append_assoc) })
 
--- a pixel of four bytes alone
+-- a pixel of four bytes alone, from the front of a vector
 pub four_bytes_written : (f c : ℕ) (p : RgbaPixel) (out bytes : List ℕ) (at : ℕ) → c ≡ 4 → at + c ≤ length out
-    → bytes ≡ take 16 (output f c (replicate 6 p))
-    → HasWritten f c out at (set (set (set (set out at (get_or bytes 0 0)) (at + 1) (get_or bytes 1 0)) (at + 2) (get_or bytes 2 0)) (at + 3) (get_or bytes 3 0)) (at + c) (p ∷ [])
-four_bytes_written f c p out bytes at e room is = rw (is, e) (record { at_is = omega arith; same = grind (arith, take-set_at, length-set, append_assoc) })
+    → bytes ≡ take 16 (output f c (replicate 6 p)) → (let both = bytes ++ bytes in
+    HasWritten f c out at (put_mid at (at + 4 - at) out (put_chunk 0 (take (at + 4 - at) (drop at out))
+    (get_or both 0 0 ∷ get_or both 1 0 ∷ get_or both 2 0 ∷ get_or both 3 0 ∷ []))) (at + c) (p ∷ []))
+four_bytes_written f c p out bytes at e room is = rw (is, e) (record { at_is = omega arith; same = bytes_put 4 at 4 out _ (omega (arith, e, room)) refl (omega arith) })
 
 -- no copies
 pub written_none : (f c : ℕ) (old : List ℕ) (at px : ℕ) → HasCopies f c at 0 px old old

@@ -27,7 +27,8 @@ impl<const N: usize, const F: usize> Progress<N, F> {
     ghost use Rattle.qoi.specs.inner.Chunks.{TakesMore};
 
     // `chunks_ahead` from a state of the loop: in blocks, and in rows of full chunks or of plain ones,
-    // if `ROW` is 8, else by `chunks_until`.
+    // if `ROW` is 8, else by `chunks_until`. States are copied `by_fields`: a load of sixteen bytes
+    // would wait until the two numbers in them, just stored, are in the cache.
     #[inline(always)]
     fn blocks_of_chunks<const ROW: usize>(
         self,
@@ -41,15 +42,14 @@ impl<const N: usize, const F: usize> Progress<N, F> {
         if ROW == 1 {
             return self.chunks_until::<1>(table, bytes, out);
         }
-        let mut now = self;
+        let mut now = self.by_fields();
         let far = bytes.len() - INPUT_ROOM;
         let mut near = far.min(now.taken + FIRST_BLOCK);
         while now.taken <= far {
             let block = now.chunks_until::<8>(table, &bytes[..near + INPUT_ROOM], out);
-            now = block;
             // Before the block's end: the output has no room for what comes, or the input ends.
             if block.taken <= near || far < block.taken {
-                break;
+                return block.by_fields();
             }
             let full = block.full_row(table, bytes, out);
             let least = if full.taken > block.taken {
@@ -57,11 +57,11 @@ impl<const N: usize, const F: usize> Progress<N, F> {
             } else {
                 LONG_PLAIN_ROW
             };
-            now = full.plain_row(table, bytes, out);
+            now = full.plain_row(table, bytes, out).by_fields();
             let is_long = least < now.taken - block.taken;
             near = far.min(now.taken + if is_long { SHORT_BLOCK } else { BLOCK });
         }
-        now
+        now.by_fields()
     }
 
     /// Decodes chunks while input and output have room ahead for `ROW` short ones and a full one,

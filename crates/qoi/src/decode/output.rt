@@ -21,14 +21,17 @@ fn store_pixel<const N: usize, const F: usize>(out: &mut [u8], at: usize, px: Ha
     requires { CanStore N (at + N) out.old }
     ensures { HasWritten F N out.old at out.new (at + N) (pixel_of_lanes px ∷ []) }
 {
-    // One by one: a copied slice is stored on the stack, and loading it again from there stalls.
-    let bytes = px.repeated::<N, F>().to_array();
+    let bytes = px.repeated::<N, F>();
+    if N == 4 {
+        let four = bytes.swizzle([0, 1, 2, 3]);
+        four.copy_to_slice(&mut out[at..at + 4]);
+        return;
+    }
+    // One by one: a copied array is stored on the stack, and loading it again from there stalls.
+    let bytes = bytes.to_array();
     out[at] = bytes[0];
     out[at + 1] = bytes[1];
     out[at + 2] = bytes[2];
-    if N == 4 {
-        out[at + 3] = bytes[3];
-    }
 }
 
 /// Stores a vector of sixteen bytes at `at`: the pixel as often as it fits and, in three channels,
