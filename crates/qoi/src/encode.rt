@@ -282,7 +282,7 @@ impl<'a> Encoder<'a> {
             });
         }
         let mut writer = BytesMut::new(buf);
-        // Asked here first: each call that passes a `Result` on copies its room.
+        // Asked here first: each call that passes a `Result` on copies the room of an error.
         if self.data.len() < FEW_BYTES {
             return encode_few::<_, FEW_ROOM>(&mut writer, self);
         }

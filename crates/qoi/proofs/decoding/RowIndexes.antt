@@ -9,7 +9,7 @@ use Rattle.qoi.specs.Reading.{IsImage, StandsAhead}
 use Rattle.qoi.specs.Raw.{output}
 use Rattle.qoi.specs.Images.{file_image, front_image, behind_header}
 use Rattle.qoi.specs.pieces.PixelReader.{PixelsState, pixels_left, HasGiven, HasRows, RefusesPixels}
-use Rattle.qoi.specs.pieces.RowIndex.{file_decoder, row_size, PlaceState, StandsAt, ArePlaces, ReadsFile, IsRowIndex, IsDecoderOf}
+use Rattle.qoi.specs.pieces.RowIndex.{file_decoder, row_size, PlaceState, StandsAt, ArePlaces, ReadsFile, IsRowIndex, IsFileDecoder}
 use Rattle.qoi.proofs.format.HeaderBytes.{header_front, header_split}
 use Rattle.std.proofs.Math.Nat.{mul_assoc, mul_comm}
 use Rattle.std.proofs.lemmas.Nat.{mul-le}
@@ -20,7 +20,7 @@ use Rattle.qoi.proofs.decoding.Places.{header_fits, stands_then}
 use Rattle.qoi.proofs.decoding.Promised.{has_refused_file}
 
 -- the reader of the file's decoder
-pub reads_first : (d : DecoderState (List ℕ)) (file : List ℕ) (p : PixelsState (List ℕ)) → IsDecoderOf file d → HasGiven d (Some d.reader) (Some p.reader) [] p
+pub reads_first : (d : DecoderState (List ℕ)) (file : List ℕ) (p : PixelsState (List ℕ)) → IsFileDecoder file d → HasGiven d (Some d.reader) (Some p.reader) [] p
     → ReadsFile d.channels d.header file p
 unfolding ReadsFile
 reads_first d file p is g = (is.0, [], subst (λ (z : DecoderState (List ℕ)). HasGiven z (Some z.reader) (Some p.reader) [] p) is.1 g)

@@ -13,8 +13,8 @@ abbrev pub file_decoder : Channels → Header → List ℕ → DecoderState (Lis
 file_decoder channels h file = record { reader = drop header_size file; header = h; channels = channels }
 
 -- it is the decoder of the file, into some channels
-abbrev pub IsDecoderOf : List ℕ → DecoderState (List ℕ) → Type 0
-IsDecoderOf file d = (header_of file ≡ Ok d.header) × (d ≡ file_decoder d.channels d.header file)
+abbrev pub IsFileDecoder : List ℕ → DecoderState (List ℕ) → Type 0
+IsFileDecoder file d = (header_of file ≡ Ok d.header) × (d ≡ file_decoder d.channels d.header file)
 
 -- how many bytes a row of the image has in these channels
 abbrev pub row_size : Channels → Header → ℕ

@@ -99,10 +99,10 @@ impl<const N: usize, const F: usize> Progress<N, F> {
     }
 
     /// Decodes chunks from the front of the bytes, after what others reached, while there is room
-    /// ahead, and returns where it stopped; none if the image goes on behind a short output (`FEW`).
-    /// The caller goes on chunk by chunk.
+    /// ahead, and returns where it stopped; none if `LEAVES_FEW` and the output is short (`FEW`). The
+    /// caller goes on chunk by chunk.
     #[inline(always)]
-    pub(super) fn fast_chunks<const RUN_FITS: bool>(
+    pub(super) fn fast_chunks<const LEAVES_FEW: bool>(
         table: &mut TermTable,
         from: Reached,
         bytes: &[u8],
@@ -117,7 +117,7 @@ impl<const N: usize, const F: usize> Progress<N, F> {
             taken: 0,
             reached: from,
         };
-        let is_short = out.len() < OUTPUT_ROOM || RUN_FITS && out.len() < FEW;
+        let is_short = out.len() < OUTPUT_ROOM || LEAVES_FEW && out.len() < FEW;
         if is_short || bytes.len() < INPUT_ROOM {
             return none;
         }

@@ -7,7 +7,7 @@ ghost use Rattle.qoi.specs.inner.Filling.{IsFillable, filling};
 
 use crate::decode::chunks::Chunks;
 use crate::decode::fast::{OUTPUT_ROOM, Progress};
-use crate::decode::in_place::chunks_in_place;
+use crate::decode::in_place::take_in_place;
 use crate::decode::output::RUN_ROOM;
 use crate::decode::reached::Reached;
 use crate::decode::reader::Buffered;
@@ -108,7 +108,7 @@ impl<R: BufRead, const N: usize, const F: usize> Chunks<N, F> for Buffered<R> {
         out: &mut [u8],
     ) -> Result<(Reached, usize)> {
         let bytes = self.0.fill_buf()?;
-        let (now, run) = chunks_in_place::<N, F>(table, from, bytes, out);
+        let (now, run) = take_in_place::<N, F>(table, from, bytes, out);
         self.0.consume(now.taken);
         Ok((now.reached, run))
     }

@@ -19,8 +19,8 @@ pub(super) const INPUT_ROOM: usize = 22;
 /// Bytes of room for the vectors of eight short chunks and of a full one.
 pub(super) const OUTPUT_ROOM: usize = 144;
 
-/// An output of fewer bytes that isn't the end of an image has room for few chunks: to enter the
-/// fast loop for them would take longer than to decode them with every test.
+/// An output of fewer bytes that isn't the end of an image has room for few chunks: in memory, to
+/// enter the fast loop for them would take longer than to decode them with every test.
 pub(super) const FEW: usize = 528;
 
 /// What the loop has between two chunks, in `N` channels of output, of a file of `F` channels: the

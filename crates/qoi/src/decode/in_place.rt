@@ -1,5 +1,5 @@
-//! A piece of an image that is decoded in place: by the fast loop (`chunks_ahead` of `blocks`), and
-//! near its end chunk by chunk, up to a run that goes on past it.
+//! A piece of an image that is decoded in place: by the fast loop (`chunks_ahead` of `blocks`), near
+//! its end with room for one short chunk and a full one, up to a run that goes on past it.
 ghost use Rattle.std.specs.Prelude.{◌≡◌, ◌↔◌, IsTrue, false, ◌-◌, ◌*◌, ◌<◌, ◌≤◌, length, drop, Some};
 ghost use Rattle.qoi.specs.Qoi.{run_tag, rgb_tag};
 ghost use Rattle.qoi.specs.Raw.{IsChannels};
@@ -61,7 +61,7 @@ fn last_run<const N: usize, const F: usize>(
 /// piece, unless a run fills them or the bytes end. Returns what it reached, and how many bytes of
 /// that run are still to be given.
 #[inline(always)]
-pub(super) fn chunks_in_place<const N: usize, const F: usize>(
+pub(super) fn take_in_place<const N: usize, const F: usize>(
     table: &mut TermTable,
     from: Reached,
     bytes: &[u8],

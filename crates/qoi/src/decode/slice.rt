@@ -10,7 +10,7 @@ use crate::consts::{QOI_PADDING, QOI_PADDING_SIZE};
 use crate::decode::chunks::{Chunks, image_to_buf};
 use crate::decode::fast::Progress;
 use crate::decode::hashed::Hashed;
-use crate::decode::in_place::chunks_in_place;
+use crate::decode::in_place::take_in_place;
 use crate::decode::one_chunk::decode_chunk;
 use crate::decode::output::RUN_ROOM;
 use crate::decode::reached::Reached;
@@ -19,8 +19,8 @@ use crate::decode::table::{SizedTerms, SmallTermTable, TermTable};
 use crate::error::{Error, Result};
 use std::simd::prelude::*;
 
-// A whole image of fewer bytes is decoded chunk by chunk, with every test: to set the fast loop's
-// table to zero would take longer.
+// A whole image of fewer bytes is decoded chunk by chunk, with every test: to fill the fast loop's
+// table of 256 numbers would take longer.
 const SMALL_IMAGE: usize = 160;
 
 // What is left between two chunks: what they reached, and the bytes ahead.
@@ -142,7 +142,7 @@ impl<'a, const N: usize, const F: usize> Chunks<N, F> for Bytes<'a> {
         from: Reached,
         out: &mut [u8],
     ) -> Result<(Reached, usize)> {
-        let (now, run) = chunks_in_place::<N, F>(table, from, self.0, out);
+        let (now, run) = take_in_place::<N, F>(table, from, self.0, out);
         let (_, rest) = self.0.split_at(now.taken);
         self.0 = rest;
         Ok((now.reached, run))

@@ -44,7 +44,7 @@ fn goes_by_blocks<const N: usize>(style: Style, last: LastPixel, raw: Pixels<N>)
 
 // Whether an RGBA chunk gives this pixel after the one before it: another alpha, and no index position.
 #[inline(always)]
-fn is_full(table: &PixelTable, before: Packed, px: Packed) -> bool {
+fn is_rgba(table: &PixelTable, before: Packed, px: Packed) -> bool {
     px.a() != before.a() && !table.at(px.hash_index()).is_same(px)
 }
 
@@ -59,7 +59,7 @@ fn begin_full<const N: usize>(table: &PixelTable, last: Packed, raw: Pixels<N>) 
     }
     let (second, third) = (raw.skip(1), raw.skip(2));
     let (one, two) = (raw.first().px, second.first().px);
-    is_full(table, last, one) && is_full(table, one, two) && is_full(table, two, third.first().px)
+    is_rgba(table, last, one) && is_rgba(table, one, two) && is_rgba(table, two, third.first().px)
 }
 
 // What is carried after the coder's last pixel. `begun` isn't: a fresh pixel came, or the block opens
@@ -218,7 +218,7 @@ fn write_apart<'a, 'p, const N: usize, const STYLE: u8, const ROOM: usize, const
 }
 
 /// Writes what is at the front: blocks, until the piece is full or fewer pixels than a block has are
-/// left; or repeats and the fresh pixel after them, and pairs and blocks of few fresh pixels that
+/// left; or repeats and the fresh pixel after them, and pairs or blocks of few fresh pixels that
 /// follow (`write_apart`). Returns the rest. Any pixels may follow. Which way is asked only here, so
 /// mostly once a piece.
 #[inline(always)]

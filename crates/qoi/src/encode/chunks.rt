@@ -69,8 +69,8 @@ fn fill_in_style<'a, 'p, W: Writer, const N: usize, const STYLE: u8, const ROOM:
 }
 
 // Writes whole pixels into the piece, until it is full or fewer than a block has are left. Returns
-// the piece, and those. In `FEW_ROOM` there are no more from the start. `W` is the writer that gets
-// the piece: with a copy for each, which the compiler inlines, the piece stays in registers.
+// the piece, and those. In `FEW_ROOM` images have no block, and it returns at once. `W` is the writer
+// that gets the piece: with a copy for each, which the compiler inlines, it stays in registers.
 #[inline(always)]
 fn fill_piece<'a, 'p, W: Writer, const ROOM: usize>(
     pending: &mut Pending,

@@ -20,8 +20,8 @@ use std::simd::prelude::*;
 /// means nothing, such as a block's index positions.
 pub(super) const SPARE: usize = 128;
 
-/// The room of a piece of 4096 bytes, for all images that go to a writer, and for large ones. A
-/// writer is sent a full one at once.
+/// The room of a piece of 4096 bytes, for large images, those that have a block and go to a writer,
+/// and those in parts. A writer is sent a full one at once.
 pub(super) const FULL_ROOM: usize = 4096 + SPARE;
 
 /// The room of a piece of 512 bytes, for a small image that goes to memory: zeroing more takes a

@@ -6,7 +6,7 @@ ghost use Rattle.qoi.specs.Qoi.{Error, Header, Channels, channels_number, header
 ghost use Rattle.qoi.specs.Reading.{StandsAhead};
 ghost use Rattle.qoi.specs.Rectangles.{rectangle};
 ghost use Rattle.qoi.specs.pieces.PixelReader.{pixels_left, HasRows};
-ghost use Rattle.qoi.specs.pieces.RowIndex.{file_decoder, row_size, ArePlaces, ReadsFile, IsRowIndex, IsDecoderOf};
+ghost use Rattle.qoi.specs.pieces.RowIndex.{file_decoder, row_size, ArePlaces, ReadsFile, IsRowIndex, IsFileDecoder};
 
 use crate::decode::Decoder;
 use crate::decode::pixel_reader::PixelReader;
@@ -148,7 +148,7 @@ impl RowIndex {
         decoder: Decoder<Bytes<'a>>,
         first: u32,
     ) -> Result<PixelReader<Bytes<'a>>>
-        requires { IsDecoderOf file.now decoder }
+        requires { IsFileDecoder file.now decoder }
         ensures file { IsRowIndex file.entry.now self.now
             → IfOk result (ReadsFile decoder.entry.channels decoder.entry.header file.entry.now) }
         ensures accepts { IsRowIndex file.entry.now self.now → IsOk result }

@@ -30,7 +30,7 @@ fn are_short<const N: usize>(size: u8x16) -> bool
 }
 
 /// Stores the chunks of sixteen pixels from `at` on, at most 80 bytes, and returns where they end.
-/// Three more may be stored after the last one, and mean nothing.
+/// What is stored behind them, up to `at` + 83, means nothing.
 #[inline(always)]
 pub(in crate::encode) fn store_sixteen<const N: usize>(
     out: &mut [u8],

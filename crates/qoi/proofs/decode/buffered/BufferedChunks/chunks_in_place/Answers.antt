@@ -20,7 +20,7 @@ returns-in_err-bytes-clause-refused g c =
 pub returns-clause-takes : goal.returns-clause-takes
 returns-clause-takes g c =
     let shown = c.in_ok-bytes.bytes.now in
-    let fast = c.chunks_in_place-now in
+    let fast = c.take_in_place-now in
     let rested = c.fill_buf.follows.lender-at-none in
     let filled = subst (FillKeeps _ (g.R.Read.remaining rested) (g.R.BufRead.consumable_len rested)) c.in_ok-bytes.was c.fill_buf.follows.holds-at-none in
     let moved = Consumes_shown _ _ _ _ shown fast.result.0.taken fast.ensures.within c.in_ok-bytes.ensures.front c.in_ok-bytes.ensures.end filled.0 filled.1 c.consume.ensures.bytes in

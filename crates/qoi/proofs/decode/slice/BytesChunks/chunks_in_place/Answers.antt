@@ -3,4 +3,4 @@ use Rattle.std.proofs.Common.{sym}
 use Rattle.qoi.proofs.decode.slice.BytesChunks.chunks_in_place.Goals as goal
 
 pub returns-clause-takes : goal.returns-clause-takes
-returns-clause-takes g c = rw (sym c.self.view_is, c.split_at.ensures.back) c.chunks_in_place-now.ensures.takes
+returns-clause-takes g c = rw (sym c.self.view_is, c.split_at.ensures.back) c.take_in_place-now.ensures.takes

@@ -1,6 +1,6 @@
 -- One after the other.
 use Rattle.qoi.proofs.decoding.PieceSteps.{piece_stops}
-use Rattle.qoi.proofs.decode.in_place.chunks_in_place.Goals as goal
+use Rattle.qoi.proofs.decode.in_place.take_in_place.Goals as goal
 
 pub returns-then-bytes-lt-INPUT_ROOM-clause-takes : goal.returns-then-bytes-lt-INPUT_ROOM-clause-takes
 returns-then-bytes-lt-INPUT_ROOM-clause-takes g c gone n before h =
