@@ -264,7 +264,8 @@ impl<W: Write + Drop> PixelWriter<W> {
 
     /// The writer as it stands: with a beginning of the file behind what it had.
     pub fn into_writer(self) -> W
-        ensures { (e : EncoderState) (before : Option (List ℕ))
+        ensures same { result ≡ self.writer }
+        ensures sends { (e : EncoderState) (before : Option (List ℕ))
             → HasTaken W.contents e before self ⊎ HasFailed W.contents e before self
             → SendsSome e before (W.contents result) }
     {
