@@ -225,4 +225,4 @@ frames_are_one bytes front rest new offsets ends at images found frames split la
     let same = frames_are_same bytes front rest new offsets ends at images found frames split last others end cut in rw (same.0, same.1) frames
 
 -- frames are read, and found
-pub ruleset frame_laws = (frame_read, frame_within, frame_stands, frame_count, frame_found, frames_are_one, frames_are_same)
+pub ruleset frame_laws = (frame_read, frame_within, frame_stands, frame_count, frame_found, frames_are_one)

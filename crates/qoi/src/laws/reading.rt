@@ -216,9 +216,16 @@ pub fn frames_are_found()
         (images found : List (List ℕ)) → AreFrames front offsets images → bytes ≡ front ++ rest
         → (BeginsWithFile rest → ⊥) → AreFrames (take at bytes) ends found
         → (BeginsWithFile (drop at bytes) → ⊥) → new ≡ take at bytes → AreFrames new ends images }
-    ensures same { (bytes front rest new offsets ends : List ℕ) (at : ℕ)
+    ensures same_bytes { (bytes front rest offsets ends : List ℕ) (at : ℕ)
         (images found : List (List ℕ)) → AreFrames front offsets images → bytes ≡ front ++ rest
         → (BeginsWithFile rest → ⊥) → AreFrames (take at bytes) ends found
-        → (BeginsWithFile (drop at bytes) → ⊥) → new ≡ take at bytes
-        → (new ≡ front) × (ends ≡ offsets) × (found ≡ images) }
+        → (BeginsWithFile (drop at bytes) → ⊥) → take at bytes ≡ front }
+    ensures same_offsets { (bytes front rest offsets ends : List ℕ) (at : ℕ)
+        (images found : List (List ℕ)) → AreFrames front offsets images → bytes ≡ front ++ rest
+        → (BeginsWithFile rest → ⊥) → AreFrames (take at bytes) ends found
+        → (BeginsWithFile (drop at bytes) → ⊥) → ends ≡ offsets }
+    ensures same_images { (bytes front rest offsets ends : List ℕ) (at : ℕ)
+        (images found : List (List ℕ)) → AreFrames front offsets images → bytes ≡ front ++ rest
+        → (BeginsWithFile rest → ⊥) → AreFrames (take at bytes) ends found
+        → (BeginsWithFile (drop at bytes) → ⊥) → found ≡ images }
 {}

@@ -109,10 +109,16 @@ impl Frames {
     pub fn recover(alloc: Global, bytes: Vec<u8>) -> Result<Frames, Error>
         ensures frames { IfOk result (λ s. (images : List (List ℕ))
             × AreFrames s.bytes.items s.offsets.items images) }
+        ensures front { IfOk result (λ s.
+            s.bytes.items ≡ take (length s.bytes.items) bytes.items) }
         ensures whole { (front rest offsets : List ℕ) (images : List (List ℕ))
             → AreFrames front offsets images → bytes.items ≡ front ++ rest
             → (BeginsWithFile rest → ⊥)
             → IfOk result (λ s. AreFrames s.bytes.items s.offsets.items images) }
+        ensures same { (front rest offsets : List ℕ) (images : List (List ℕ))
+            → AreFrames front offsets images → bytes.items ≡ front ++ rest
+            → (BeginsWithFile rest → ⊥)
+            → IfOk result (λ s. (s.bytes.items ≡ front) × (s.offsets.items ≡ offsets)) }
     {
         let (offsets, end) = find(alloc, &bytes)?;
         Ok(cut(bytes, end, offsets))
@@ -124,11 +130,17 @@ fn cut(mut bytes: Vec<u8>, end: usize, offsets: Vec<usize>) -> Frames
     ensures frames { (images : List (List ℕ))
         → AreFrames (take end bytes.items) offsets.items images
         → AreFrames result.bytes.items result.offsets.items images }
+    ensures front { result.bytes.items ≡ take (length result.bytes.items) bytes.items }
     ensures whole { (front rest others : List ℕ) (images found : List (List ℕ))
         → AreFrames (take end bytes.items) offsets.items found
         → (BeginsWithFile (drop end bytes.items) → ⊥) → AreFrames front others images
         → bytes.items ≡ front ++ rest → (BeginsWithFile rest → ⊥)
         → AreFrames result.bytes.items result.offsets.items images }
+    ensures same { (front rest others : List ℕ) (images found : List (List ℕ))
+        → AreFrames (take end bytes.items) offsets.items found
+        → (BeginsWithFile (drop end bytes.items) → ⊥) → AreFrames front others images
+        → bytes.items ≡ front ++ rest → (BeginsWithFile rest → ⊥)
+        → (result.bytes.items ≡ front) × (result.offsets.items ≡ others) }
 {
     frames_are_found();
     bytes.truncate(end);
