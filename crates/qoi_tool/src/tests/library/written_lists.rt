@@ -1,16 +1,18 @@
 //! Small examples of definitions of what is written, for what no law fixes. The prover computes them.
-ghost use Rattle.std.specs.Prelude.{◌≡◌, ◌++◌, [], ◌∷◌, replicate, Err, Some, List, map, None};
+ghost use Rattle.std.specs.Prelude.{◌≡◌, ℕ, ◌++◌, [], ◌∷◌, replicate, Err, Some, Option, List, map, None};
 ghost use Rattle.qoi.specs.declared.error.Error.{Error};
 ghost use Rattle.qoi.specs.declared.types.Channels.{Channels};
 ghost use Rattle.qoi.specs.declared.types.ColorSpace.{ColorSpace};
 ghost use Rattle.qoi.specs.declared.chunk.Chunk.TheVariants.{Place, Run, Rgb, Rgba};
-ghost use Rattle.qoi.specs.Qoi.{hash, pixel, tried_header, RgbaPixel, blank, start};
+ghost use Rattle.qoi.specs.Qoi.{default_header, hash, pixel, tried_header, RgbaPixel, blank, start};
 ghost use Rattle.qoi.specs.Runs.{IsCount};
 ghost use Rattle.qoi.specs.Written.{fresh, noted};
 ghost use Rattle.qoi.specs.Writers.{AppendsBeginning, StandsAfter};
-ghost use Rattle.qoi.specs.Encoded.{image_header, OpensBlack};
+ghost use Rattle.qoi.specs.Encoded.{image_file, image_header, OpensBlack};
+ghost use Rattle.qoi.specs.Sent.{SendsSomeFile};
 ghost use Rattle.std.specs.List.{range_with_len};
-ghost use Rattle.qoi.specs.declared.types.Style.TheVariants.{Places};
+ghost use Rattle.qoi.specs.declared.types.Style.TheVariants.{Places, Reference};
+ghost use Rattle.qoi.specs.declared.types.Style.{Style};
 ghost use Rattle.qoi.specs.Shortest.{floor, slack};
 ghost use Rattle.qoi.specs.Tight.{floor0, least_unseen};
 ghost use Rattle.qoi.specs.Styles.{in_style};
@@ -49,6 +51,16 @@ pub fn writing_examples()
     ensures stands_after { StandsAfter (1 ∷ 2 ∷ 3 ∷ 4 ∷ []) 1 (9 ∷ 8 ∷ [])
         (1 ∷ 9 ∷ 8 ∷ 4 ∷ []) 3 }
     ensures beginning { AppendsBeginning (Some (1 ∷ [])) (Some (1 ∷ 2 ∷ [])) (2 ∷ 3 ∷ []) }
+{}
+
+/// The file of some image: its header is valid, and it has as many raw bytes, below 256.
+pub fn sent_examples()
+    ensures some { SendsSomeFile Reference default_header (Some [])
+        (Some (image_file Reference default_header (11 ∷ 121 ∷ 231 ∷ []))) }
+    ensures no_pixels { (style : Style) (old new : Option (List ℕ))
+        → SendsSomeFile style (record default_header { width = 0; height = 0 }) old new → ⊥ }
+    ensures no_byte { SendsSomeFile Reference default_header (Some [])
+        (Some (image_file Reference default_header (256 ∷ 0 ∷ 0 ∷ []))) → ⊥ }
 {}
 
 /// The lists of style `Places` for the written lists of a few images.
