@@ -165,6 +165,14 @@ impl<R: Reader> PixelReader<R> {
         ensures image { (d : DecoderState R) (start : Option (List ℕ)) (bytes given : List ℕ)
             → HasGiven d start (R.ahead self.now.reader) given self.now → start ≡ Some bytes
             → result ≡ 0 → given ≡ front_image d.channels d.header bytes }
+        // Before: what was read and what is left are as many bytes as the image has, and what was
+        // read is its front.
+        ensures of_image { (d : DecoderState R) (start : Option (List ℕ)) (given : List ℕ)
+            → HasGiven d start (R.ahead self.now.reader) given self.now
+            → length given + result ≡ output_byte_count d }
+        ensures front { (d : DecoderState R) (bytes given : List ℕ)
+            → HasGiven d (Some bytes) (R.ahead self.now.reader) given self.now
+            → given ≡ take (length given) (front_image d.channels d.header bytes) }
     {
         self.unread.left()
     }
@@ -219,6 +227,10 @@ impl<R: Reader> PixelReader<R> {
         ensures refused { (d : DecoderState R) (start : Option (List ℕ)) (given : List ℕ)
             → HasGiven d start (R.ahead self.old.reader) given self.old
             → IfErr result (RefusesPixels R.in_memory d start (R.ahead self.new.reader)) }
+        // In memory an image that stands whole isn't refused.
+        ensures missing { (d : DecoderState R) (bytes given : List ℕ)
+            → HasGiven d (Some bytes) (R.ahead self.old.reader) given self.old
+            → IsTrue R.in_memory → OnErr result (StandsAhead d.header bytes → ⊥) }
         ensures spent { OnErr result
             (IsSpent self.new × (pixels_left self.new ≡ pixels_left self.old)) }
         ensures again { IsSpent self.old → 0 < length buf.old

@@ -1,11 +1,13 @@
 -- A piece more is given, or the image is refused.
-use Rattle.std.proofs.Common.{◌≡◌, ◌++◌, List, ℕ, Option, Some, None, IfSome, MatchOption, take, drop, length, arith, refl, sym, ap, ◌∙◌, subst}
+use Rattle.std.proofs.Common.{◌≡◌, ◌++◌, List, ℕ, Bool, true, false, IsTrue, Option, Some, None, IfSome, MatchOption, take, drop, length, arith, refl, sym, ap, ◌∙◌, subst}
 use Rattle.std.proofs.lemmas.List.{length-append, length-drop, length-take, length-take-le, drop_at, drop-take, take_all}
 use Rattle.std.proofs.Math.Nat.{mul-add}
 use lib.Seq.{take-append_seam}
 use Rattle.qoi.specs.Images.{front_image}
 use Rattle.qoi.specs.Qoi.{Error, Header, Channels, IsValid, channels_number, pixel_count}
-use Rattle.qoi.specs.pieces.PixelReader.{PixelsState, HasGiven, HasRows}
+use Rattle.qoi.specs.DecoderState.{DecoderState}
+use Rattle.qoi.specs.Reading.{StandsAhead}
+use Rattle.qoi.specs.pieces.PixelReader.{PixelsState, HasGiven, HasRows, RefusesPixels}
 use Rattle.qoi.specs.pieces.Unread.{KeepsPixels, IsUnread}
 use Rattle.qoi.specs.inner.Chunks.{RefusesChunks}
 use Rattle.qoi.proofs.format.RectangleLaws.{picture_row}
@@ -24,6 +26,12 @@ piece_follows channels h bytes given piece front =
     sym (drop_at given piece (length given) refl) ∙ ap (drop (length given)) front
     ∙ ap (λ n. drop (length given) (take n (front_image channels h bytes))) (length-append given piece)
     ∙ drop-take (length given) (length piece) (front_image channels h bytes)
+
+-- an image that stands whole in memory isn't refused
+stays_whole : {R : Type 0} (in_memory : Bool) (d : DecoderState R) (bytes : List ℕ) (new : Option (List ℕ)) (e : Error) → RefusesPixels in_memory d (Some bytes) new e
+    → IsTrue in_memory → StandsAhead d.header bytes → ⊥
+stays_whole true d bytes new e refused held = refused.fault
+stays_whole false d bytes new e refused held = absurd (cc)
 
 pub returns-in-Ok-clause-read : goal.returns-in-Ok-clause-read
 unfolding HasGiven
@@ -110,3 +118,11 @@ returns-in-Err-clause-refused g c d start given h =
     (subst (λ k. RefusesChunks g.R.Reader.in_memory (pixel_count k) start ahead_now c.refuse.result) header
     (fault_is _ c.next_piece.new.unread.fault c.refuse.result c.refuse.ensures.error
     (c.in-Err.ensures.step.refused _ start given (unread_of header chosen ahead unread h.unread))))
+
+pub returns-in-Err-clause-missing : goal.returns-in-Err-clause-missing
+returns-in-Err-clause-missing g c d bytes given h held =
+    stays_whole g.R.Reader.in_memory d bytes _ c.refuse.result (returns-in-Err-clause-refused g c d (Some bytes) given h) held
+
+pub returns-then-self-clause-missing : goal.returns-then-self-clause-missing
+unfolding HasGiven
+returns-then-self-clause-missing g c d bytes given h held whole = let going = ap (λ s. s.refused) c.self.view_is ∙ h.going in absurd (cc)
