@@ -130,6 +130,16 @@ pub fn images_are_functions()
         → file_image_in Channels.Rgb bytes ≡ without_fourth (file_image_in Channels.Rgba bytes) }
 {}
 
+/// The next piece of an image stands behind the bytes that were read of it.
+pub fn pieces_that_come()
+    ensures front { (image given piece : List ℕ) (k : ℕ) → given ≡ take (length given) image
+        → piece ≡ take (length piece) (drop (length given) image) → k ≤ length piece
+        → take (length given + k) image ≡ given ++ take k piece }
+    ensures byte { (image given piece : List ℕ) (k : ℕ)
+        → piece ≡ take (length piece) (drop (length given) image) → k < length piece
+        → slice_index image (length given + k) ≡ slice_index piece k }
+{}
+
 /// Raw bytes of a valid header's image, as decoding gives them, are accepted by an encoder with its
 /// width and height, and get its header, in sRGB.
 #[tactic(auto, using(crate::proofs::format::HeaderBytes::encoded_again))]
