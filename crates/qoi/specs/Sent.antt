@@ -4,7 +4,7 @@
 -- and `makes` (`IsFileFor`). The other fields follow from these; callers need them at hand.
 use Rattle.std.specs.Prelude.{◌≡◌, ℕ, ◌≤◌, List, ◌++◌, take, drop, length, slice_set, Option, Some, IfSome, Ok}
 use Rattle.qoi.specs.Styles.{Style, Reference, Places, Tight}
-use Rattle.qoi.specs.Qoi.{ColorSpace, Srgb, Header, colorspace_at, colorspace_number}
+use Rattle.qoi.specs.Qoi.{ColorSpace, Srgb, Header, AreBytes, IsValid, colorspace_at, colorspace_number}
 use Rattle.qoi.specs.Encoded.{image_file, image_header, IsFileLength, IsFileOf, IsShortest}
 use Rattle.qoi.specs.Images.{file_image}
 use Rattle.qoi.specs.Raw.{image_byte_count}
@@ -81,11 +81,13 @@ pub record SendsFile (e : EncoderState) (old new : Option (List ℕ)) (n : ℕ) 
   -- and tiles before it stay
   pub kept : IfSome old (λ before. IfSome new (λ after. (offset : ℕ) (tile : List ℕ) → HasTile before offset tile → HasTile after offset tile))
 
--- The file of some image with this header, in this style, was sent to a writer: of raw bytes that the
--- contract doesn't tell, of the right number.
+-- The file of some image with this header, which is valid, in this style, was sent to a writer: of raw
+-- bytes that the contract doesn't tell, of the right number.
 pub record SendsSomeFile (style : Style) (h : Header) (old new : Option (List ℕ)) : Type 0 where
   pub raw : List ℕ
+  pub valid : IsValid h
   pub size : length raw ≡ image_byte_count h
+  pub are : AreBytes raw
   pub sent : Appends old new (image_file style h raw)
 
 -- The encoder sends a beginning of its file to a writer.

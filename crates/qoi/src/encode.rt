@@ -192,8 +192,8 @@ impl<'a> Encoder<'a> {
         })
     }
 
-    /// A copy with another color space, which changes the fourteenth byte of the file
-    /// and no other.
+    /// This encoder with another color space, which changes the fourteenth byte of the file and no
+    /// other.
     pub fn with_colorspace(mut self, colorspace: ColorSpace) -> Encoder<'a>
         ensures { result
             ≡ record self.entry { header = record self.entry.header { colorspace = colorspace } } }
@@ -202,10 +202,10 @@ impl<'a> Encoder<'a> {
         self
     }
 
-    /// A copy with another style: other chunks may be written. In style `Places` the file
-    /// is as long as in `Reference`. In style `Tight` no other chunks of the image make a shorter
-    /// file, but the Rust crate may decode it to other pixels: choose `Tight` only if all decoders
-    /// of the file are known to follow QOI 1.0.
+    /// This encoder with another style: other chunks may be written. In style `Places` the file is
+    /// as long as in `Reference`. In style `Tight` no other chunks of the image make a shorter file,
+    /// but the Rust crate may decode it to other pixels: choose `Tight` only if all decoders of the
+    /// file are known to follow QOI 1.0.
     pub fn with_style(mut self, style: Style) -> Encoder<'a>
         ensures { result ≡ record self.entry { style = style } }
     {

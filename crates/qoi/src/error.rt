@@ -10,9 +10,9 @@ use std::{fmt, io};
 /// Why a call refused.
 ///
 /// ```
-/// match Decoder::new(bytes) {
-///     Err(Error::InvalidMagic { .. }) => Ok(None), // no QOI file
-///     decoder => Ok(Some(decoder?)),
+/// match decode_to_vec(alloc, bytes) {
+///     Err(Error::OutOfMemory) => Ok(None), // the bytes may be a file
+///     image => Ok(Some(image?)),           // other refusals: no whole file stands in front
 /// }
 /// ```
 #[derive(Debug, Drop)]

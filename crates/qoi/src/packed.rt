@@ -10,8 +10,8 @@ use std::simd::{Simd, u8x4, u8x16, u64x2};
 
 // 4 * (3 * 2^56 + 7 * 2^40 + 5 * 2^16 + 11): the six highest bits of its product with a pixel that is
 // spread over 64 bits (red, blue, green and alpha from bits 0, 16, 40 and 56 on) are
-// 3 r + 5 g + 7 b + 11 a modulo 64.
-const HASH_FACTOR: u64 = 0x0c00_1c00_0014_002c;
+// 3 r + 5 g + 7 b + 11 a modulo 64. The decoder's LANES_FACTOR is for another order.
+const SPREAD_FACTOR: u64 = 0x0c00_1c00_0014_002c;
 
 /// A pixel in 32 bits: red in the lowest byte, then green, blue and alpha.
 ///
@@ -154,6 +154,6 @@ impl Packed {
     {
         let word = u64::from(self.number());
         let spread = ((word & 0xff00_ff00) << 32) | (word & 0x00ff_00ff);
-        (spread.wrapping_mul(HASH_FACTOR) >> 58) as u8
+        (spread.wrapping_mul(SPREAD_FACTOR) >> 58) as u8
     }
 }

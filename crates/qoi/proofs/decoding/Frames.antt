@@ -184,10 +184,10 @@ no_fewer front back offsets ends rest other images found frames others is last =
       | inr least ↦ least
     ]
 
--- as many frames of the same bytes have the same offsets
+-- as many frames of the same bytes have the same offsets and images
 same_offsets : (bytes others offsets ends : List ℕ) (images found : List (List ℕ)) → AreFrames bytes offsets images → AreFrames others ends found
-    → bytes ≡ others → length offsets ≡ length ends → offsets ≡ ends
-same_offsets _ _ _ _ _ _ none none is count = refl
+    → bytes ≡ others → length offsets ≡ length ends → (offsets ≡ ends) × (images ≡ found)
+same_offsets _ _ _ _ _ _ none none is count = (refl, refl)
 same_offsets _ _ _ _ _ _ none (more others ends found k ds frames g) is count = absurd (omega (arith, count, length-append ends (length others ∷ [])))
 same_offsets _ _ _ _ _ _ (more bytes offsets images h cs frames f) none is count = absurd (omega (arith, count, length-append offsets (length bytes ∷ [])))
 same_offsets _ _ _ _ _ _ (more bytes offsets images h cs frames f) (more others ends found k ds frames' g) is count =
@@ -196,13 +196,16 @@ same_offsets _ _ _ _ _ _ (more bytes offsets images h cs frames f) (more others 
     sym (behind_frames bytes offsets (file h cs) images frames) ∙ ap (behind (length offsets)) is ∙ ap (λ n. behind n (others ++ file k ds)) fewer
     ∙ behind_frames others ends (file k ds) found frames' in
     let before : bytes ≡ others = append_cancel_right bytes others (file h cs) (is ∙ ap (λ z. others ++ z) (sym last)) in
-    ap (λ z. z ++ length bytes ∷ []) (same_offsets bytes others offsets ends images found frames frames' before fewer) ∙ ap (λ z. ends ++ length z ∷ []) before
+    let same = same_offsets bytes others offsets ends images found frames frames' before fewer in (
+      ap (λ z. z ++ length bytes ∷ []) same.0 ∙ ap (λ z. ends ++ length z ∷ []) before,
+      ap (λ z. z ++ file_image (file h cs) ∷ []) same.1 ∙ ap (λ z. found ++ file_image z ∷ []) last,
+    )
 
--- the frames in front of bytes, behind which no file stands, are those that were found
-pub frames_are_one : (bytes front rest new offsets ends : List ℕ) (at : ℕ) (images found : List (List ℕ)) → AreFrames front offsets images
+-- the frames in front of bytes, behind which no file stands, are those that were found: the same bytes, offsets and images
+pub frames_are_same : (bytes front rest new offsets ends : List ℕ) (at : ℕ) (images found : List (List ℕ)) → AreFrames front offsets images
     → bytes ≡ front ++ rest → (BeginsWithFile rest → ⊥) → AreFrames (take at bytes) ends found → (BeginsWithFile (drop at bytes) → ⊥) → new ≡ take at bytes
-    → AreFrames new ends images
-frames_are_one bytes front rest new offsets ends at images found frames split last others end cut =
+    → (new ≡ front) × (ends ≡ offsets) × (found ≡ images)
+frames_are_same bytes front rest new offsets ends at images found frames split last others end cut =
     let back = take at bytes in
     let is : front ++ rest ≡ back ++ drop at bytes = sym split ∙ sym (take-append-drop at bytes) in
     let less = no_fewer front back offsets ends rest (drop at bytes) images found frames others is last in
@@ -212,7 +215,14 @@ frames_are_one bytes front rest new offsets ends at images found frames split la
     sym (behind_frames front offsets rest images frames) ∙ ap (behind (length offsets)) is ∙ ap (λ n. behind n (back ++ drop at bytes)) count
     ∙ behind_frames back ends (drop at bytes) found others in
     let whole : front ≡ back = append_cancel_right front back rest (is ∙ ap (λ z. back ++ z) (sym left)) in
-    rw (cut, sym whole, sym (same_offsets front back offsets ends images found frames others whole count)) frames
+    let same = same_offsets front back offsets ends images found frames others whole count in (cut ∙ sym whole, sym same.0, sym same.1)
+
+-- so they are frames of these images
+pub frames_are_one : (bytes front rest new offsets ends : List ℕ) (at : ℕ) (images found : List (List ℕ)) → AreFrames front offsets images
+    → bytes ≡ front ++ rest → (BeginsWithFile rest → ⊥) → AreFrames (take at bytes) ends found → (BeginsWithFile (drop at bytes) → ⊥) → new ≡ take at bytes
+    → AreFrames new ends images
+frames_are_one bytes front rest new offsets ends at images found frames split last others end cut =
+    let same = frames_are_same bytes front rest new offsets ends at images found frames split last others end cut in rw (same.0, same.1) frames
 
 -- frames are read, and found
-pub ruleset frame_laws = (frame_read, frame_within, frame_stands, frame_count, frame_found, frames_are_one)
+pub ruleset frame_laws = (frame_read, frame_within, frame_stands, frame_count, frame_found, frames_are_one, frames_are_same)

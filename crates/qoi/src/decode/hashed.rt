@@ -10,8 +10,9 @@ use std::marker::Model;
 use std::simd::{Simd, u8x4, u8x16, u16x4, u64x2};
 
 // 4 * (3 * 2^56 + 5 * 2^40 + 7 * 2^24 + 11 * 2^8): the eight highest bits of its product with a
-// pixel in lanes of 16 bits are the eight lowest ones of 4 (3 r + 5 g + 7 b + 11 a).
-const HASH_FACTOR: u64 = 0x0c00_1400_1c00_2c00;
+// pixel in lanes of 16 bits (red, green, blue and alpha from bits 0, 16, 32 and 48 on) are the eight
+// lowest ones of 4 (3 r + 5 g + 7 b + 11 a). `Packed` has SPREAD_FACTOR, for another order.
+const LANES_FACTOR: u64 = 0x0c00_1400_1c00_2c00;
 
 // 1 + 4 * 11 * 2^8: its product with alpha alone is alpha and its share of the index position.
 const ALPHA_FACTOR: u64 = 0x2c01;
@@ -69,7 +70,7 @@ impl Hashed {
         requires { IsPlain lanes }
         ensures { pixel_of_lanes result ≡ pixel_of_lanes lanes }
     {
-        let place = lanes.wrapping_mul(HASH_FACTOR) >> 56;
+        let place = lanes.wrapping_mul(LANES_FACTOR) >> 56;
         Hashed((place << 56) + lanes)
     }
 
@@ -130,7 +131,7 @@ impl Hashed {
     {
         let read = four_lanes(&bytes[1..5]) & read_by(b1);
         let lanes = (self.0 & kept_by(b1)).wrapping_add(read);
-        let place = lanes.wrapping_mul(HASH_FACTOR) & placed_by(b1);
+        let place = lanes.wrapping_mul(LANES_FACTOR) & placed_by(b1);
         Hashed(lanes.wrapping_add(place).wrapping_add(table.at(b1)))
     }
 

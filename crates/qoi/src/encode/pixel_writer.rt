@@ -1,5 +1,5 @@
 //! Encoding of one image whose raw bytes come piece by piece.
-ghost use Rattle.std.specs.Prelude.{◌≡◌, ℕ, ◌+◌, ◌-◌, ◌*◌, ◌%◌, ◌^◌, ◌<◌, ◌≤◌, List, [], Option, length, ◌⊎◌, Err, IfOk, IfErr, IsErrAnd, IsTrue, OnErr, OnOk, false};
+ghost use Rattle.std.specs.Prelude.{◌≡◌, ℕ, ◌+◌, ◌-◌, ◌*◌, ◌%◌, ◌^◌, ◌<◌, ◌≤◌, List, [], ◌++◌, Option, length, ◌⊎◌, Err, IfOk, IfErr, IsErrAnd, IsTrue, OnErr, OnOk, false};
 ghost use Rattle.std.specs.Io.KnownBytes.{Appends};
 ghost use Rattle.qoi.specs.Qoi.{Error, IsValid, tried_header};
 ghost use Rattle.qoi.specs.Raw.{image_byte_count};
@@ -149,6 +149,10 @@ impl<W: Write + Drop> PixelWriter<W> {
         ensures taken { (e : EncoderState) (before : Option (List ℕ))
             → HasTaken W.contents e before self.old
             → OnOk result (HasTaken W.contents (and_raw e raw.now) before self.new) }
+        // Behind others, as a call before this one took them.
+        ensures joined { (e : EncoderState) (before : Option (List ℕ)) (first all : List ℕ)
+            → HasTaken W.contents (and_raw e first) before self.old → all ≡ first ++ raw.now
+            → OnOk result (HasTaken W.contents (and_raw e all) before self.new) }
         ensures left { OnOk result (raw_left self.new + length raw.now ≡ raw_left self.old) }
 
         // The refusals: a fault, if the bytes fit, or too many bytes; and any call after a fault.
@@ -264,7 +268,8 @@ impl<W: Write + Drop> PixelWriter<W> {
 
     /// The writer as it stands: with a beginning of the file behind what it had.
     pub fn into_writer(self) -> W
-        ensures { (e : EncoderState) (before : Option (List ℕ))
+        ensures same { result ≡ self.writer }
+        ensures sends { (e : EncoderState) (before : Option (List ℕ))
             → HasTaken W.contents e before self ⊎ HasFailed W.contents e before self
             → SendsSome e before (W.contents result) }
     {

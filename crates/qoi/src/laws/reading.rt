@@ -214,7 +214,7 @@ pub fn frames_are_read()
 {}
 
 /// A file behind frames is one more. The frames in front of bytes are these and no others, if no
-/// file follows.
+/// file follows: the same bytes, offsets and images.
 #[tactic(auto, using(crate::proofs::decoding::Frames::frame_laws))]
 pub fn frames_are_found()
     ensures found { (bytes offsets more : List ℕ) (images : List (List ℕ)) (at end : ℕ)
@@ -226,4 +226,9 @@ pub fn frames_are_found()
         (images found : List (List ℕ)) → AreFrames front offsets images → bytes ≡ front ++ rest
         → (BeginsWithFile rest → ⊥) → AreFrames (take at bytes) ends found
         → (BeginsWithFile (drop at bytes) → ⊥) → new ≡ take at bytes → AreFrames new ends images }
+    ensures same { (bytes front rest new offsets ends : List ℕ) (at : ℕ)
+        (images found : List (List ℕ)) → AreFrames front offsets images → bytes ≡ front ++ rest
+        → (BeginsWithFile rest → ⊥) → AreFrames (take at bytes) ends found
+        → (BeginsWithFile (drop at bytes) → ⊥) → new ≡ take at bytes
+        → (new ≡ front) × (ends ≡ offsets) × (found ≡ images) }
 {}
