@@ -1,6 +1,6 @@
 //! Two files are compared by their pixels, in the memory of two pieces. Only the loops have proof files,
 //! with their invariants.
-ghost use Rattle.std.specs.Prelude.{◌≡◌, ◌+◌, ◌<◌, ℕ, List, ◌++◌, length, None, Some, IsOk, IfOk, OnOk, IfSome, IsTrue};
+ghost use Rattle.std.specs.Prelude.{◌≡◌, ◌+◌, ◌-◌, ◌<◌, ℕ, List, ◌++◌, length, Option, None, Some, IsOk, IfOk, OnOk, IfSome, IsTrue};
 ghost use Rattle.qoi.specs.declared.header.Header.{Header};
 ghost use Rattle.qoi.specs.DecoderState.{DecoderState, output_byte_count};
 ghost use Rattle.qoi.specs.Images.{file_image, front_image, HasFrontFile};
@@ -65,6 +65,16 @@ fn next_difference(
     Ok(first_unequal(&here[..size], &there[..size]))
 }
 
+// How many bytes were read of an image of so many.
+fn bytes_read(pixels: &PixelReader<Bytes<'_>>, size: usize) -> usize
+    ensures read { (d : DecoderState (List ℕ)) (start : Option (List ℕ)) (given : List ℕ)
+        → HasGiven d start (Some pixels.now.reader) given pixels.now
+        → size ≡ output_byte_count d → result ≡ length given }
+    ensures left { result ≡ size - pixels_left pixels.now }
+{
+    size.saturating_sub(pixels.left())
+}
+
 /// The first byte in which two images of as many bytes differ.
 fn difference(one: Decoder<Bytes<'_>>, other: Decoder<Bytes<'_>>) -> Result<Option<usize>>
     requires { output_byte_count one ≡ output_byte_count other }
@@ -81,7 +91,7 @@ fn difference(one: Decoder<Bytes<'_>>, other: Decoder<Bytes<'_>>) -> Result<Opti
     let (mut first, mut second) = (one.into_pixels(), other.into_pixels());
     let (mut here, mut there) = ([0; 4096], [0; 4096]);
     while first.left() > 0 {
-        let at = size - first.left();
+        let at = bytes_read(&first, size);
         if let Some(k) = next_difference(&mut first, &mut second, &mut here, &mut there)? {
             return Ok(Some(at + k));
         }

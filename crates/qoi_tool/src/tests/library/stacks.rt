@@ -44,7 +44,27 @@ fn header_of_both(above: Header, below: Header) -> Result<Header>
     }
 }
 
-/// The file of an image above another one, which has as many pixels in a row, and channels.
+/// The file, with this header, of an image and then another one.
+fn write_both<R: Reader + Drop, S: Reader + Drop, W: Write + Drop>(
+    alloc: Global,
+    header: Header,
+    above: Decoder<R>,
+    below: Decoder<S>,
+    out: W,
+) -> Result<W>
+    ensures { (one other : List ℕ) → R.ahead above.reader ≡ Some one
+        → S.ahead below.reader ≡ Some other → IfOk result (λ w.
+        Appends (W.contents out) (W.contents w) (image_file Reference header
+        (front_image above.channels above.header one
+        ++ front_image below.channels below.header other))) }
+{
+    let mut writer = PixelWriter::new(alloc, header, Style::Reference, out)?;
+    append_image(above, &mut writer)?;
+    append_image(below, &mut writer)?;
+    Ok(writer.finish()?)
+}
+
+/// The file of an image above another one, which has as many pixels in a row, and as many channels.
 pub fn stack<R: Reader + Drop, S: Reader + Drop, W: Write + Drop>(
     alloc: Global,
     above: Decoder<R>,
@@ -63,10 +83,8 @@ pub fn stack<R: Reader + Drop, S: Reader + Drop, W: Write + Drop>(
     let first = above.header().with_channels(above.channels());
     let second = below.header().with_channels(below.channels());
     let header = header_of_both(first, second)?;
-    let mut writer = PixelWriter::new(alloc, header, Style::Reference, out)?;
-    append_image(above, &mut writer)?;
-    append_image(below, &mut writer)?;
-    Ok(writer.finish()?)
+    let out = write_both(alloc, header, above, below, out)?;
+    Ok(out)
 }
 
 // Two pictures of a row each, and one of another width.
