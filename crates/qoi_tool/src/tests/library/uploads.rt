@@ -17,7 +17,8 @@ use std::process::Abort;
 /// What an upload is.
 #[derive(Clone, Copy, Debug, PartialEq, Eq)]
 pub enum Verdict {
-    /// No valid header stands at the front.
+    /// No valid header stands at the front. It may begin with `qoif`, and name no pixels or more than
+    /// 400,000,000.
     NotQoi,
     /// The image has more raw bytes than are wanted.
     TooLarge,
