@@ -15,7 +15,7 @@ use Rattle.qoi.specs.Sent.{MakesFile}
 use Rattle.qoi.specs.Tiles.{HasTile}
 use Rattle.qoi.specs.DecoderState.{DecoderState, output_byte_count, TakesAtMost}
 use Rattle.qoi.specs.Reading.{IsDecoderOf, IsImage, StandsAhead}
-use Rattle.qoi.specs.Images.{front_image, front_rest, file_image, file_image_in, file_rest}
+use Rattle.qoi.specs.Images.{front_image, front_rest, file_image, file_image_in, file_rest, BeginsWithFile}
 use Rattle.qoi.specs.Errors.{IsIoError, IsReaderFault, IsErrorOfCut, IsErrorOfWrong}
 
 -- The decoder d was made: it took the header from the bytes ahead.
@@ -53,6 +53,8 @@ pub record HasDecoded {R : Type 0} (d : DecoderState R) (old new : Option (List 
   pub took : IfSome old (λ bytes. IfSome new (λ rest. length rest + 9 ≤ length bytes))
   -- the bytes are whole, and what follows the end marker is left
   pub rest : (bytes : List ℕ) → old ≡ Some bytes → (rest : List ℕ) × (new ≡ Some rest) × IsImage d.channels bytes d.header rest out
+  -- so an image stands at their front, and the end marker behind it
+  pub stands : IfSome old (λ bytes. StandsAhead d.header bytes)
   -- if the decoder was made from `source`, and its channels are the file's own, `source` begins with a
   -- file of this image
   pub file : (source ahead : List ℕ) → IsDecoderOf d source ahead → old ≡ Some ahead
@@ -97,6 +99,8 @@ pub record HasRefused {R : Type 0} (in_memory : Bool) (d : DecoderState R) (old 
 pub record HasDecodedFile (bytes : List ℕ) (h : Header) (out : List ℕ) : Type 0 where
   -- the file is read from the bytes, and some rest follows it
   pub decodes : (rest : List ℕ) × DecodesFile bytes h rest out
+  -- so one stands at their front
+  pub begins : BeginsWithFile bytes
   -- header and image are functions of the bytes
   pub header : header_of bytes ≡ Ok h
   pub image : out ≡ file_image bytes

@@ -14,13 +14,13 @@ use Rattle.qoi.specs.Qoi.{Error, UnexpectedBufferEnd, InvalidPadding, IoError, C
 use Rattle.qoi.specs.Raw.{HasImageLength, capped_byte_count, image_byte_count, byte_count}
 use Rattle.qoi.specs.DecoderState.{DecoderState, output_byte_count}
 use Rattle.qoi.specs.inner.Chunks.{Conversion, conversion_of, ReadsIn}
-use Rattle.qoi.specs.Images.{front_image, front_rest, file_image, file_image_in, file_rest}
-use Rattle.qoi.specs.Reading.{IsImage}
+use Rattle.qoi.specs.Images.{front_image, front_rest, file_image, file_image_in, file_rest, BeginsWithFile}
+use Rattle.qoi.specs.Reading.{IsImage, StandsAhead}
 use Rattle.qoi.specs.Decoded.{HasHeader, HasRefusedHeader, HasDecoded, HasRefused, HasDecodedFile, HasRefusedFile}
 use Rattle.qoi.specs.Encoded.{IsFileOf}
 use Rattle.qoi.proofs.decoding.Ahead.{decoder_of, fault_ahead, file_ahead, header_front, header_read_from, file_from_image, fourth_of_image, image_not_cut, image_not_wrong, image_read_from}
 use Rattle.qoi.proofs.decoding.TakenBytes.{nine_taken, whole_holds, read_within, refused_within}
-use Rattle.qoi.proofs.decoding.FrontImage.{file_image_is, file_rest_then, image_after, image_in_after, image_is, rest_is, some_pixels, three_of_front, decodes_after, decodes_more, file_has_header, file_is_whole, header_is_one}
+use Rattle.qoi.proofs.decoding.FrontImage.{file_image_is, file_rest_is, file_rest_then, image_after, image_in_after, image_is, rest_is, some_pixels, three_of_front, decodes_after, decodes_more, file_has_header, file_is_whole, header_is_one}
 use Rattle.qoi.proofs.decoding.ImageSize.{bounded_by, channels_are, image_length, pixels_of_size}
 use Rattle.qoi.proofs.format.HeaderBytes.{header_front as header_at_front}
 use Rattle.qoi.proofs.decoding.Refusals.{whole_not_refused, whole_not_refused_in}
@@ -119,6 +119,11 @@ has_refused_header old new e r = record {
   fault = if_known old _ (λ bytes told h read. header_fault bytes new e h (subst (λ z. ReadsHeader false z new (Err e)) told r) read);
 }
 
+-- an image that is read stands ahead
+image_stands : {channels : Channels} (h : Header) (bytes rest out : List ℕ) → IsImage channels bytes h rest out → StandsAhead h bytes
+unfolding StandsAhead
+image_stands h bytes rest out is = (is.cs, rest, is.whole)
+
 -- what a success promises
 pub has_decoded : {R : Type 0} (d : DecoderState R) (old new : Option (List ℕ)) (out : List ℕ) → HasImageLength (output_byte_count d) out
     → ReadsImage (channels_number d.header.channels) (channels_number d.channels) (pixel_count d.header) old new out → HasDecoded d old new out
@@ -132,6 +137,7 @@ has_decoded d old new out size r =
       took = if_known old _ (λ bytes told. let s = stands bytes told in
           subst (λ o. IfSome o (λ rest. length rest + 9 ≤ length bytes)) (sym s.1) (nine_taken (pixel_count d.header) bytes s.2.cs s.0 (some_pixels _ _ many) s.2.whole));
       rest = stands;
+      stands = if_known old _ (λ bytes told. let s = stands bytes told in image_stands d.header bytes s.0 out s.2);
       file = λ source ahead made told. file_from_image (λ _. old) d source ahead new out made told stands;
       rgb = λ three. if_known old _ (λ bytes told. let s = stands bytes told in
           image_is d.channels d.header bytes s.0 out s.2 ∙ ap (λ c. front_image c d.header bytes) three ∙ three_of_front d.header bytes);
@@ -197,6 +203,12 @@ not_part bytes h rest out f style other raw whole n g part below =
     let size : length rest + length (drop n whole) ≡ 0 = sym (length-append rest (drop n whole)) ∙ ap length same in
     omega (arith, size, length-drop n whole)
 
+-- bytes from which a file is decoded begin with it
+file_in_front : (bytes : List ℕ) (h : Header) (rest out : List ℕ) → DecodesFile bytes h rest out → BeginsWithFile bytes
+file_in_front bytes h rest out f =
+    let split : bytes ≡ file h f.cs ++ file_rest bytes = f.split ∙ ap (λ z. file h f.cs ++ z) (file_rest_is bytes h rest out f) in
+    record { header = h; cs = f.cs; is_file = f.is_file; split = split; size = sym (ap length split ∙ length-append (file h f.cs) (file_rest bytes)) }
+
 -- what a decoder made of the bytes decodes is the file at their front
 pub has_decoded_file : (bytes : List ℕ) (d : DecoderState (List ℕ)) (left out : List ℕ) → AreBytes bytes → header_of bytes ≡ Ok d.header
     → d.channels ≡ d.header.channels → d.reader ≡ drop header_size bytes → HasDecoded d (Some d.reader) (Some left) out → HasDecodedFile bytes d.header out
@@ -206,6 +218,7 @@ has_decoded_file bytes d left out fits read own after decoded =
     let size : length out ≡ image_byte_count h = decoded.size.0 ∙ ap (λ k. byte_count h (channels_number k)) own in
     record {
       decodes = (left, f);
+      begins = file_in_front bytes h left out f;
       header = read;
       image = file_image_is bytes h left out f;
       header_then = λ more. (decodes_more bytes more h left out f).header;

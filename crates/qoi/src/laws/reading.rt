@@ -130,6 +130,20 @@ pub fn images_are_functions()
         → file_image_in Channels.Rgb bytes ≡ without_fourth (file_image_in Channels.Rgba bytes) }
 {}
 
+/// A piece of an image stands behind the bytes that were read before. So two images are the same in
+/// front of a byte in which their pieces differ, if what was read of both before is the same.
+pub fn pieces_that_come()
+    ensures byte { (image given buf : List ℕ) (size k : ℕ)
+        → take size buf ≡ take size (drop (length given) image) → k < length (take size buf)
+        → slice_index image (length given + k) ≡ slice_index (take size buf) k }
+    ensures before { (one other given here there : List ℕ) (size k : ℕ)
+        → given ≡ take (length given) one → given ≡ take (length given) other
+        → take size here ≡ take size (drop (length given) one)
+        → take size there ≡ take size (drop (length given) other)
+        → take k (take size here) ≡ take k (take size there) → k < length (take size here)
+        → take (length given + k) one ≡ take (length given + k) other }
+{}
+
 /// Raw bytes of a valid header's image, as decoding gives them, are accepted by an encoder with its
 /// width and height, and get its header, in sRGB.
 #[tactic(auto, using(crate::proofs::format::HeaderBytes::encoded_again))]

@@ -1,21 +1,23 @@
 //! Callers that decode into chosen channels, and say so by the file alone.
-ghost use Rattle.std.specs.Prelude.{◌≡◌, Ok, IfOk};
+ghost use Rattle.std.specs.Prelude.{◌≡◌, Ok, IfOk, OnOk};
 ghost use Rattle.qoi.specs.declared.header.Header.{Header};
 ghost use Rattle.qoi.specs.declared.types.Channels.TheVariants.{Rgba};
-ghost use Rattle.qoi.specs.Images.{file_image_in};
+ghost use Rattle.qoi.specs.Images.{file_image_in, BeginsWithFile};
 ghost use Rattle.qoi.specs.Qoi.{header_of};
 ghost use Rattle.qoi.specs.Raw.{without_fourth};
 
 use crate::tests::fakes::{ONE_RGB_PIXEL, PIXEL};
 use crate::tests::library::support::assert_given;
-use qoi::laws::reading::images_are_functions;
+use qoi::laws::reading::{files_are_read, images_are_functions};
 use qoi::{Channels, Decoder, Result};
 use std::alloc::Global;
 
 /// The image of a file in these channels.
 pub fn decode_in(alloc: Global, file: &[u8], channels: Channels) -> Result<Vec<u8>>
-    ensures { IfOk result (λ raw. raw.items ≡ file_image_in channels file.now) }
+    ensures begins { OnOk result (BeginsWithFile file.now) }
+    ensures image { IfOk result (λ raw. raw.items ≡ file_image_in channels file.now) }
 {
+    files_are_read();
     let mut decoder = Decoder::new(file)?.with_channels(channels);
     let raw = decoder.decode_to_vec(alloc)?;
     Ok(raw)

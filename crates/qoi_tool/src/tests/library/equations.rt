@@ -1,6 +1,6 @@
 //! Functions of one's own, each with a contract, that are put together: files and images are
 //! functions of each other's bytes. None has a proof file.
-ghost use Rattle.std.specs.Prelude.{◌≡◌, ◌*◌, ◌<◌, ℕ, List, length, Some, Ok, IfOk, IfErr};
+ghost use Rattle.std.specs.Prelude.{◌≡◌, ◌*◌, ◌<◌, ℕ, List, length, Some, Ok, IfOk, IfErr, OnOk};
 ghost use Rattle.std.specs.Io.KnownBytes.{Appends};
 ghost use Rattle.qoi.specs.declared.error.Error.{Error};
 ghost use Rattle.qoi.specs.declared.header.Header.{Header};
@@ -8,27 +8,31 @@ ghost use Rattle.qoi.specs.declared.types.Channels.{Channels};
 ghost use Rattle.qoi.specs.declared.types.Style.TheVariants.{Reference};
 ghost use Rattle.qoi.specs.Qoi.{IsValid};
 ghost use Rattle.qoi.specs.Raw.{image_byte_count};
-ghost use Rattle.qoi.specs.Images.{file_image};
+ghost use Rattle.qoi.specs.Images.{file_image, BeginsWithFile};
 ghost use Rattle.qoi.specs.Encoded.{image_file, image_header};
 
 use crate::tests::fakes::{ONE_RGB_PIXEL, PIXEL};
 use crate::tests::library::support::{assert_both, assert_count, assert_given, assert_number};
-use qoi::laws::reading::{image_files_are_read, sizes_are_accepted};
+use qoi::laws::reading::{files_are_read, image_files_are_read, sizes_are_accepted};
 use qoi::{Channels, ColorSpace, Decoder, Encoder, Error, Header, decode_to_vec, encode_to_vec};
 use std::alloc::Global;
 use std::io::{Read, Write};
 
-/// Saved. The file of an image.
+/// Saved. The file of an image, whose image comes back.
 pub fn save(alloc: Global, raw: &[u8], width: u32, height: u32) -> Result<Vec<u8>, Error>
-    ensures { IfOk result (λ file. file_image file.items ≡ raw.now) }
+    ensures file { IfOk result (λ file. (h : Header) × (image_header raw.now width height ≡ Ok h)
+        × (file.items ≡ image_file Reference h raw.now)) }
+    ensures image { IfOk result (λ file. file_image file.items ≡ raw.now) }
 {
     encode_to_vec(alloc, raw, width, height)
 }
 
-/// Loaded. The image of a file.
+/// Loaded. The image of a file, which the bytes begin with.
 pub fn load(alloc: Global, file: &[u8]) -> Result<Vec<u8>, Error>
-    ensures { IfOk result (λ raw. raw.items ≡ file_image file.now) }
+    ensures begins { OnOk result (BeginsWithFile file.now) }
+    ensures image { IfOk result (λ raw. raw.items ≡ file_image file.now) }
 {
+    files_are_read();
     let (_, raw) = decode_to_vec(alloc, file)?;
     Ok(raw)
 }

@@ -3,18 +3,22 @@
 ghost use Rattle.std.specs.Prelude.{◌≡◌, ℕ, List, Some, IfOk, OnOk};
 ghost use Rattle.std.specs.Io.KnownBytes.{Appends};
 ghost use Rattle.qoi.specs.Qoi.{file};
-ghost use Rattle.qoi.specs.Images.{front_image, file_image};
+ghost use Rattle.qoi.specs.Images.{front_image, file_image, BeginsWithFile};
+ghost use Rattle.qoi.specs.Reading.{StandsAhead};
 
 use crate::tests::fakes::{ONE_RGB_PIXEL, PIXEL};
 use crate::tests::library::support::{assert_bytes, assert_given};
+use qoi::laws::reading::files_are_read;
 use qoi::{Decoder, Error, Reader};
 use std::alloc::Global;
 use std::io::Write;
 
 /// Rows into a vector: the same bytes as `decode_to_vec` gives.
 pub fn copy_rows(alloc: Global, file: &[u8]) -> Result<Vec<u8>, Error>
-    ensures { IfOk result (λ out. out.items ≡ file_image «file».now) }
+    ensures begins { OnOk result (BeginsWithFile «file».now) }
+    ensures image { IfOk result (λ out. out.items ≡ file_image «file».now) }
 {
+    files_are_read();
     let mut pixels = Decoder::new(file)?.into_pixels();
     let mut out = Vec::new(alloc);
     let mut row = [0; 4096];
@@ -27,7 +31,9 @@ pub fn copy_rows(alloc: Global, file: &[u8]) -> Result<Vec<u8>, Error>
 
 /// Rows from any reader to any writer, in bounded memory.
 pub fn to_raw<R: Reader + Drop, W: Write>(decoder: Decoder<R>, out: &mut W) -> Result<(), Error>
-    ensures { (bytes : List ℕ) → R.ahead decoder.reader ≡ Some bytes → OnOk result
+    ensures stands { (bytes : List ℕ) → R.ahead decoder.reader ≡ Some bytes
+        → OnOk result (StandsAhead decoder.header bytes) }
+    ensures written { (bytes : List ℕ) → R.ahead decoder.reader ≡ Some bytes → OnOk result
         (Appends (W.contents out.old) (W.contents out.new)
         (front_image decoder.channels decoder.header bytes)) }
 {
@@ -41,9 +47,11 @@ pub fn to_raw<R: Reader + Drop, W: Write>(decoder: Decoder<R>, out: &mut W) -> R
 
 /// The rows of a file to a writer.
 pub fn send_rows<W: Write>(file: &[u8], out: &mut W) -> Result<(), Error>
-    ensures { OnOk result
+    ensures begins { OnOk result (BeginsWithFile «file».now) }
+    ensures written { OnOk result
         (Appends (W.contents out.old) (W.contents out.new) (file_image «file».now)) }
 {
+    files_are_read();
     let decoder = Decoder::new(file)?;
     to_raw(decoder, out)?;
     Ok(())

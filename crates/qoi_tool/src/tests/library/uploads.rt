@@ -1,8 +1,8 @@
 //! An upload that is checked before it is kept, without memory for its image: each answer comes
 //! exactly if its clause holds. No proof file.
-ghost use Rattle.std.specs.Prelude.{◌≡◌, ◌↔◌, ◌<◌, ◌≤◌, ℕ, drop, length, Ok, IsErr, IfSome};
+ghost use Rattle.std.specs.Prelude.{◌≡◌, ◌↔◌, ◌<◌, ◌≤◌, ◌⊎◌, ℕ, take, drop, length, None, Ok, IsErr, IfSome};
 ghost use Rattle.qoi.specs.declared.header.Header.{Header};
-ghost use Rattle.qoi.specs.Images.{HasFrontFile};
+ghost use Rattle.qoi.specs.Images.{file_image, BeginsWithFile, HasFrontFile};
 ghost use Rattle.qoi.specs.Decoding.{IsNoFile};
 ghost use Rattle.qoi.specs.Qoi.{header_of, header_size};
 ghost use Rattle.qoi.specs.Raw.{image_byte_count};
@@ -17,7 +17,8 @@ use std::process::Abort;
 /// What an upload is.
 #[derive(Clone, Copy, Debug, PartialEq, Eq)]
 pub enum Verdict {
-    /// No valid header stands at the front.
+    /// No valid header stands at the front. It may begin with `qoif`, and name no pixels or more than
+    /// 400,000,000.
     NotQoi,
     /// The image has more raw bytes than are wanted.
     TooLarge,
@@ -64,7 +65,7 @@ pub fn check_upload(bytes: &[u8], most: usize) -> Verdict
     }
 }
 
-/// The same of bytes that are decoded into a buffer.
+/// The same of bytes whose image is decoded into the front of a buffer, if they are fine.
 pub fn decode_upload(buf: &mut [u8], bytes: &[u8]) -> Verdict
     ensures not_qoi { (result ≡ Verdict.NotQoi) ↔ IsErr (header_of bytes.now) }
     ensures too_large { (result ≡ Verdict.TooLarge) ↔ ((h : Header)
@@ -77,6 +78,8 @@ pub fn decode_upload(buf: &mut [u8], bytes: &[u8]) -> Verdict
         × (image_byte_count h ≤ length buf.old)) }
     ensures fine_with { (n : ℕ) → ((result ≡ Verdict.FineWith n) ↔ ((h : Header)
         × HasFrontFile h n bytes.now × (0 < n) × (image_byte_count h ≤ length buf.old))) }
+    ensures image { (result ≡ Verdict.Fine) ⊎ ((n : ℕ) × (result ≡ Verdict.FineWith n))
+        → take (length (file_image bytes.now)) buf.new ≡ file_image bytes.now }
 {
     files_are_read();
     let Ok(mut decoder) = Decoder::new(bytes) else {
@@ -97,10 +100,12 @@ pub fn decode_upload(buf: &mut [u8], bytes: &[u8]) -> Verdict
     }
 }
 
-/// Why the bytes don't begin with a file, if they don't.
+/// Why the bytes don't begin with a file; none if they do.
 pub fn refusal(bytes: &[u8]) -> Option<Error>
-    ensures { IfSome result (IsNoFile bytes.now) }
+    ensures some { IfSome result (IsNoFile bytes.now) }
+    ensures none { result ≡ None → BeginsWithFile bytes.now }
 {
+    files_are_read();
     refusals_say_why();
     let decoder = match Decoder::new(bytes) {
         Ok(decoder) => decoder,
