@@ -135,6 +135,8 @@ struct session {
     struct image_at *image;
     size_t total, given;
     int is_refused;
+    size_t refused_act;
+    int had_no_memory;
 };
 
 static const char *const way_names[] = {
@@ -163,12 +165,16 @@ static struct refusal refusal_here(const struct session *it, struct reading read
     return image_refusal(reading);
 }
 
+/* Whether an answer counts the bytes that the decoder took. */
+static int counts_bytes(const struct session *it) { return it->way == STREAM_SOURCE || it->way == SHOWN_SOURCE; }
+
 /* The decoder stands where the answer says, which is so far behind the place before at the least and at the most. */
 static void stands(struct session *it, const struct answer *answer, size_t least, size_t most) {
     size_t at = it->file->len - answer->ahead;
     if (answer->ahead > it->file->len || at < it->at + least || at > it->at + most)
         differ("bytes taken", it->at + (at < it->at + least ? least : most), at);
     it->at = answer->ahead > it->file->len ? it->file->len : at;
+    if (counts_bytes(it)) same("bytes given", it->at, answer->bytes);
     same("required_buf_len", pixel_count(it->file->header) * it->channels, answer->left);
     check_header(it->file->header, answer);
 }
@@ -187,7 +193,7 @@ static void check_whole(struct session *it, size_t i, size_t size) {
     }
     if (answer->error == MEMORY) {
         if (!has_failed || is_buf) differ("OutOfMemory", 0, 1);
-        has_failed = 0;
+        has_failed = 0, it->had_no_memory = 1;
         stands(it, answer, 0, 0);
         return;
     }
@@ -229,6 +235,7 @@ static void check_refused_piece(struct session *it, size_t i, size_t size) {
         differ("a piece is refused, error", NONE, answer->error);
     } else {
         refused_as(refusal_here(it, reading), answer);
+        if (it->way == STREAM_SOURCE) same("bytes taken", it->at + reading.taken, answer->bytes);
     }
 }
 
@@ -252,7 +259,7 @@ static void check_piece(struct session *it, size_t i) {
         it->has_fault = it->is_refused = 1;
     } else if (answer->error) {
         check_refused_piece(it, i, size);
-        it->is_refused = 1;
+        it->is_refused = 1, it->refused_act = i;
     } else if (it->given + size > known || (it->given + size == it->total && it->image->reading.verdict == WRONG)) {
         differ("a piece isn't refused, size", 0, answer->size);
     } else {
@@ -264,6 +271,20 @@ static void check_piece(struct session *it, size_t i) {
     same("left", it->total - it->given, answer->left);
 }
 
+/* How many bytes stood ahead before an act: by a session that ends there. */
+static size_t ahead_before(const struct session *it, size_t i) {
+    static struct act acts[ACTS];
+    static struct answer answers[ACTS + 1];
+    size_t room = it->acts[it->count - 1].at + it->acts[it->count - 1].size;
+    memcpy(acts, it->acts, sizeof acts);
+    memset(answers, 0, sizeof answers);
+    acts[i] = (struct act){.kind = INTO};
+    uint8_t *out = malloc(room + 1);
+    fuzz_decode(it->way, &it->plan, it->file->bytes, it->file->len, acts, i + 1, out, room, answers, i + 2);
+    free(out);
+    return answers[i + 1].ahead;
+}
+
 /* The decoder comes back: behind the image, before it, or in between. */
 static void check_into(struct session *it, size_t i) {
     const struct answer *answer = &it->answers[i + 1];
@@ -273,6 +294,8 @@ static void check_into(struct session *it, size_t i) {
     if (it->given == it->total) stands(it, answer, taken, taken);
     else if (it->given == 0 && !it->is_refused) stands(it, answer, 0, 0);
     else stands(it, answer, 0, taken);
+    if (in_memory(it) && it->is_refused && !it->had_no_memory)
+        same("bytes ahead after a piece that was refused", ahead_before(it, it->refused_act), answer->ahead);
 }
 
 static void check_finish(struct session *it, size_t i) {
@@ -281,6 +304,7 @@ static void check_finish(struct session *it, size_t i) {
     struct refusal why = refusal_here(it, reading);
     if (it->is_refused) why = (struct refusal){BUFFER_END, 0, 0, 0};
     else if (is_hit(it, i + 1)) why = fault_refusal(it);
+    if (why.error == PADDING && counts_bytes(it)) same("bytes taken", it->at + reading.taken, answer->bytes);
     it->is_pieces = 0;
     it->is_over = refused_as(why, answer);
     if (!it->is_over) stands(it, answer, reading.taken, reading.taken);
@@ -310,7 +334,7 @@ static int check_making(struct session *it) {
     if (is_hit(it, 0)) why = fault_refusal(it);
     /* A reader's buffer found no memory. */
     if (has_failed && answer->error == IO && answer->first == NO_MEMORY) return 0;
-    if (it->way == STREAM_SOURCE && (it->file->len >= 14 && !is_hit(it, 0))) same("bytes of the header", 14, answer->bytes);
+    if (counts_bytes(it) && it->file->len >= 14 && !is_hit(it, 0)) same("bytes of the header", 14, answer->bytes);
     if (refused_as(why, answer)) return 0;
     it->channels = it->file->header.channels;
     stands(it, answer, 14, 14);
@@ -326,6 +350,7 @@ static void check_session(struct session *it) {
         size_t end = it->acts[i].at + it->acts[i].size;
         untouched("bytes past the buffer", it->out + end, GUARD);
     }
+    if (has_failed) differ("an allocation that failed is reported", 1, 0);
 }
 
 /* How long the pieces are that are read: one size, or any. */
@@ -481,15 +506,18 @@ static void check_marks(struct random *random, struct subject_file *file, const 
 
 static void check_clones(struct random *random, struct subject_file *file) {
     struct image_at *it = image_at(file, 14);
-    size_t total = pixel_count(file->header) * file->header.channels, size = below(random, total + 1);
+    uint32_t channels = between(random, 3, 4);
+    size_t total = pixel_count(file->header) * channels, size = below(random, total + 1);
     uint8_t *out = fresh(2 * total);
     struct answer answers[3], made = {0};
     memset(answers, 0, sizeof answers);
     begin("PixelReader::clone", 0);
-    fuzz_clones(file->bytes, file->len, size, out, 2 * total, &made, answers, 3);
+    fuzz_clones(channels, file->bytes, file->len, size, out, 2 * total, &made, answers, 3);
     end();
-    const uint8_t *raw = raw_of(file, it, file->header.channels);
+    const uint8_t *raw = raw_of(file, it, channels);
     refused_as((struct refusal){0}, &made);
+    same("into_data", file->len - 14, answers[0].ahead);
+    same("into_reader", file->len - 14 - it->reading.taken, answers[2].ahead);
     for (int i = 0; i < 3; i++) {
         refused_as((struct refusal){0}, &answers[i]);
         same("size", i == 0 ? size : total - size, answers[i].size);

@@ -276,24 +276,42 @@ static void check_finished(struct pieces *it, size_t i) {
     }
 }
 
-static void check_given_pieces(struct pieces *it, const uint8_t *out, size_t room, size_t size) {
+/* How many bytes the writer took in all. */
+static size_t bytes_sent(const struct pieces *it) {
+    size_t most = 0;
+    for (size_t i = 0; i <= it->count; i++)
+        if (it->answers[i].bytes > most) most = it->answers[i].bytes;
+    return most;
+}
+
+static void check_acts(struct pieces *it) {
     const struct answer *made = &it->answers[0];
     size_t last = it->count - 1;
     if (is_hit_now(it, 0)) {
         refused_as(fault(&it->plan), made);
-    } else if (has_failed && (made->error == MEMORY || made->error == IO)) {
-        refused_as(made->error == IO ? (struct refusal){IO, NO_MEMORY, 0, 0} : (struct refusal){MEMORY, 0, 0, 0}, made);
+    } else if (has_failed && made->error == MEMORY) {
+        refused_as((struct refusal){MEMORY, 0, 0, 0}, made);
+    } else if (has_failed && made->error == IO) {
+        refused_as((struct refusal){IO, NO_MEMORY, 0, 0}, made);
     } else if (!refused_as((struct refusal){0}, made)) {
         same("left", it->total, made->left);
         for (size_t i = 0; i < last; i++) check_given(it, i);
         if (it->acts[last].kind == FINISH) check_finished(it, last);
     }
-    int is_whole = it->acts[last].kind == FINISH && it->came == it->total && it->answers[last + 1].error == 0 && !made->error;
-    if (it->sink == TO_SINK) check_beginning(it->it, out, room, it->answers[last].bytes > it->answers[last + 1].bytes
-                                                                    ? it->answers[last].bytes : it->answers[last + 1].bytes);
-    if (it->sink == TO_VECTOR) check_beginning(it->it, out, room, size);
-    if (is_whole && it->sink == TO_VECTOR && !has_failed) same("size", it->it->size, size);
-    if (is_whole && it->sink == TO_SLICE) check_beginning(it->it, out, room, it->it->size);
+}
+
+/* What the writer got: `size` bytes of a vector. */
+static void check_sent(const struct pieces *it, const uint8_t *out, size_t room, size_t size) {
+    const struct answer *last = &it->answers[it->count];
+    int is_finished = it->acts[it->count - 1].kind == FINISH && !last->error && !it->answers[0].error;
+    if (it->sink == TO_SINK) {
+        check_beginning(it->it, out, room, bytes_sent(it));
+    } else if (it->sink == TO_VECTOR) {
+        check_beginning(it->it, out, room, size);
+        if (is_finished) same("size", it->it->size, size);
+    } else if (is_finished) {
+        check_beginning(it->it, out, room, it->it->size);
+    }
 }
 
 static void check_pieces(struct random *random, struct subject_image *image, struct wanted *wanted) {
@@ -308,9 +326,8 @@ static void check_pieces(struct random *random, struct subject_image *image, str
     fuzz_write(it.sink, &wanted->picture, &it.plan, image->raw, image->len + 16, it.acts, it.count, out, room, &size, it.answers,
                it.count + 1);
     end();
-    /* What a writer got before the making or a finish was refused is counted last where an answer has it. */
-    if (it.answers[0].error) it.answers[it.count - 1].bytes = it.answers[0].bytes;
-    check_given_pieces(&it, out, room, size);
+    check_acts(&it);
+    check_sent(&it, out, room, size);
 }
 
 #if __has_include(<qoi.h>)

@@ -30,8 +30,8 @@ void fuzz_rows(const uint8_t *indexed, size_t indexed_len, uint32_t every, const
 void fuzz_marks(uint32_t channels, const uint8_t *file, size_t len, const uint8_t *other, size_t other_len,
                 const struct act *acts, size_t count, uint8_t *out, size_t room, struct answer *made,
                 struct answer *answers, size_t answer_count);
-void fuzz_clones(const uint8_t *file, size_t len, size_t size, uint8_t *out, size_t room, struct answer *made,
-                 struct answer *answers, size_t answer_count);
+void fuzz_clones(uint32_t channels, const uint8_t *file, size_t len, size_t size, uint8_t *out, size_t room,
+                 struct answer *made, struct answer *answers, size_t answer_count);
 void fuzz_encode(uint32_t way, const struct picture *image, const struct plan *plan, const uint8_t *raw, size_t len,
                  uint8_t *out, size_t room, struct answer *answer);
 void fuzz_encode_free(uint32_t way, const struct picture *image, const uint8_t *raw, size_t len, uint8_t *out, size_t room,
