@@ -431,41 +431,31 @@ static void check_known_piece(const struct act *act, const struct answer *answer
     same("left", total - *at, answer->left);
 }
 
-static void check_rows(struct random *random, struct subject_file *file, const struct bytes *other) {
-    struct header header = file->header;
-    struct image_at *it = image_at(file, 14);
+#define ROW_ACTS 16
+
+/* By turns rows are sought, in some channels, and bytes are read. Returns the room that is needed. */
+static size_t plan_rows(struct random *random, struct header header, struct act *acts) {
     size_t total = pixel_count(header) * 4, row = (size_t)header.width * 4, at = 0;
-    uint32_t every = ONE_OF(random, 0, 1, 1, 2, 3, 8, 100);
-    struct act acts[16];
-    struct answer answers[16], made = {0};
-    memset(answers, 0, sizeof answers);
-    for (int i = 0; i < 16; i++) {
+    for (int i = 0; i < ROW_ACTS; i++) {
         size_t size = chance(random, 700) ? below(random, 2 * row + 4) : below(random, total + 4);
-        int is_read = i % 2 == 1;
-        acts[i] = (struct act){is_read ? READ : ONE_OF(random, ROWS, IN_RGB, IN_RGBA), below(random, header.height + 2), at,
-                               is_read ? size : 0};
+        acts[i] = (struct act){READ, 0, at, size};
+        if (i % 2 == 0) acts[i] = (struct act){ONE_OF(random, ROWS, IN_RGB, IN_RGBA), below(random, header.height + 2), at, 0};
         at += acts[i].size + GUARD;
     }
-    if (at > OUT_ROOM) return;
-    uint8_t *out = fresh(at);
-    begin("RowIndex", chance(random, 30));
-    fuzz_rows(file->bytes, file->len, every, other->at, other->len, acts, 16, out, at, &made, answers, 16);
-    end();
-    int is_same = other->len >= file->len && memcmp(file->bytes, other->at, file->len) == 0;
-    for (int i = 0; i < 16; i++) untouched("bytes past the buffer", out + acts[i].at + acts[i].size, GUARD);
-    if (has_failed && header.height > 1 && made.error == MEMORY) return;
-    if (file->why.error || it->reading.verdict != WHOLE) {
-        refused_as(file->why.error ? file->why : image_refusal(it->reading), &made);
-        return;
-    }
-    if (!is_same) return;
-    refused_as((struct refusal){0}, &made);
+    return at;
+}
+
+/* The rows of the indexed file, or of one that begins with it. */
+static void check_known_rows(struct subject_file *file, const struct act *acts, const struct answer *answers,
+                             const uint8_t *out) {
+    struct header header = file->header;
+    struct image_at *it = image_at(file, 14);
     uint32_t channels = header.channels;
     size_t where = 0;
-    for (int i = 0; i < 16; i++) {
+    for (int i = 0; i < ROW_ACTS; i++) {
+        size_t total = pixel_count(header) * channels;
         if (acts[i].kind == READ) {
-            check_known_piece(&acts[i], &answers[i], raw_of(file, it, channels), pixel_count(header) * channels, &where,
-                              out + acts[i].at);
+            check_known_piece(&acts[i], &answers[i], raw_of(file, it, channels), total, &where, out + acts[i].at);
             continue;
         }
         struct refusal high = {BUFFER_END, 0, 0, 0};
@@ -474,6 +464,30 @@ static void check_rows(struct random *random, struct subject_file *file, const s
         where = (size_t)acts[i].row * header.width * channels;
         same("left", pixel_count(header) * channels - where, answers[i].left);
     }
+}
+
+static int begins_with(const struct bytes *other, const struct subject_file *file) {
+    return other->len >= file->len && memcmp(file->bytes, other->at, file->len) == 0;
+}
+
+/* Reads rows of another file, or of the same, by an index of this one. */
+static void check_rows(struct random *random, struct subject_file *file, const struct bytes *other) {
+    struct act acts[ROW_ACTS];
+    struct answer answers[ROW_ACTS], made = {0};
+    memset(answers, 0, sizeof answers);
+    uint32_t every = ONE_OF(random, 0, 1, 1, 2, 3, 8, 100);
+    struct header small = {1, 1, 3, 0};
+    size_t room = plan_rows(random, file->why.error ? small : file->header, acts);
+    if (room > OUT_ROOM) return;
+    uint8_t *out = fresh(room);
+    begin("RowIndex", chance(random, 30));
+    fuzz_rows(file->bytes, file->len, every, other->at, other->len, acts, ROW_ACTS, out, room, &made, answers, ROW_ACTS);
+    end();
+    for (int i = 0; i < ROW_ACTS; i++) untouched("bytes past the buffer", out + acts[i].at + acts[i].size, GUARD);
+    struct refusal why = file->why;
+    if (!why.error) why = has_failed ? (struct refusal){MEMORY, 0, 0, 0} : image_refusal(image_at(file, 14)->reading);
+    if (why.error || begins_with(other, file)) refused_as(why, &made);
+    if (!why.error && begins_with(other, file)) check_known_rows(file, acts, answers, out);
 }
 
 static void check_marks(struct random *random, struct subject_file *file, const struct bytes *other) {
@@ -492,7 +506,7 @@ static void check_marks(struct random *random, struct subject_file *file, const 
     fuzz_marks(channels, file->bytes, file->len, other->at, other->len, acts, 4, out, at, &made, answers, 4);
     end();
     for (int i = 0; i < 4; i++) untouched("bytes past the buffer", out + acts[i].at + acts[i].size, GUARD);
-    int is_same = other->len >= file->len && memcmp(file->bytes, other->at, file->len) == 0;
+    int is_same = begins_with(other, file);
     const uint8_t *raw = raw_of(file, it, channels);
     size_t where = 0;
     check_known_piece(&acts[0], &answers[0], raw, total, &where, out + acts[0].at);
@@ -560,14 +574,12 @@ static void check_places(struct random *random, struct subject_file *file) {
     for (int i = below(random, 16); i > 0; i--) longer.at[longer.len++] = next(random);
     const struct bytes *others[] = {&itself, &longer, &before};
     const struct bytes *other = others[before.at ? below(random, 3) : below(random, 2)];
-    if (!file->why.error && pixel_count(file->header) < IMAGE_PIXELS) {
-        if (chance(random, 400)) check_rows(random, file, other);
-        if (image_at(file, 14)->reading.verdict == WHOLE) {
-            if (chance(random, 300)) check_marks(random, file, other);
-            if (chance(random, 100)) check_clones(random, file);
-            if (chance(random, 300)) check_c_library(random, file);
-        }
-    }
+    int is_known = !file->why.error && pixel_count(file->header) < IMAGE_PIXELS;
+    int is_whole = is_known && image_at(file, 14)->reading.verdict == WHOLE;
+    if ((is_known || file->why.error) && chance(random, 400)) check_rows(random, file, other);
+    if (is_whole && chance(random, 300)) check_marks(random, file, other);
+    if (is_whole && chance(random, 100)) check_clones(random, file);
+    if (is_whole && chance(random, 300)) check_c_library(random, file);
     if (file->len < 3000 && chance(random, 50)) keep_other(&before, file->bytes, file->len);
 }
 

@@ -323,8 +323,9 @@ static void check_pieces(struct random *random, struct subject_image *image, str
     size_t size = 0, room = wanted->size + below(random, 20);
     uint8_t *out = fresh(room);
     begin("PixelWriter", chance(random, 60) ? between(random, 1, 4) : 0);
-    fuzz_write(it.sink, &wanted->picture, &it.plan, image->raw, image->len + 16, it.acts, it.count, out, room, &size, it.answers,
-               it.count + 1);
+    /* The bytes behind the image are for pieces that are too many. */
+    fuzz_write(it.sink, &wanted->picture, &it.plan, image->raw, image->len + 16, it.acts, it.count, out, room, &size,
+               it.answers, it.count + 1);
     end();
     check_acts(&it);
     check_sent(&it, out, room, size);

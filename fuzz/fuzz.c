@@ -58,10 +58,10 @@ static void watch(void) {
 }
 
 static int report(uint64_t seed, uint64_t files, uint64_t images, double seconds) {
-    printf("fuzz: seed %llu: %llu files, %llu images in %.1f seconds (%llu calls), ", (unsigned long long)seed,
-           (unsigned long long)files, (unsigned long long)images, seconds, calls);
-    if (differences) printf("%llu differences\n", differences);
-    else printf("all as the model says\n");
+    printf("fuzz: seed %llu: %llu files, %llu images in %.1f seconds, ", (unsigned long long)seed, (unsigned long long)files,
+           (unsigned long long)images, seconds);
+    if (differences) printf("%llu differences (%llu calls)\n", differences, calls);
+    else printf("all as the model says (%llu calls)\n", calls);
     return differences > 0;
 }
 

@@ -4,9 +4,9 @@
 
 /* Sizes */
 
-/* Mostly small images; rows of one pixel and single rows; and now and then one that passes the sizes of the library's pieces. */
-static void make_size(struct random *random, struct header *header) {
-    size_t kind = below(random, 10000), w = 0, h = 0;
+/* Mostly small images; rows of one pixel, and single rows; and now and then one that passes the sizes of pieces. */
+static void make_size(struct random *random, struct header *header, size_t least_kind) {
+    size_t kind = between(random, least_kind, 9999), w = 0, h = 0;
     if (kind < 5500) w = between(random, 1, 8), h = between(random, 1, 6);
     else if (kind < 7500) w = between(random, 1, 40), h = between(random, 1, 12);
     else if (kind < 8600) w = 1, h = between(random, 1, 200);
@@ -140,7 +140,7 @@ static void spoil(struct random *random, struct bytes *file, size_t end) {
 
 void make_file(struct random *random, struct bytes *file) {
     struct header header;
-    make_size(random, &header);
+    make_size(random, &header, 0);
     model_put_header(header, file->at);
     file->len = 14;
     put_chunks(random, file, pixel_count(header));
@@ -189,15 +189,24 @@ static void make_kinds(struct random *random, size_t *of) {
     if (sum == 0) of[REPEAT] = 1;
 }
 
+/* How many pixels of a kind come: of repeats up to `stretch`, and if that is many, often as many as full runs have, or
+   nearly. */
+static size_t make_count(struct random *random, enum kind kind, size_t stretch) {
+    if (kind != REPEAT) return 1;
+    if (stretch < 100 || chance(random, 500)) return between(random, 1, stretch);
+    return 62 * between(random, 1, 3) - 2 + below(random, 5);
+}
+
 struct header make_image(struct random *random, uint8_t *raw) {
     static struct pixel image[IMAGE_PIXELS];
     size_t of[KINDS], stretch = ONE_OF(random, 1, 1, 1, 3, 20, 100);
     struct header header;
-    make_size(random, &header);
+    /* Long runs in larger images. */
+    make_size(random, &header, stretch == 100 && chance(random, 300) ? 9700 : 0);
     make_kinds(random, of);
     for (size_t at = 0; at < pixel_count(header);) {
         enum kind kind = draw(random, of, KINDS);
-        for (size_t k = kind == REPEAT ? between(random, 1, stretch) : 1; k > 0 && at < pixel_count(header); k--, at++) {
+        for (size_t k = make_count(random, kind, stretch); k > 0 && at < pixel_count(header); k--, at++) {
             image[at] = make_pixel(random, kind, image, at);
             if (header.channels == 3) image[at].a = 255;
         }
