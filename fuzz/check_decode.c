@@ -382,10 +382,12 @@ static size_t plan_session(struct random *random, struct session *it) {
     struct header header = it->file->header;
     size_t needed = it->file->why.error ? 10 : pixel_count(header) * header.channels, at = 0;
     size_t small = needed < OUT_ROOM / 16 ? needed : 0, row = (size_t)header.width * header.channels;
+    /* In the other number of channels. */
+    size_t other = header.channels == 3 ? small / 3 * 4 : small / 4 * 3;
     for (size_t k = between(random, 1, 3); k > 0; k--) {
         if (chance(random, 300)) add_act(it, between(random, IN_RGB, IN_RGBA), 0, &at);
         if (chance(random, 350)) {
-            add_act(it, TO_BUF, buffer_size(random, chance(random, 300) ? small + small / 3 + 1 : small + 1), &at);
+            add_act(it, TO_BUF, buffer_size(random, chance(random, 300) ? other : small), &at);
         } else if (chance(random, 400)) {
             add_act(it, TO_VEC, small + small / 3 + 1, &at);
         } else {

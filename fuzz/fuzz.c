@@ -31,6 +31,7 @@ static struct random of_case(uint64_t seed, char kind, uint64_t number) {
 
 static void check_case(uint64_t seed, char kind, uint64_t number) {
     struct random random = of_case(seed, kind, number);
+    alarm(CASE_SECONDS);
     subject = (struct subject){.kind = kind, .seed = seed, .number = number, .call = "the generator"};
     if (kind == 'f') {
         struct bytes file = {file_room, 0};
@@ -77,10 +78,7 @@ int main(int count, char **words) {
         return report(seed, words[5][0] == 'f', words[5][0] == 'i', now() - start);
     }
     while (files < most_files || images < most_images) {
-        if ((files + images) % 64 == 0) {
-            alarm(CASE_SECONDS);
-            if (seconds > 0 && now() - start >= seconds) break;
-        }
+        if ((files + images) % 64 == 0 && seconds > 0 && now() - start >= seconds) break;
         /* Files and images by turns, in the shares that were asked for. */
         if (files < most_files && (double)files * most_images <= (double)images * most_files) check_case(seed, 'f', files++);
         else if (images < most_images) check_case(seed, 'i', images++);
