@@ -226,11 +226,12 @@ static void start_pieces(struct session *it, const struct answer *answer) {
     same("left", it->total, answer->left);
 }
 
-/* A piece that may come from a file that is cut, or has a wrong end marker, is refused at its end or somewhat earlier. */
+/* A piece that may come from a file that is cut, or has a wrong end marker, is refused at its end or somewhat earlier; a
+   slice once fewer bytes are left than an end marker has. */
 static void check_refused_piece(struct session *it, size_t i, size_t size) {
     const struct answer *answer = &it->answers[i + 1];
     struct reading reading = it->image->reading;
-    size_t known = reading.pixels * it->channels;
+    size_t known = (in_memory(it) ? reading.before : reading.pixels) * it->channels;
     if (reading.verdict == WHOLE || it->given + size + AHEAD < known) {
         differ("a piece is refused, error", NONE, answer->error);
     } else {

@@ -90,18 +90,19 @@ static size_t chunk_repeats(uint8_t first) { return first >= 0xc0 && first < 0xf
 
 struct reading model_read(const uint8_t *bytes, size_t len, size_t wanted, struct pixel *image) {
     struct pixel seen[64] = {{0}}, last = start;
-    size_t at = 0, pixels = 0;
+    size_t at = 0, pixels = 0, before = 0;
     while (pixels < wanted) {
-        if (at == len || chunk_length(bytes[at]) > len - at) return (struct reading){CUT, pixels, at, len};
+        if (at == len || chunk_length(bytes[at]) > len - at) return (struct reading){CUT, pixels, before, at, len};
         last = model_chunk_pixel(bytes + at, last, seen);
         seen[model_place(last)] = last;
         /* A last run that is too long is cut. */
         for (size_t k = chunk_repeats(bytes[at]); k > 0 && pixels < wanted; k--) image[pixels++] = last;
         at += chunk_length(bytes[at]);
+        if (len - at >= 8) before = pixels;
     }
-    if (len - at < 8) return (struct reading){CUT, pixels, at, len};
+    if (len - at < 8) return (struct reading){CUT, pixels, before, at, len};
     int is_marked = memcmp(bytes + at, end_marker, 8) == 0;
-    return (struct reading){is_marked ? WHOLE : WRONG, pixels, at, at + 8};
+    return (struct reading){is_marked ? WHOLE : WRONG, pixels, before, at, at + 8};
 }
 
 void model_raw(const struct pixel *image, size_t count, uint32_t file_channels, uint32_t channels, uint8_t *raw) {

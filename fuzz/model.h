@@ -17,6 +17,7 @@ enum verdict { WHOLE, CUT, WRONG };
 struct reading {
     enum verdict verdict;
     size_t pixels; /* that the whole chunks give, no more than are wanted */
+    size_t before; /* pixels that chunks gave before fewer than eight bytes were left, those of an end marker */
     size_t text;   /* bytes of the whole chunks */
     size_t taken;  /* bytes of chunks and end marker, or all if they are cut */
 };
