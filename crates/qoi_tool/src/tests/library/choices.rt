@@ -22,9 +22,8 @@ fn assert_run(
     rt: &impl Abort,
     alloc: Global,
     n: u8,
-    black: &[u8],
-    last: &[u8],
     channels: Channels,
+    (black, last): (&[u8], &[u8]),
 ) {
     let (mut raw, mut chunks) = (Vec::new(alloc), Vec::new(alloc));
     for _ in 0..n {
@@ -43,16 +42,14 @@ fn assert_run(
 fn runs_at_the_start(rt: HostRuntime) {
     let alloc = rt.alloc();
     for n in 1..=124u8 {
+        assert_run(&rt, alloc, n, Channels::Rgb, (&[0; 3], b"\xfe\x0b\x16\x21"));
         assert_run(
             &rt,
             alloc,
             n,
-            &[0, 0, 0],
-            &[0xfe, 11, 22, 33],
-            Channels::Rgb,
+            Channels::Rgba,
+            (b"\0\0\0\xff", b"\xff\x0b\x16\x21\x2c"),
         );
-        let last = [0xff, 11, 22, 33, 44];
-        assert_run(&rt, alloc, n, &[0, 0, 0, 255], &last, Channels::Rgba);
     }
 }
 
