@@ -4,7 +4,7 @@ ghost use Rattle.std.specs.Prelude.{◌≡◌, IfOk};
 
 use std::alloc::{AllocError, Global};
 use std::io;
-use std::io::{BufRead, ErrorKind, Read, Write};
+use std::io::{ErrorKind, Read, Write};
 
 /// The raw bytes of one pixel of three channels.
 pub const PIXEL: [u8; 3] = [0x0b, 0x79, 0xe7];
@@ -37,13 +37,27 @@ pub enum End {
     NoByte,
 }
 
-/// Ways for a bad call to fail, and the kind of the error.
-pub const FAULTS: [(End, ErrorKind); 4] = [
-    (End::Fault, ErrorKind::BrokenPipe),
-    (End::Interruption, ErrorKind::Interrupted),
-    (End::Late, ErrorKind::TimedOut),
-    (End::Named, ErrorKind::Other),
+/// Each of the ways.
+pub const ENDS: [End; 5] = [
+    End::Fault,
+    End::Interruption,
+    End::Late,
+    End::Named,
+    End::NoByte,
 ];
+
+impl End {
+    /// The kind of the error that a call of the library returns, if it has this one for no byte.
+    pub fn kind(self, no_byte: ErrorKind) -> ErrorKind {
+        match self {
+            End::Fault => ErrorKind::BrokenPipe,
+            End::Interruption => ErrorKind::Interrupted,
+            End::Late => ErrorKind::TimedOut,
+            End::Named => ErrorKind::Other,
+            End::NoByte => no_byte,
+        }
+    }
+}
 
 /// Which call is the bad one, counted from 1 (0: none), and how it ends.
 #[derive(Clone, Copy)]
@@ -63,11 +77,9 @@ fn ended(end: End) -> io::Result<usize>
     ensures { IfOk result (λ n. n ≡ 0) }
 {
     match end {
-        End::Fault => Err(io::Error::from(ErrorKind::BrokenPipe)),
-        End::Interruption => Err(io::Error::from(ErrorKind::Interrupted)),
-        End::Late => Err(io::Error::from(ErrorKind::TimedOut)),
-        End::Named => Err(io::Error::new(ErrorKind::Other, "x")),
         End::NoByte => Ok(0),
+        End::Named => Err(io::Error::new(ErrorKind::Other, "x")),
+        _ => Err(io::Error::from(end.kind(ErrorKind::Other))),
     }
 }
 
@@ -104,62 +116,6 @@ impl<'a> Read for Source<'a> {
         buf[..n].copy_from_slice(&self.left[..n]);
         self.left = &self.left[n..];
         Ok(n)
-    }
-}
-
-/// Shows the bytes of a source before it gives them, as many at a time as that gives in one call.
-#[derive(Drop)]
-pub struct Shown<'a> {
-    /// Where the bytes that are left stand.
-    pub source: Source<'a>,
-    bad: Bad,
-    /// How many calls of `fill_buf` there were.
-    pub fills: usize,
-    /// Whether one of the calls failed, of `fill_buf` or of `read`.
-    failed: bool,
-    /// Whether another call came after that.
-    pub goes_on: bool,
-}
-
-impl<'a> Shown<'a> {
-    /// A reader of this source's bytes, with a bad call of `fill_buf`.
-    pub fn new(source: Source<'a>, bad: Bad) -> Shown<'a> {
-        Shown {
-            source,
-            bad,
-            fills: 0,
-            failed: false,
-            goes_on: false,
-        }
-    }
-}
-
-impl<'a> Read for Shown<'a> {
-    fn read(&mut self, buf: &mut [u8]) -> io::Result<usize> {
-        self.goes_on = self.failed;
-        let read = self.source.read(buf);
-        self.failed = read.is_err();
-        read
-    }
-}
-
-impl<'a> BufRead for Shown<'a> {
-    // If the bad call shows no byte, none is shown or given from then on.
-    fn fill_buf(&mut self) -> io::Result<&[u8]> {
-        self.goes_on = self.failed;
-        self.fills = self.fills.saturating_add(1);
-        if self.fills == self.bad.call {
-            let shown = ended(self.bad.end);
-            self.failed = shown.is_err();
-            self.source.most = shown?;
-        }
-        let n = self.source.left.len().min(self.source.most);
-        Ok(&self.source.left[..n])
-    }
-
-    fn consume(&mut self, amount: usize) {
-        let n = self.source.left.len().min(amount);
-        self.source.left = &self.source.left[n..];
     }
 }
 

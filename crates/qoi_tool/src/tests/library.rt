@@ -1,12 +1,9 @@
 //! The library as any crate sees it, by its public calls and by `parts`: the worked examples,
-//! proved callers, drawn images and files, broken files, readers, writers and memory that fail, and
-//! the standard library's readers and writers.
+//! proved callers, generated images, broken files, readers, writers and memory that fail, and the
+//! standard library's readers and writers.
 
 mod any_row;
-mod any_rows;
-mod blocks;
 mod broken;
-mod buffered;
 mod callers;
 mod calls;
 mod choices;
@@ -23,13 +20,9 @@ mod facts;
 mod faults;
 mod frames;
 mod generated;
-mod lengths;
+mod indexed;
 mod memory;
-mod neighbours;
-mod ours;
 mod packs;
-mod pairs;
-mod pieces;
 mod pixel;
 mod pixel_readers;
 mod pixel_writer;
@@ -39,13 +32,10 @@ mod rectangles;
 mod refusals;
 mod row_callers;
 mod row_indexes;
-mod rows;
 mod runs;
 mod saves;
-mod second_images;
 mod stacks;
 mod std_streams;
-mod streams;
 mod strips;
 pub mod support;
 mod table_of_callers;

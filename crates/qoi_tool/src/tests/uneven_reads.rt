@@ -1,11 +1,13 @@
 //! Files of about one and two mebibytes, from a reader that gives uneven parts.
-use crate::tests::dec;
 use crate::tests::fakes::NONE;
 use crate::tests::library::support::images::row;
-use crate::tests::library::support::made;
+use crate::tests::library::support::{assert_bytes, made};
+use crate::tests::line_of;
 use qoi::Channels;
+use std::alloc::Global;
 use std::io;
 use std::io::Read;
+use std::process::Abort;
 
 // The most bytes that the reading asks for in a call: a mebibyte.
 const MOST: u32 = 1_048_576;
@@ -42,30 +44,31 @@ impl<'a> Read for Uneven<'a> {
     }
 }
 
-// A file of differences, which are chunks of one byte, is read whole, up to the last byte of its
-// end marker, by a mebibyte a call at most.
+// A file of so many bytes, the most of them differences, which are chunks of one byte, is read whole,
+// up to the last byte of its end marker, by a mebibyte a call at most.
+fn assert_read(rt: &impl Abort, alloc: Global, size: u32) {
+    let pixels = size.saturating_sub(AROUND);
+    let chunks = made::filled(rt, alloc, 0x7f, pixels as usize);
+    let file = made::file(rt, alloc, row(pixels, Channels::Rgb), &chunks);
+    let mut raw = Vec::new(alloc);
+    for k in 1..=pixels {
+        made::append(rt, &mut raw, &[(k % 256) as u8; 3]);
+    }
+    let mut input = Uneven::new(&file);
+    let mut output = made::sink(rt, alloc, usize::MAX, NONE);
+    assert_bytes(
+        rt,
+        &line_of(rt, alloc, "dec", false, &mut input, &mut output),
+        &[],
+    );
+    assert_bytes(rt, &output.got, &raw);
+    assert!(rt; input.asked <= MOST as usize);
+}
+
 #[test]
 fn uneven_reads(rt: HostRuntime) {
-    let alloc = rt.alloc();
-    for size in [
-        2 * MOST + 1,
-        2 * MOST,
-        2 * MOST - 1,
-        MOST + 1,
-        MOST,
-        MOST - 1,
-    ] {
-        let pixels = size - AROUND;
-        let chunks = made::filled(&rt, alloc, 0x7f, pixels as usize);
-        let file = made::file(&rt, alloc, row(pixels, Channels::Rgb), &chunks);
-        let mut raw = Vec::new(alloc);
-        for k in 1..=pixels {
-            made::append(&rt, &mut raw, &[(k % 256) as u8; 3]);
-        }
-        let mut input = Uneven::new(&file);
-        let mut output = made::sink(&rt, alloc, usize::MAX, NONE);
-        assert!(rt; dec(alloc, &mut input, &mut output).is_ok());
-        assert!(rt; output.got == raw);
-        assert!(rt; input.asked <= MOST as usize);
+    for size in MOST - 1..MOST + 2 {
+        assert_read(&rt, rt.alloc(), size);
+        assert_read(&rt, rt.alloc(), size + MOST);
     }
 }

@@ -1,25 +1,25 @@
 //! The callers, run on small images. Each test calls few of them and takes few results apart, since
 //! a test is proved in more than twice the time if it has twice the facts.
-use crate::tests::fakes::{Bad, End, ONE_RGB_PIXEL, PIXEL, Sink};
+use crate::tests::fakes::{Bad, End, ONE_RGB_PIXEL, PIXEL};
 use crate::tests::library::callers::{
     all_images, at_most, both_channels, both_images, bounded_bytes, decoded_part, encoded_part,
     first_byte, header_ahead, keep_and_try, lengths, more_needed, near_shortest, no_longer,
     pack_and_keep_in, receive, shortest, two_frames,
 };
-use crate::tests::library::support::images::{file_of, row};
+use crate::tests::library::support::decodings::front;
+use crate::tests::library::support::images::row;
 use crate::tests::library::support::{
     assert_both, assert_bytes, assert_cut, assert_fails, assert_given, assert_header,
-    assert_no_memory, assert_number, assert_part,
+    assert_no_memory, assert_part, made,
 };
 use qoi::{Channels, Error, Header, Style};
+use std::alloc::Global;
 use std::io::ErrorKind;
+use std::process::Abort;
 
 // The file twice.
-fn files() -> [u8; 52] {
-    let mut files = [0; 52];
-    files[..26].copy_from_slice(&ONE_RGB_PIXEL);
-    files[26..].copy_from_slice(&ONE_RGB_PIXEL);
-    files
+fn files(rt: &impl Abort, alloc: Global) -> Vec<u8> {
+    made::joined(rt, alloc, &ONE_RGB_PIXEL, &ONE_RGB_PIXEL)
 }
 
 #[test]
@@ -54,7 +54,7 @@ fn buffers_and_vectors(rt: HostRuntime) {
 #[test]
 fn writers_that_refuse(rt: HostRuntime) {
     let end = End::Fault;
-    let mut writer = Sink::new(rt.alloc(), 4, Bad { call: 3, end }).expect(&rt, "refused");
+    let mut writer = made::sink(&rt, rt.alloc(), 4, Bad { call: 3, end });
     let tried = keep_and_try(rt.alloc(), &PIXEL, 1, 1, &mut writer);
     let (file, sent) = tried.expect(&rt, "refused");
     assert_bytes(&rt, &file, &ONE_RGB_PIXEL);
@@ -64,20 +64,17 @@ fn writers_that_refuse(rt: HostRuntime) {
 
 #[test]
 fn readers(rt: HostRuntime) {
-    match header_ahead(ONE_RGB_PIXEL.as_slice()) {
-        Ok((header, left)) => {
-            assert_header(&rt, &header, &Header::default());
-            assert_bytes(&rt, left, &ONE_RGB_PIXEL[14..]);
-        }
-        Err(_) => assert!(rt; false, "no header"),
-    }
+    let (header, left) = header_ahead(ONE_RGB_PIXEL.as_slice()).expect(&rt, "refused");
+    assert_header(&rt, &header, &Header::default());
+    assert_bytes(&rt, left, &ONE_RGB_PIXEL[14..]);
 }
 
 #[test]
 fn readers_of_images(rt: HostRuntime) {
-    let pixel = PIXEL.as_slice();
     let received = receive(rt.alloc(), ONE_RGB_PIXEL.as_slice());
-    assert!(rt; matches!(&received, Ok((raw, left)) if raw.as_slice() == pixel && left.is_empty()));
+    let (raw, left) = received.expect(&rt, "refused");
+    assert_bytes(&rt, &raw, &PIXEL);
+    assert_bytes(&rt, left, &[]);
 }
 
 // Opaque black that comes back is spelled out by three more bytes than an index position, which
@@ -89,8 +86,8 @@ fn styles(rt: HostRuntime) {
     let alloc = rt.alloc();
     let spelled = [0xc0, 0xfe, 0x65, 0x66, 0x67, 0xfe, 0, 0, 0];
     let named = [0xc0, 0xfe, 0x65, 0x66, 0x67, 0x35];
-    let spelled = file_of(&rt, alloc, row(3, Channels::Rgb), &spelled);
-    let named = file_of(&rt, alloc, row(3, Channels::Rgb), &named);
+    let spelled = made::file(&rt, alloc, row(3, Channels::Rgb), &spelled);
+    let named = made::file(&rt, alloc, row(3, Channels::Rgb), &named);
     let other = no_longer(alloc, &BLACK, 3, 1, Style::Places);
     assert_both(&rt, other, &spelled, &named);
 }
@@ -104,26 +101,13 @@ fn lengths_in_all_styles(rt: HostRuntime) {
 
 #[test]
 fn many_files(rt: HostRuntime) {
-    assert_both(&rt, both_images(rt.alloc(), &files()), &PIXEL, &PIXEL);
-}
-
-#[test]
-fn frames_come_back(rt: HostRuntime) {
-    let frames = two_frames(rt.alloc(), files().as_slice());
-    assert_both(&rt, frames, &PIXEL, &PIXEL);
-}
-
-#[test]
-fn files_until_one_is_refused(rt: HostRuntime) {
-    let images = all_images(rt.alloc(), &files()).expect(&rt, "refused");
-    assert_number(&rt, images.len(), 2);
-    for raw in &images {
+    let alloc = rt.alloc();
+    let files = files(&rt, alloc);
+    assert_both(&rt, both_images(alloc, &files), &PIXEL, &PIXEL);
+    assert_both(&rt, two_frames(alloc, files.as_slice()), &PIXEL, &PIXEL);
+    assert_cut(&rt, all_images(alloc, front(&files, 51)));
+    for raw in &all_images(alloc, &files).expect(&rt, "refused") {
         assert_bytes(&rt, raw, &PIXEL);
-    }
-    let all = files();
-    if let Some((_, cut)) = all.split_last() {
-        let refused = all_images(rt.alloc(), cut);
-        assert_cut(&rt, refused);
     }
 }
 

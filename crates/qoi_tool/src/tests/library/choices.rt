@@ -1,47 +1,55 @@
 //! The kinds of chunk, over many values.
+use crate::tests::library::support::decodings::after;
 use crate::tests::library::support::images::{Image, row};
 use crate::tests::library::support::made;
 use qoi::{Channels, Header, Style};
 use std::alloc::Global;
 use std::process::Abort;
 
-// Encodes the raw bytes of a row to these chunks by each of the calls. Both come in two parts.
-fn assert_encodes(
-    rt: &impl Abort,
-    alloc: Global,
-    header: Header,
-    (first, rest): (&[u8], &[u8]),
-    (chunks, last): (&[u8], &[u8]),
-) {
-    let all = made::joined(rt, alloc, chunks, last);
+// Encodes the raw bytes of a row to these chunks by each of the calls, and decodes them back.
+fn assert_chunks(rt: &impl Abort, alloc: Global, header: Header, raw: Vec<u8>, chunks: &[u8]) {
     let image = Image {
         header,
         style: Style::Reference,
-        raw: made::joined(rt, alloc, first, rest),
-        file: made::file(rt, alloc, header, &all),
+        raw,
+        file: made::file(rt, alloc, header, chunks),
     };
     image.check(rt, alloc);
 }
 
-// Opaque black `n` times, and then a pixel that differs from it in each channel.
-fn assert_run(rt: &impl Abort, alloc: Global, n: u8, three: &[u8], four: &[u8]) {
-    let (short, long) = ([n.wrapping_add(0xbf)], [0xfd, n.wrapping_add(0x81)]);
-    let run: &[u8] = if n <= 62 { &short } else { &long };
-    let header = row(u32::from(n) + 1, Channels::Rgb);
-    let last = [0xfe, 11, 22, 33];
-    assert_encodes(rt, alloc, header, (three, &[11, 22, 33]), (run, &last));
-    let header = row(u32::from(n) + 1, Channels::Rgba);
-    let last = [0xff, 11, 22, 33, 44];
-    assert_encodes(rt, alloc, header, (four, &[11, 22, 33, 44]), (run, &last));
+// Opaque black `n` times, and then a pixel that is spelled out.
+fn assert_run(
+    rt: &impl Abort,
+    alloc: Global,
+    n: u8,
+    channels: Channels,
+    (black, last): (&[u8], &[u8]),
+) {
+    let (mut raw, mut chunks) = (Vec::new(alloc), Vec::new(alloc));
+    for _ in 0..n {
+        made::append(rt, &mut raw, black);
+    }
+    made::append(rt, &mut raw, after(last, 1));
+    if n > 62 {
+        made::append(rt, &mut chunks, &[0xfd]);
+    }
+    made::append(rt, &mut chunks, &[0xc0 + n.saturating_sub(1) % 62]);
+    made::append(rt, &mut chunks, last);
+    assert_chunks(rt, alloc, row(u32::from(n) + 1, channels), raw, &chunks);
 }
 
 #[test]
 fn runs_at_the_start(rt: HostRuntime) {
-    let (mut three, mut four) = (Vec::new(rt.alloc()), Vec::new(rt.alloc()));
+    let alloc = rt.alloc();
     for n in 1..=124u8 {
-        made::append(&rt, &mut three, &[0, 0, 0]);
-        made::append(&rt, &mut four, &[0, 0, 0, 255]);
-        assert_run(&rt, rt.alloc(), n, &three, &four);
+        assert_run(&rt, alloc, n, Channels::Rgb, (&[0; 3], b"\xfe\x0b\x16\x21"));
+        assert_run(
+            &rt,
+            alloc,
+            n,
+            Channels::Rgba,
+            (b"\0\0\0\xff", b"\xff\x0b\x16\x21\x2c"),
+        );
     }
 }
 
@@ -55,14 +63,12 @@ fn assert_last_chunk(
     last: &[u8],
 ) {
     let (x, y, z) = (r.wrapping_add(vr), g.wrapping_add(vg), b.wrapping_add(vb));
-    let header = row(3, Channels::Rgb);
-    let raw = [1, 99, 2, r, g, b, x, y, z];
-    let chunks = [0xfe, 1, 99, 2, 0xfe, r, g, b];
-    assert_encodes(rt, alloc, header, (&raw, &[]), (&chunks, last));
-    let header = row(3, Channels::Rgba);
-    let raw = [1, 99, 2, 255, r, g, b, 9, x, y, z, 9];
-    let chunks = [0xfe, 1, 99, 2, 0xff, r, g, b, 9];
-    assert_encodes(rt, alloc, header, (&raw, &[]), (&chunks, last));
+    let raw = made::bytes(rt, alloc, &[1, 99, 2, r, g, b, x, y, z]);
+    let chunks = made::joined(rt, alloc, &[0xfe, 1, 99, 2, 0xfe, r, g, b], last);
+    assert_chunks(rt, alloc, row(3, Channels::Rgb), raw, &chunks);
+    let raw = made::bytes(rt, alloc, &[1, 99, 2, 255, r, g, b, 9, x, y, z, 9]);
+    let chunks = made::joined(rt, alloc, &[0xfe, 1, 99, 2, 0xff, r, g, b, 9], last);
+    assert_chunks(rt, alloc, row(3, Channels::Rgba), raw, &chunks);
 }
 
 // Each difference but that of an equal pixel, -2 to 0 in each color.

@@ -2,29 +2,27 @@
 use crate::tests::library::support::assert_bytes;
 use qoi::consts::QOI_MASK_2;
 use qoi::parts::{Chunk, read_chunk};
+use std::process::Abort;
 
-// Bytes, the chunk that they begin with, and what follows it.
-#[rattlefmt::skip]
-const BEGUN: [(&'static [u8], Chunk, &'static [u8]); 6] = [
-    (&[0x3f, 0x3f], Chunk::Place(63), &[0x3f]),
-    (&[0x7f, 1], Chunk::Diff(0x7f), &[1]),
-    (&[0xbf, 0xff, 2], Chunk::Luma(0xbf, 0xff), &[2]),
-    (&[0xfd, 0x00], Chunk::Run(62), &[0x00]),
-    (&[0xfe, 1, 2, 3, 0xfd], Chunk::Rgb(1, 2, 3), &[0xfd]),
-    (&[0xff, 4, 3, 2, 1], Chunk::Rgba(4, 3, 2, 1), &[]),
-];
+// The bytes begin with this chunk.
+fn assert_begins(rt: &impl Abort, bytes: &[u8], chunk: Chunk, left: &[u8]) {
+    match read_chunk(bytes) {
+        Some((found, rest)) => {
+            assert!(rt; found == chunk);
+            assert_bytes(rt, rest, left);
+        }
+        None => assert!(rt; false, "no {chunk:?}"),
+    }
+}
 
 #[test]
 fn first_chunks(rt: HostRuntime) {
-    for (bytes, chunk, left) in BEGUN {
-        match read_chunk(bytes) {
-            Some((found, rest)) => {
-                assert!(rt; found == chunk);
-                assert_bytes(&rt, rest, left);
-            }
-            None => assert!(rt; false, "no {chunk:?}"),
-        }
-    }
+    assert_begins(&rt, &[0x3f, 0x3f], Chunk::Place(63), &[0x3f]);
+    assert_begins(&rt, &[0x7f, 1], Chunk::Diff(0x7f), &[1]);
+    assert_begins(&rt, &[0xbf, 0xff, 2], Chunk::Luma(0xbf, 0xff), &[2]);
+    assert_begins(&rt, &[0xfd, 0x00], Chunk::Run(62), &[0x00]);
+    assert_begins(&rt, &[0xfe, 1, 2, 3, 0xfd], Chunk::Rgb(1, 2, 3), &[0xfd]);
+    assert_begins(&rt, &[0xff, 4, 3, 2, 1], Chunk::Rgba(4, 3, 2, 1), &[]);
 }
 
 // Too few bytes begin no chunk; one byte is a chunk unless its two high bits are those of a luma,

@@ -1,126 +1,114 @@
-//! A pixel, and an image with each kind of chunk, from readers and to writers that take a byte a call
-//! and end one of their calls badly.
-use crate::tests::fakes::{Bad, End, FAULTS, Source};
-use crate::tests::library::support::decodings::{CALLS, Call, after};
-use crate::tests::library::support::examples::{EACH_KIND, one_rgb_pixel};
+//! A pixel, and an image with each kind of chunk, from readers and to writers of which each call in
+//! turn ends badly. It is the last one.
+use crate::tests::fakes::{Bad, ENDS, End, Source};
+use crate::tests::library::support::decodings::{Call, after};
+use crate::tests::library::support::examples::{EACH_KIND, image, one_rgb_pixel};
 use crate::tests::library::support::images::Image;
 use crate::tests::library::support::{
-    assert_bytes, assert_count, assert_fails, assert_given, assert_number, assert_refused, made,
+    assert_bytes, assert_fails, assert_number, assert_refused, made,
 };
-use qoi::{Decoder, Error, Result, Style};
+use qoi::{Decoder, Error, Reader, Result, Style};
 use std::alloc::Global;
 use std::io::ErrorKind;
 use std::process::Abort;
 
 // The two images.
 fn images(rt: &impl Abort, alloc: Global) -> [Image; 2] {
-    let each_kind = EACH_KIND.image(rt, alloc, Style::Reference);
+    let each_kind = image(rt, alloc, EACH_KIND, Style::Reference);
     [one_rgb_pixel(rt, alloc), each_kind]
 }
 
-// The refusal is an i/o error of this kind, or has the words of the fault's own.
-fn assert_fault(rt: &impl Abort, alloc: Global, refusal: Option<Error>, end: End, kind: ErrorKind) {
-    match end {
+// The refusal is that of a bad call, if it came: an i/o error of its kind, or with its own words.
+fn assert_bad(
+    rt: &impl Abort,
+    alloc: Global,
+    refusal: Option<Error>,
+    (bad, came): (Bad, bool),
+    no_byte: ErrorKind,
+) {
+    match bad.end {
+        _ if !came => assert_refused(rt, alloc, refusal, "accepted"),
         End::Named => assert_refused(rt, alloc, refusal, "i/o error: x"),
-        _ => assert_fails(rt, refusal, kind),
+        end => assert_fails(rt, refusal, end.kind(no_byte)),
     }
 }
 
-// A reader of the image's file, whose call after so many bytes ends badly.
-fn source(image: &Image, taken: usize, end: End) -> Source<'_> {
-    let call = taken.saturating_add(1);
-    Source::new(&image.file, 1, Bad { call, end })
-}
-
-// What a call gives from a reader after the header.
-fn decoded(
+// The refusal of making a decoder, or of decoding the image with it.
+fn refusal_of<R: Reader + Drop>(
     rt: &impl Abort,
     alloc: Global,
     image: &Image,
-    reader: &mut Source<'_>,
+    made: Result<Decoder<R>>,
     call: Call,
-) -> Result<Vec<u8>> {
-    let mut decoder = made::stream(rt, reader);
-    image.decoding().of(rt, alloc, &mut decoder, call)
-}
-
-// So many bytes were taken, and the bad call was the last one.
-fn assert_stopped(rt: &impl Abort, image: &Image, reader: &Source<'_>, taken: usize) {
-    assert_number(rt, reader.calls, taken.saturating_add(1));
-    assert_bytes(rt, reader.left, after(&image.file, taken));
-}
-
-// Each call in turn ends badly: 14 of the header, and the others of the image.
-fn assert_reader_stops(rt: &impl Abort, alloc: Global, image: &Image, end: End, kind: ErrorKind) {
-    for taken in 0..14usize {
-        let mut reader = source(image, taken, end);
-        let refusal = Decoder::from_stream(&mut reader).err();
-        assert_fault(rt, alloc, refusal, end, kind);
-        assert_stopped(rt, image, &reader, taken);
+) -> Option<Error> {
+    let mut decoder = match made {
+        Ok(decoder) => decoder,
+        Err(error) => return Some(error),
+    };
+    match image.decoding().of(rt, alloc, &mut decoder, call) {
+        Ok(raw) => assert_bytes(rt, &raw, &image.raw),
+        Err(error) => return Some(error),
     }
-    for taken in 14..image.file.len() {
-        for call in CALLS {
-            let mut reader = source(image, taken, end);
-            let refusal = decoded(rt, alloc, image, &mut reader, call).err();
-            assert_fault(rt, alloc, refusal, end, kind);
-            assert_stopped(rt, image, &reader, taken);
-        }
-    }
+    None
 }
 
-// A reader whose bad call never comes.
-fn assert_reader_ends(rt: &impl Abort, alloc: Global, image: &Image, end: End) {
-    for call in CALLS {
-        let mut reader = source(image, image.file.len(), end);
-        let found = decoded(rt, alloc, image, &mut reader, call);
-        assert_given(rt, found, &image.raw);
-        assert_number(rt, reader.calls, image.file.len());
-        assert_bytes(rt, reader.left, &[]);
-    }
-}
-
-#[test]
-fn failing_reader(rt: HostRuntime) {
-    let no_byte = [(End::NoByte, ErrorKind::UnexpectedEof)];
-    for image in &images(&rt, rt.alloc()) {
-        for (end, kind) in FAULTS.into_iter().chain(no_byte) {
-            assert_reader_stops(&rt, rt.alloc(), image, end, kind);
-            assert_reader_ends(&rt, rt.alloc(), image, end);
-        }
-    }
-}
-
-// Each call of the writer in turn ends badly. It ends the encoding and is the last one, and a
-// beginning of the file has gone out.
-fn assert_writer_stops(rt: &impl Abort, alloc: Global, image: &Image, end: End, kind: ErrorKind) {
-    for taken in 0..image.file.len() {
-        let call = taken.saturating_add(1);
-        let mut writer = made::sink(rt, alloc, 1, Bad { call, end });
-        let refusal = image.encoder(rt).encode_to_stream(&mut writer).err();
-        assert_fault(rt, alloc, refusal, end, kind);
-        assert_bytes(rt, &writer.got, &image.file[..taken]);
-        assert_number(rt, writer.calls, call);
-    }
-}
-
-// A writer whose bad call never comes.
-fn assert_writer_ends(rt: &impl Abort, alloc: Global, image: &Image, end: End) {
+// A reader that gives a byte a call: 14 calls for the header, and the others for the image.
+fn assert_stream(rt: &impl Abort, alloc: Global, image: &Image, bad: Bad, call: Call) {
     let size = image.file.len();
-    let call = size.saturating_add(1);
-    let mut writer = made::sink(rt, alloc, 1, Bad { call, end });
-    let sent = image.encoder(rt).encode_to_stream(&mut writer);
-    assert_count(rt, sent, size);
-    assert_bytes(rt, &writer.got, &image.file);
-    assert_number(rt, writer.calls, size);
+    let mut reader = Source::new(&image.file, 1, bad);
+    let refusal = refusal_of(rt, alloc, image, Decoder::from_stream(&mut reader), call);
+    let came = (bad, bad.call <= size);
+    assert_bad(rt, alloc, refusal, came, ErrorKind::UnexpectedEof);
+    assert_number(rt, reader.calls, bad.call.min(size));
+    assert_bytes(
+        rt,
+        reader.left,
+        after(&image.file, bad.call.saturating_sub(1)),
+    );
 }
 
+// A buffer that is filled by at most so many bytes a call.
+fn assert_buffered(rt: &impl Abort, alloc: Global, image: &Image, bad: Bad, most: usize) {
+    let source = Source::new(&image.file, most, bad);
+    let mut reader = made::buffer(rt, alloc, most, source);
+    let made = Decoder::from_buf_read(&mut reader);
+    let refusal = refusal_of(rt, alloc, image, made, Call::ToVec);
+    let calls = reader.get_ref().calls;
+    let came = (bad, bad.call <= calls);
+    assert_bad(rt, alloc, refusal, came, ErrorKind::UnexpectedEof);
+    assert!(rt; calls <= bad.call);
+}
+
+// A writer that takes a byte a call. A beginning of the file has gone out.
+fn assert_writer(rt: &impl Abort, alloc: Global, image: &Image, bad: Bad) {
+    let size = image.file.len();
+    let mut writer = made::sink(rt, alloc, 1, bad);
+    let refusal = image.encoder(rt).encode_to_stream(&mut writer).err();
+    let came = (bad, bad.call <= size);
+    assert_bad(rt, alloc, refusal, came, ErrorKind::WriteZero);
+    assert_number(rt, writer.calls, bad.call.min(size));
+    let taken = bad.call.saturating_sub(1).min(size);
+    assert_bytes(rt, &writer.got, &image.file[..taken]);
+}
+
+// A bad call of each kind, of readers, of buffers of 1 to 20 bytes, and of a writer.
+fn assert_call(rt: &impl Abort, alloc: Global, image: &Image, bad: Bad) {
+    assert_stream(rt, alloc, image, bad, Call::ToBuf);
+    assert_stream(rt, alloc, image, bad, Call::ToVec);
+    for most in 1..21usize {
+        assert_buffered(rt, alloc, image, bad, most);
+    }
+    assert_writer(rt, alloc, image, bad);
+}
+
+// Each call for the file of an image, and one more, which never comes.
 #[test]
-fn failing_writer(rt: HostRuntime) {
-    let no_byte = [(End::NoByte, ErrorKind::WriteZero)];
+fn failing_calls(rt: HostRuntime) {
     for image in &images(&rt, rt.alloc()) {
-        for (end, kind) in FAULTS.into_iter().chain(no_byte) {
-            assert_writer_stops(&rt, rt.alloc(), image, end, kind);
-            assert_writer_ends(&rt, rt.alloc(), image, end);
+        for end in ENDS {
+            for call in 1..image.file.len().saturating_add(2) {
+                assert_call(&rt, rt.alloc(), image, Bad { call, end });
+            }
         }
     }
 }

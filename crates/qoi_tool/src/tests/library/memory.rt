@@ -1,24 +1,22 @@
 //! Allocations that are refused, and the calls that take no memory.
 use crate::tests::fakes::{ONE_RGB_PIXEL, PIXEL, take_but, take_memory};
-use crate::tests::library::support::decodings::CUT;
-use crate::tests::library::support::images::row;
 use crate::tests::library::support::{
-    assert_bytes, assert_count, assert_decoded, assert_given, assert_header, assert_no_memory,
-    assert_number, assert_refused, made,
+    assert_bytes, assert_count, assert_cut, assert_decoded, assert_given, assert_header,
+    assert_no_memory, assert_number, made,
 };
-use qoi::{
-    Channels, ColorSpace, Decoder, Header, Reader, Result, decode_header, decode_to_buf,
-    decode_to_vec, encode_to_buf, encode_to_vec,
-};
+use qoi::{Decoder, Reader, Result, decode_header, decode_to_buf, encode_to_buf, encode_to_vec};
 use std::alloc::Global;
 use std::io::Cursor;
 use std::process::Abort;
 
-const REFUSED: &str = "out of memory";
-
 // Decodes while all memory is taken but for one block of `spare` bytes.
-fn starved<R: Reader>(alloc: Global, decoder: &mut Decoder<R>, spare: usize) -> Result<Vec<u8>> {
-    let held = take_but(alloc, spare)?;
+fn starved<R: Reader>(
+    rt: &impl Abort,
+    alloc: Global,
+    decoder: &mut Decoder<R>,
+    spare: usize,
+) -> Result<Vec<u8>> {
+    let held = take_but(alloc, spare).expect(rt, "refused");
     let found = decoder.decode_to_vec(alloc);
     drop(held);
     found
@@ -30,35 +28,34 @@ fn assert_one_allocation<R: Reader>(
     rt: &impl Abort,
     alloc: Global,
     decoder: &mut Decoder<R>,
-    header: &Header,
     raw: &[u8],
 ) {
-    assert_refused(rt, alloc, starved(alloc, decoder, 0).err(), REFUSED);
-    assert_header(rt, decoder.header(), header);
-    assert_given(rt, starved(alloc, decoder, raw.len()), raw);
+    let header = *decoder.header();
+    assert_no_memory(rt, starved(rt, alloc, decoder, 0));
+    assert_header(rt, decoder.header(), &header);
+    assert_given(rt, starved(rt, alloc, decoder, raw.len()), raw);
 }
 
 // The same from a slice and from both kinds of reader.
-fn assert_allocations(rt: &impl Abort, alloc: Global, file: &[u8], header: &Header, raw: &[u8]) {
-    assert_one_allocation(rt, alloc, &mut made::slice(rt, file), header, raw);
-    assert_one_allocation(rt, alloc, &mut made::stream(rt, file), header, raw);
-    assert_one_allocation(rt, alloc, &mut made::buffered(rt, file), header, raw);
+fn assert_allocations(rt: &impl Abort, alloc: Global, file: &[u8], raw: &[u8]) {
+    assert_one_allocation(rt, alloc, &mut made::slice(rt, file), raw);
+    assert_one_allocation(rt, alloc, &mut made::stream(rt, file), raw);
+    assert_one_allocation(rt, alloc, &mut made::buffered(rt, file), raw);
 }
 
 // A vector that grows by several steps is allocated once, too.
 #[test]
 fn each_allocation_of_decode_to_vec(rt: HostRuntime) {
     let alloc = rt.alloc();
-    assert_allocations(&rt, alloc, &ONE_RGB_PIXEL, &Header::default(), &PIXEL);
-    let header = row(50_000, Channels::Rgb);
+    assert_allocations(&rt, alloc, &ONE_RGB_PIXEL, &PIXEL);
     let raw = made::filled(&rt, alloc, 9, 150_000);
     let file = made::encoded(&rt, alloc, &raw, 50_000, 1);
-    assert_allocations(&rt, alloc, &file, &header, &raw);
+    assert_allocations(&rt, alloc, &file, &raw);
 }
 
 // Encodes the pixel while all memory is taken but for one block of `spare` bytes.
-fn starved_file(alloc: Global, spare: usize) -> Result<Vec<u8>> {
-    let held = take_but(alloc, spare)?;
+fn starved_file(rt: &impl Abort, alloc: Global, spare: usize) -> Result<Vec<u8>> {
+    let held = take_but(alloc, spare).expect(rt, "refused");
     let file = encode_to_vec(alloc, &PIXEL, 1, 1);
     drop(held);
     file
@@ -67,48 +64,20 @@ fn starved_file(alloc: Global, spare: usize) -> Result<Vec<u8>> {
 // The first allocation is refused; when it is granted, there is no second one.
 #[test]
 fn each_allocation_of_encode_to_vec(rt: HostRuntime) {
-    let alloc = rt.alloc();
-    assert_refused(&rt, alloc, starved_file(alloc, 0).err(), REFUSED);
-    let file = starved_file(alloc, ONE_RGB_PIXEL.len());
+    assert_no_memory(&rt, starved_file(&rt, rt.alloc(), 0));
+    let file = starved_file(&rt, rt.alloc(), ONE_RGB_PIXEL.len());
     assert_given(&rt, file, &ONE_RGB_PIXEL);
 }
 
-// The header of an image of 20000 by 20000 pixels.
-const LARGE: [u8; 14] = [
-    0x71, 0x6f, 0x69, 0x66, 0, 0, 0x4e, 0x20, 0, 0, 0x4e, 0x20, 3, 0,
-];
-
-// A large header, and so many bytes after it.
-fn large(alloc: Global, after: usize) -> Result<Vec<u8>> {
-    let mut file = Vec::from_slice(alloc, &LARGE)?;
-    file.resize(after.saturating_add(14), 0)?;
-    Ok(file)
-}
-
-// Both calls refuse the file with this text, and the decoder is as before. All memory but for
-// blocks of less than `least` bytes is taken.
-fn assert_large(rt: &impl Abort, alloc: Global, file: &[u8], least: usize, text: &str) {
-    let mut decoder = made::slice(rt, file);
-    let held = take_memory(alloc, least).expect(rt, "refused");
-    let method = decoder.decode_to_vec(alloc).err();
-    let free = decode_to_vec(alloc, file).err();
-    drop(held);
-    assert_refused(rt, alloc, method, text);
-    assert_refused(rt, alloc, free, text);
-    assert_number(rt, decoder.data().len().saturating_add(14), file.len());
-    let header = Header::try_new(20000, 20000, Channels::Rgb, ColorSpace::Srgb);
-    assert_header(rt, decoder.header(), &header.expect(rt, "refused"));
-}
-
-// If the first allocation is refused, that comes before a cut.
+// Nothing stands after the header, whose image has 20000 by 20000 pixels. If the first allocation is
+// refused, that comes before the cut. The decoder is as before.
 #[test]
-fn too_few_bytes(rt: HostRuntime) {
-    let alloc = rt.alloc();
-    for after in [0, 7, 8, 100_000] {
-        let file = large(alloc, after).expect(&rt, "refused");
-        assert_large(&rt, alloc, &file, 2, REFUSED);
-        assert_large(&rt, alloc, &file, usize::MAX, CUT);
-    }
+fn largest_image(rt: HostRuntime) {
+    let mut decoder = made::slice(&rt, b"qoif\0\0\x4e\x20\0\0\x4e\x20\x03\0");
+    assert_no_memory(&rt, starved(&rt, rt.alloc(), &mut decoder, 0));
+    assert_cut(&rt, decoder.decode_to_vec(rt.alloc()));
+    assert_bytes(&rt, decoder.data(), &[]);
+    assert_number(&rt, decoder.header().n_pixels(), 400_000_000);
 }
 
 // Encodes the pixel by the calls that take no memory.
@@ -141,13 +110,8 @@ fn assert_decodes_file(rt: &impl Abort, file: &[u8]) {
     assert_decodes(rt, &mut made::buffered(rt, file));
 }
 
-// The clone of a reader that owns its bytes takes memory.
-fn assert_clone_is_refused(rt: &impl Abort, decoder: &Decoder<Cursor<Vec<u8>>>) {
-    assert_no_memory(rt, decoder.clone());
-}
-
-// While all memory is taken, the calls that take none succeed, and a clone is refused. That leaves
-// the decoder as it was.
+// While all memory is taken, the calls that take none succeed. The clone of a reader that owns its
+// bytes is refused, which leaves the decoder as it was.
 #[test]
 fn calls_without_memory(rt: HostRuntime) {
     let alloc = rt.alloc();
@@ -156,7 +120,7 @@ fn calls_without_memory(rt: HostRuntime) {
     let held = take_memory(alloc, 2).expect(&rt, "refused");
     assert_encodes(&rt);
     assert_decodes_file(&rt, &ONE_RGB_PIXEL);
-    assert_clone_is_refused(&rt, &decoder);
+    assert_no_memory(&rt, decoder.clone());
     drop(held);
     assert_decoded(&rt, alloc, &mut decoder, &PIXEL);
 }

@@ -55,28 +55,32 @@ fn pixels_change(rt: HostRuntime) {
     assert!(rt; supported(three).as_rgba(4) == supported(four));
 }
 
+// The index position of a pixel, in three channels too if it is opaque.
+fn assert_hash(rt: &impl Abort, r: u8, g: u8, b: u8, a: u8, place: u8) {
+    let px = [r, g, b, a];
+    let three = if a == 255 {
+        pixel::<3>(px).hash_index()
+    } else {
+        place
+    };
+    assert_bytes(rt, &[pixel::<4>(px).hash_index(), three], &[place, place]);
+}
+
 // (3 r + 5 g + 7 b + 11 a) modulo 64, worked out by hand.
 #[test]
 fn hashes(rt: HostRuntime) {
-    for (bytes, place) in [
-        ([0, 0, 0, 255], 53),
-        ([0, 0, 0, 0], 0),
-        ([64, 0, 0, 0], 0),
-        ([101, 102, 103, 255], 51),
-        ([101, 102, 103, 104], 54),
-        ([1, 2, 3, 255], 23),
-        ([1, 2, 3, 4], 14),
-        ([1, 99, 2, 255], 53),
-        ([1, 99, 2, 3], 33),
-        ([11, 33, 55, 77], 22),
-        ([251, 252, 253, 255], 61),
-        ([249, 250, 251, 255], 31),
-    ] {
-        assert_bytes(&rt, &[pixel::<4>(bytes).hash_index()], &[place]);
-        if bytes[3] == 255 {
-            assert_bytes(&rt, &[pixel::<3>(bytes).hash_index()], &[place]);
-        }
-    }
+    assert_hash(&rt, 0, 0, 0, 255, 53);
+    assert_hash(&rt, 0, 0, 0, 0, 0);
+    assert_hash(&rt, 64, 0, 0, 0, 0);
+    assert_hash(&rt, 101, 102, 103, 255, 51);
+    assert_hash(&rt, 101, 102, 103, 104, 54);
+    assert_hash(&rt, 1, 2, 3, 255, 23);
+    assert_hash(&rt, 1, 2, 3, 4, 14);
+    assert_hash(&rt, 1, 99, 2, 255, 53);
+    assert_hash(&rt, 1, 99, 2, 3, 33);
+    assert_hash(&rt, 11, 33, 55, 77, 22);
+    assert_hash(&rt, 251, 252, 253, 255, 61);
+    assert_hash(&rt, 249, 250, 251, 255, 31);
 }
 
 // A pixel is spelled out after black.

@@ -52,12 +52,10 @@ fn readers_read(rt: HostRuntime) {
 
 // If either number of channels is neither 3 nor 4, the error names the first.
 fn assert_refuses<R: Reader>(rt: &impl Abort, reader: &mut R) {
-    for (channels, file_channels) in [(5, 3), (3, 7)] {
-        let refusal = image_of(reader, &mut [0xaa; 12], channels, file_channels).err();
-        assert!(rt;
-            matches!(refusal, Some(Error::InvalidChannels { channels: other }) if other == channels)
-        );
-    }
+    let refusal = image_of(reader, &mut [0xaa; 12], 5, 3);
+    assert!(rt; matches!(refusal, Err(Error::InvalidChannels { channels: 5 })));
+    let refusal = image_of(reader, &mut [0xaa; 12], 3, 7);
+    assert!(rt; matches!(refusal, Err(Error::InvalidChannels { channels: 3 })));
 }
 
 #[test]

@@ -1,43 +1,83 @@
-//! The stream calls over the standard library's own readers and writers. (`buffered` has those with a
-//! buffer.)
+//! The calls of readers and writers over the standard library's own.
 use crate::tests::fakes::{NONE, Source};
-use crate::tests::library::support::examples::EACH_KIND;
+use crate::tests::library::support::examples::{EACH_KIND, image};
 use crate::tests::library::support::images::Image;
-use crate::tests::library::support::{assert_bytes, assert_count, assert_decoded, made};
-use qoi::Style;
+use crate::tests::library::support::{
+    assert_bytes, assert_count, assert_decoded, assert_number, made,
+};
+use qoi::{Decoder, Reader, Style};
 use std::alloc::Global;
-use std::io::{BufWriter, Cursor, Read, Write};
+use std::io::{BufRead, BufWriter, Cursor, Read, Write};
 use std::process::Abort;
 
-// An image with each kind of chunk.
-fn image(rt: &impl Abort, alloc: Global) -> Image {
-    EACH_KIND.image(rt, alloc, Style::Reference)
-}
-
-// Decodes the image, and reads the bytes after its file.
-fn assert_reads<R: Read + Drop>(rt: &impl Abort, alloc: Global, raw: &[u8], reader: R) {
-    let mut decoder = made::stream(rt, reader);
+// Decodes the image.
+fn decoded<R: Reader>(
+    rt: &impl Abort,
+    alloc: Global,
+    raw: &[u8],
+    mut decoder: Decoder<R>,
+) -> Decoder<R> {
     assert_decoded(rt, alloc, &mut decoder, raw);
-    let rest = made::rest(rt, alloc, decoder.into_reader());
-    assert_bytes(rt, &rest, &[0x78, 0x79]);
+    decoder
 }
 
-// Slices, cursors of them and of vectors, and buffering readers over a slice, and over a reader that
-// gives a byte a call.
+// Decodes the image from a stream, and reads the bytes after its file.
+fn assert_reads<R: Read + Drop>(rt: &impl Abort, alloc: Global, raw: &[u8], reader: R) {
+    let decoder = decoded(rt, alloc, raw, made::stream(rt, reader));
+    assert_bytes(
+        rt,
+        &made::rest(rt, alloc, decoder.into_reader()),
+        &[0x78, 0x79],
+    );
+}
+
+// The same from a reader with a buffer.
+fn assert_reads_buffer<R: BufRead + Drop>(rt: &impl Abort, alloc: Global, raw: &[u8], reader: R) {
+    let decoder = decoded(rt, alloc, raw, made::buffered(rt, reader));
+    assert_bytes(
+        rt,
+        &made::rest(rt, alloc, decoder.into_reader()),
+        &[0x78, 0x79],
+    );
+}
+
+// The file of an image with each kind of chunk, which two bytes follow, and its raw bytes.
+fn followed(rt: &impl Abort, alloc: Global) -> (Vec<u8>, Vec<u8>) {
+    let Image { raw, file, .. } = image(rt, alloc, EACH_KIND, Style::Reference);
+    (made::joined(rt, alloc, &file, &[0x78, 0x79]), raw)
+}
+
+// Slices, cursors of them and of vectors, and buffering readers over a reader that gives a byte a
+// call.
 #[test]
 fn readers_are_read(rt: HostRuntime) {
     let alloc = rt.alloc();
-    let Image { raw, file, .. } = image(&rt, alloc);
-    let bytes = made::joined(&rt, alloc, &file, &[0x78, 0x79]);
+    let (bytes, raw) = followed(&rt, alloc);
     assert_reads(&rt, alloc, &raw, bytes.as_slice());
     assert_reads(&rt, alloc, &raw, Cursor::new(bytes.as_slice()));
-    for capacity in [1, 2, 3, 5, 7, 100] {
-        let reader = made::buffer(&rt, alloc, capacity, bytes.as_slice());
-        assert_reads(&rt, alloc, &raw, reader);
-        let reader = made::buffer(&rt, alloc, capacity, Source::new(&bytes, 1, NONE));
-        assert_reads(&rt, alloc, &raw, reader);
+    let reader = made::buffer(&rt, alloc, 7, Source::new(&bytes, 1, NONE));
+    assert_reads(&rt, alloc, &raw, reader);
+    assert_reads_buffer(&rt, alloc, &raw, bytes.as_slice());
+    for capacity in 0..48usize {
+        let source = Source::new(&bytes, 1 + capacity % 7, NONE);
+        let reader = made::buffer(&rt, alloc, capacity, source);
+        assert_reads_buffer(&rt, alloc, &raw, reader);
     }
-    assert_reads(&rt, alloc, &raw, Cursor::new(bytes));
+    assert_reads_buffer(&rt, alloc, &raw, Cursor::new(bytes));
+}
+
+// What a buffer holds after the file is still there when the reader comes back, and nothing more
+// was read into it.
+#[test]
+fn rest_of_the_buffer(rt: HostRuntime) {
+    let alloc = rt.alloc();
+    let (bytes, raw) = followed(&rt, alloc);
+    let reader = made::buffer(&rt, alloc, 100, Source::new(&bytes, 100, NONE));
+    let decoder = decoded(&rt, alloc, &raw, made::buffered(&rt, reader));
+    assert_bytes(&rt, decoder.reader().buffer(), &[0x78, 0x79]);
+    let reader = decoder.into_reader();
+    assert_bytes(&rt, reader.buffer(), &[0x78, 0x79]);
+    assert_number(&rt, reader.get_ref().calls, 1);
 }
 
 // Encodes the image to a writer, and flushes it.
@@ -51,17 +91,15 @@ fn send<W: Write>(rt: &impl Abort, image: &Image, writer: &mut W) {
 #[test]
 fn writers_take_the_file(rt: HostRuntime) {
     let alloc = rt.alloc();
-    let image = image(&rt, alloc);
+    let image = image(&rt, alloc, EACH_KIND, Style::Reference);
     let mut vector: Vec<u8> = Vec::new(alloc);
     send(&rt, &image, &mut vector);
     assert_bytes(&rt, &vector, &image.file);
     let mut cursor: Cursor<Vec<u8>> = Cursor::new(Vec::new(alloc));
     send(&rt, &image, &mut cursor);
     assert_bytes(&rt, cursor.get_ref(), &image.file);
-    for capacity in [1, 2, 3, 5, 7, 100] {
-        let vector: Vec<u8> = Vec::new(alloc);
-        let mut writer = BufWriter::with_capacity(alloc, capacity, vector).expect(&rt, "refused");
-        send(&rt, &image, &mut writer);
-        assert_bytes(&rt, writer.get_ref(), &image.file);
-    }
+    let vector: Vec<u8> = Vec::new(alloc);
+    let mut writer = BufWriter::with_capacity(alloc, 7, vector).expect(&rt, "refused");
+    send(&rt, &image, &mut writer);
+    assert_bytes(&rt, writer.get_ref(), &image.file);
 }

@@ -5,7 +5,6 @@ pub mod examples;
 pub mod generator;
 pub mod images;
 pub mod made;
-pub mod plain;
 
 use qoi::{Decoder, Error, Header, Reader, Result};
 use std::alloc::Global;
@@ -15,6 +14,11 @@ use std::process::Abort;
 /// Compares bytes.
 pub fn assert_bytes(rt: &impl Abort, found: &[u8], bytes: &[u8]) {
     assert_eq!(rt; found, bytes);
+}
+
+/// Compares bytes of the example of this name.
+pub fn assert_named(rt: &impl Abort, name: &str, found: &[u8], bytes: &[u8]) {
+    assert!(rt; found == bytes, "{name}");
 }
 
 /// Compares bytes that a call gives.

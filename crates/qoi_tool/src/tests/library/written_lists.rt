@@ -103,6 +103,5 @@ pub fn shortest_examples()
     ensures opens_with_color { slack (pixel 101 102 103 255 ∷ start ∷ []) 3 ≡ 0 }
     ensures first_unseen { least_unseen [] ≡ Some 0 }
     ensures next_unseen { least_unseen (pixel 64 0 0 0 ∷ []) ≡ Some 1 }
-    ensures last_unseen { least_unseen (map (λ r. pixel r 0 0 0) (range_with_len 0 63)) ≡ Some 61 }
     ensures none_unseen { least_unseen (map (λ r. pixel r 0 0 0) (range_with_len 0 64)) ≡ None }
 {}

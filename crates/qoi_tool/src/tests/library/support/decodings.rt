@@ -11,18 +11,37 @@ use std::process::Abort;
 /// What is printed for bytes that end too early.
 pub const CUT: &str = "unexpected input buffer end while decoding";
 
-// What is printed for eight bytes that aren't the end marker.
-const WRONG: &str = "invalid padding (stream end marker mismatch)";
+/// What is printed for eight bytes that aren't the end marker.
+pub const WRONG: &str = "invalid padding (stream end marker mismatch)";
 
-/// The call that decodes: `decode_to_buf` or `decode_to_vec`.
+/// The call that decodes: `decode_to_buf` into a buffer that has seven bytes more than it needs, or
+/// so many; or `decode_to_vec`.
 #[derive(Clone, Copy)]
 pub enum Call {
     ToBuf,
+    ToBufOf(usize),
     ToVec,
 }
 
-/// Both calls.
+/// Both calls that succeed.
 pub const CALLS: [Call; 2] = [Call::ToBuf, Call::ToVec];
+
+/// How a call ends: with an image, with a refusal of this text, or with an i/o error of this kind.
+#[derive(Clone, Copy)]
+pub enum Ends<'a> {
+    Image(&'a [u8]),
+    Text(&'a str),
+    Kind(ErrorKind),
+}
+
+/// Compares what a call returns.
+pub fn assert_ends(rt: &impl Abort, alloc: Global, found: Result<Vec<u8>>, ends: Ends<'_>) {
+    match ends {
+        Ends::Image(image) => assert_given(rt, found, image),
+        Ends::Text(text) => assert_refused(rt, alloc, found.err(), text),
+        Ends::Kind(kind) => assert_fails(rt, found.err(), kind),
+    }
+}
 
 /// Bytes that begin with a file, or with a part of one that has its header; that header, and the
 /// channels that the file is decoded into.
@@ -33,6 +52,11 @@ pub struct Decoding<'a> {
     pub channels: Channels,
 }
 
+/// The first `n` bytes.
+pub fn front(bytes: &[u8], n: usize) -> &[u8] {
+    &bytes[..n.min(bytes.len())]
+}
+
 /// What follows the first `n` bytes.
 pub fn after(bytes: &[u8], n: usize) -> &[u8] {
     match bytes.split_at_checked(n) {
@@ -41,18 +65,25 @@ pub fn after(bytes: &[u8], n: usize) -> &[u8] {
     }
 }
 
-// Decodes into a buffer that has seven bytes more than it needs. They stay, whatever is returned.
-fn to_longer_buf<R: Reader>(
+// Decodes into a buffer of so many bytes. Later ones than those of the image stay, and all if they
+// are too few, whatever is returned.
+fn to_buf<R: Reader>(
     rt: &impl Abort,
     alloc: Global,
     decoder: &mut Decoder<R>,
+    size: usize,
 ) -> Result<Vec<u8>> {
-    let size = decoder.required_buf_len();
-    let mut buf = vec![in alloc; 0xaau8; size.saturating_add(7)]?;
+    let required = decoder.required_buf_len();
+    let before = made::filled(rt, alloc, 0xaa, size);
+    let mut buf = made::bytes(rt, alloc, &before);
     let decoded = decoder.decode_to_buf(&mut buf);
-    assert_bytes(rt, after(&buf, size), &[0xaa; 7]);
-    assert_number(rt, decoded?, size);
-    buf.truncate(size);
+    let image = if size < required { 0 } else { required };
+    assert_bytes(rt, after(&buf, image), after(&before, image));
+    buf.truncate(required);
+    match decoded {
+        Ok(found) => assert_number(rt, found, required),
+        Err(error) => return Err(error),
+    }
     Ok(buf)
 }
 
@@ -65,8 +96,10 @@ impl<'a> Decoding<'a> {
         decoder: &mut Decoder<R>,
         call: Call,
     ) -> Result<Vec<u8>> {
+        let longer = decoder.required_buf_len().saturating_add(7);
         let decoded = match call {
-            Call::ToBuf => to_longer_buf(rt, alloc, decoder),
+            Call::ToBuf => to_buf(rt, alloc, decoder, longer),
+            Call::ToBufOf(size) => to_buf(rt, alloc, decoder, size),
             Call::ToVec => decoder.decode_to_vec(alloc),
         };
         assert_header(rt, decoder.header(), &self.header);
@@ -74,45 +107,61 @@ impl<'a> Decoding<'a> {
         decoded
     }
 
-    // What is returned for a slice, of which these bytes are left then.
-    fn of_slice(self, rt: &impl Abort, alloc: Global, call: Call, left: &[u8]) -> Result<Vec<u8>> {
+    // How a slice is decoded, of which these bytes are left then.
+    fn check_slice(self, rt: &impl Abort, alloc: Global, call: Call, ends: Ends<'_>, left: &[u8]) {
         let mut decoder = made::slice(rt, self.bytes).with_channels(self.channels);
-        let decoded = self.of(rt, alloc, &mut decoder, call);
+        assert_ends(rt, alloc, self.of(rt, alloc, &mut decoder, call), ends);
         assert_bytes(rt, decoder.data(), left);
-        decoded
     }
 
-    // What is returned for a stream, of which these bytes are left then.
-    fn of_stream(self, rt: &impl Abort, alloc: Global, call: Call, left: &[u8]) -> Result<Vec<u8>> {
+    // How a stream is decoded, of which these bytes are left then.
+    fn check_stream(self, rt: &impl Abort, alloc: Global, call: Call, ends: Ends<'_>, left: &[u8]) {
         let mut decoder = made::stream(rt, self.bytes).with_channels(self.channels);
-        let decoded = self.of(rt, alloc, &mut decoder, call);
+        assert_ends(rt, alloc, self.of(rt, alloc, &mut decoder, call), ends);
         assert_bytes(rt, decoder.into_reader(), left);
-        decoded
     }
 
-    // What is returned for a reader with a buffer, of which these bytes are left then. The buffer
-    // has 20 to 69 bytes, so that it ends at all places of a chunk.
-    fn of_buffer(self, rt: &impl Abort, alloc: Global, call: Call, left: &[u8]) -> Result<Vec<u8>> {
+    // How a reader with a buffer is decoded, of which these bytes are left then. The buffer has 20
+    // to 69 bytes, so that it ends at all places of a chunk.
+    fn check_buffer(self, rt: &impl Abort, alloc: Global, call: Call, ends: Ends<'_>, left: &[u8]) {
         let capacity = 20 + self.bytes.len() % 50;
         let reader = made::buffer(rt, alloc, capacity, self.bytes);
         let mut decoder = made::buffered(rt, reader).with_channels(self.channels);
-        let decoded = self.of(rt, alloc, &mut decoder, call);
-        let rest = made::rest(rt, alloc, decoder.into_reader());
-        assert_bytes(rt, &rest, left);
-        decoded
+        assert_ends(rt, alloc, self.of(rt, alloc, &mut decoder, call), ends);
+        assert_bytes(rt, &made::rest(rt, alloc, decoder.into_reader()), left);
+    }
+
+    // How each call ends, with a slice and with both kinds of reader, and what is left of them.
+    fn check_each(
+        self,
+        rt: &impl Abort,
+        alloc: Global,
+        (in_memory, of_slice): (Ends<'_>, &[u8]),
+        (read, of_reader): (Ends<'_>, &[u8]),
+    ) {
+        for call in CALLS {
+            self.check_slice(rt, alloc, call, in_memory, of_slice);
+            self.check_stream(rt, alloc, call, read, of_reader);
+            self.check_buffer(rt, alloc, call, read, of_reader);
+        }
+    }
+
+    /// A buffer of so many bytes is refused with this text, by the free call, too. Nothing was read.
+    pub fn check_short(self, rt: &impl Abort, alloc: Global, size: usize, text: &str) {
+        let (call, ends, left) = (Call::ToBufOf(size), Ends::Text(text), after(self.bytes, 14));
+        self.check_slice(rt, alloc, call, ends, left);
+        self.check_stream(rt, alloc, call, ends, left);
+        self.check_buffer(rt, alloc, call, ends, left);
+        let mut buf = made::filled(rt, alloc, 0xaa, size);
+        assert_refused(rt, alloc, decode_to_buf(&mut buf, self.bytes).err(), text);
+        assert_bytes(rt, &buf, &made::filled(rt, alloc, 0xaa, size));
     }
 
     /// The image that each call gives, from a slice and from both kinds of reader. What is after
     /// the file is left.
     pub fn check(self, rt: &impl Abort, alloc: Global, image: &[u8], rest: &[u8]) {
-        for call in CALLS {
-            let slice = self.of_slice(rt, alloc, call, rest);
-            assert_given(rt, slice, image);
-            let stream = self.of_stream(rt, alloc, call, rest);
-            assert_given(rt, stream, image);
-            let buffer = self.of_buffer(rt, alloc, call, rest);
-            assert_given(rt, buffer, image);
-        }
+        let ends = (Ends::Image(image), rest);
+        self.check_each(rt, alloc, ends, ends);
     }
 
     /// The free calls give this image, in the file's own channels.
@@ -128,26 +177,20 @@ impl<'a> Decoding<'a> {
 
     /// Each call refuses a part of a file; a slice is as before, of a stream nothing is left.
     pub fn check_cut(self, rt: &impl Abort, alloc: Global) {
-        for call in CALLS {
-            let slice = self.of_slice(rt, alloc, call, after(self.bytes, 14));
-            assert_refused(rt, alloc, slice.err(), CUT);
-            let stream = self.of_stream(rt, alloc, call, &[]);
-            assert_fails(rt, stream.err(), ErrorKind::UnexpectedEof);
-            let buffer = self.of_buffer(rt, alloc, call, &[]);
-            assert_fails(rt, buffer.err(), ErrorKind::UnexpectedEof);
-        }
+        let kept = (Ends::Text(CUT), after(self.bytes, 14));
+        let taken: &[u8] = &[];
+        self.check_each(
+            rt,
+            alloc,
+            kept,
+            (Ends::Kind(ErrorKind::UnexpectedEof), taken),
+        );
     }
 
     /// Each call refuses other bytes than the end marker; a slice is as before, of a stream what is
     /// after them is left.
     pub fn check_wrong(self, rt: &impl Abort, alloc: Global, rest: &[u8]) {
-        for call in CALLS {
-            let slice = self.of_slice(rt, alloc, call, after(self.bytes, 14));
-            assert_refused(rt, alloc, slice.err(), WRONG);
-            let stream = self.of_stream(rt, alloc, call, rest);
-            assert_refused(rt, alloc, stream.err(), WRONG);
-            let buffer = self.of_buffer(rt, alloc, call, rest);
-            assert_refused(rt, alloc, buffer.err(), WRONG);
-        }
+        let kept = (Ends::Text(WRONG), after(self.bytes, 14));
+        self.check_each(rt, alloc, kept, (Ends::Text(WRONG), rest));
     }
 }

@@ -1,385 +1,217 @@
 //! The worked examples: files that the encoder writes, and files that are only decoded.
+//!
+//! An example is a line of words: its name; the styles in which its chunks are written (`r`, `p` and
+//! `t`), or `-`; its number of channels; its chunks; its raw bytes, before which may stand how often
+//! the first of them come, or else its image in three channels and the one in four. It is of one row.
+//! Bytes are hexadecimal.
 use crate::tests::fakes::{ONE_RGB_PIXEL, PIXEL};
 use crate::tests::library::support::images::{Image, file_of, row};
 use crate::tests::library::support::made;
-use qoi::Channels::{Rgb, Rgba};
-use qoi::Style::{Places, Reference, Tight};
 use qoi::{Channels, Header, Style};
 use std::alloc::Global;
 use std::process::Abort;
 
-/// An image of one row, and the chunks of its file in these styles.
-#[derive(Clone, Copy)]
-pub struct Written {
-    pub name: &'static str,
-    pub styles: &'static [Style],
-    pub width: u32,
-    pub channels: Channels,
-    pub chunks: &'static [u8],
-    /// The raw bytes begin with these bytes, `times` times.
-    pub first: &'static [u8],
-    pub times: usize,
-    /// The raw bytes after them.
-    pub rest: &'static [u8],
-}
-
-impl Written {
-    /// The image, in a style.
-    pub fn image(&self, rt: &impl Abort, alloc: Global, style: Style) -> Image {
-        let header = row(self.width, self.channels);
-        let mut raw = Vec::new(alloc);
-        for _ in 0..self.times {
-            made::append(rt, &mut raw, self.first);
-        }
-        made::append(rt, &mut raw, self.rest);
-        Image {
-            header,
-            style,
-            raw,
-            file: file_of(rt, alloc, header, self.chunks),
-        }
-    }
-}
-
-// A pixel of three channels, and one of four. What an example doesn't name is as here.
-const RGB: Written = Written {
-    name: "",
-    styles: &[Reference],
-    width: 1,
-    channels: Rgb,
-    chunks: &[],
-    first: &[],
-    times: 0,
-    rest: &[],
-};
-
-const RGBA: Written = Written {
-    channels: Rgba,
-    ..RGB
-};
-
-const PLACE_CHUNKS: &[u8] = &[0xff, 0x65, 0x66, 0x67, 0x68, 0xff, 1, 2, 3, 4, 0x36];
-
-const PLACE_RAW: &[u8] = &[101, 102, 103, 104, 1, 2, 3, 4, 101, 102, 103, 104];
-
 /// Three pixels of four channels, of which the last is an index position.
-#[rattlefmt::skip]
-pub const PLACE_RGBA: Written = Written { name: "place_rgba", width: 3, chunks: PLACE_CHUNKS,
-    rest: PLACE_RAW, ..RGBA };
+pub const PLACE_RGBA: &str = "place_rgba r 4 ff65666768ff0102030436 656667680102030465666768";
 
 /// A chunk of each kind: RGB, RGBA, a difference, a luma, an index position (53) and a run of two.
-#[rattlefmt::skip]
-pub const EACH_KIND: Written = Written { name: "a chunk of each kind", width: 7,
-    chunks: &[0xfe, 1, 0x63, 2, 0xff, 0x0b, 0x21, 0x37, 0x4d, 0x40, 0xbf, 0xff, 0x35, 0xc1],
-    rest: &[1, 99, 2, 255, 11, 33, 55, 77, 9, 31, 53, 77, 47, 62, 91, 77, 1, 99, 2, 255, 1, 99, 2,
-    255, 1, 99, 2, 255], ..RGBA };
+pub const EACH_KIND: &str = "each_kind r 4 fe016302ff0b21374d40bfff35c1 \
+    016302ff0b21374d091f354d2f3e5b4d016302ff016302ff016302ff";
 
 /// A repeat in style `Reference`.
-#[rattlefmt::skip]
-pub const REPEAT: Written = Written { name: "styles", width: 3,
-    chunks: &[0xfe, 0x65, 0x66, 0x67, 0xc0, 0xfe, 1, 2, 3],
-    rest: &[101, 102, 103, 101, 102, 103, 1, 2, 3], ..RGB };
+pub const REPEAT: &str = "styles r 3 fe656667c0fe010203 656667656667010203";
 
 /// The same in style `Places`.
-#[rattlefmt::skip]
-pub const REPEAT_AS_PLACE: Written = Written { styles: &[Places],
-    chunks: &[0xfe, 0x65, 0x66, 0x67, 0x33, 0xfe, 1, 2, 3], ..REPEAT };
+pub const REPEAT_AS_PLACE: &str = "styles p 3 fe65666733fe010203 656667656667010203";
 
 /// Opaque black that comes back, in style `Tight`.
+pub const BLACK_AS_PLACE: &str = "styles t 3 c0fe65666735 000000656667000000";
+
+// Files that the encoder writes.
 #[rattlefmt::skip]
-pub const BLACK_AS_PLACE: Written = Written { name: "styles", styles: &[Tight], width: 3,
-    chunks: &[0xc0, 0xfe, 0x65, 0x66, 0x67, 0x35],
-    rest: &[0, 0, 0, 101, 102, 103, 0, 0, 0], ..RGB };
-
-const BLACK: &[u8] = &[0, 0, 0, 255];
-
-const PX: &[u8] = &[101, 102, 103];
-
-// Repeats of the start pixel, and one pixel.
-#[rattlefmt::skip]
-static FROM_START: [Written; 13] = [
-    Written { name: "one_rgba_pixel", chunks: &[0xff, 0x0b, 0x79, 0xe7, 0x37],
-        rest: &[11, 121, 231, 55], ..RGBA },
-    Written { name: "one_rgba_pixel", chunks: &[0xfe, 0x0b, 0x79, 0xe7], rest: &[11, 121, 231, 255],
-        ..RGBA },
-    Written { name: "one_black_pixel", chunks: &[0xc0], rest: &[0, 0, 0], ..RGB },
-    Written { name: "black_runs", width: 62, chunks: &[0xfd], first: &[0, 0, 0], times: 62, ..RGB },
-    Written { name: "black_runs", width: 63, chunks: &[0xfd, 0xc0], first: &[0, 0, 0], times: 63,
-        ..RGB },
-    Written { name: "black_runs", width: 64, chunks: &[0xfd, 0xc0, 0xfe, 0x0b, 0x16, 0x21],
-        first: &[0, 0, 0], times: 63, rest: &[11, 22, 33], ..RGB },
-    Written { name: "one_small_step", chunks: &[0x55], rest: &[255, 255, 255], ..RGB },
-    Written { name: "one_small_step", chunks: &[0x7f], rest: &[1, 1, 1], ..RGB },
-    Written { name: "one_small_step", chunks: &[0x40], rest: &[254, 254, 254], ..RGB },
-    Written { name: "one_small_step", chunks: &[0x9f, 0x00], rest: &[247, 255, 247], ..RGB },
-    Written { name: "one_small_step", chunks: &[0x80, 0x88], rest: &[224, 224, 224], ..RGB },
-    Written { name: "one_small_step", chunks: &[0xbf, 0xff], rest: &[38, 31, 38], ..RGB },
-    Written { name: "one_small_step", chunks: &[0xfe, 0x20, 0x20, 0x20], rest: &[32, 32, 32],
-        ..RGB },
-];
-
-// Index positions, and black that comes back.
-#[rattlefmt::skip]
-static POSITIONS: [Written; 8] = [
-    Written { name: "place_rgb", width: 3, chunks: &[0xfe, 0x65, 0x66, 0x67, 0xfe, 1, 2, 3, 0x33],
-        rest: &[101, 102, 103, 1, 2, 3, 101, 102, 103], ..RGB },
+static WRITTEN: [&str; 47] = [
+    // Repeats of the start pixel, and one pixel.
+    "one_rgba_pixel r 4 ff0b79e737 0b79e737",
+    "one_rgba_pixel r 4 fe0b79e7 0b79e7ff",
+    "one_black_pixel r 3 c0 000000",
+    "black_runs r 3 fd 62x 000000",
+    "black_runs r 3 fdc0 63x 000000",
+    "black_runs r 3 fdc0fe0b1621 63x 000000 0b1621",
+    "one_small_step r 3 55 ffffff",
+    "one_small_step r 3 7f 010101",
+    "one_small_step r 3 40 fefefe",
+    "one_small_step r 3 9f00 f7fff7",
+    "one_small_step r 3 8088 e0e0e0",
+    "one_small_step r 3 bfff 261f26",
+    "one_small_step r 3 fe202020 202020",
+    // Index positions, and black that comes back.
+    "place_rgb r 3 fe656667fe01020333 656667010203656667",
     PLACE_RGBA,
-    Written { name: "blank_first", chunks: &[0x00], rest: &[0, 0, 0, 0], ..RGBA },
-    Written { name: "black_returns_rgb", width: 3,
-        chunks: &[0xc0, 0xfe, 0x65, 0x66, 0x67, 0xfe, 0, 0, 0],
-        rest: &[0, 0, 0, 101, 102, 103, 0, 0, 0], ..RGB },
-    Written { name: "black_returns_rgba", width: 3,
-        chunks: &[0xc0, 0xff, 0x65, 0x66, 0x67, 0x68, 0xff, 0, 0, 0, 0xff],
-        rest: &[0, 0, 0, 255, 101, 102, 103, 104, 0, 0, 0, 255], ..RGBA },
-    Written { name: "black_overwritten", width: 3, chunks: &[0xc0, 0xfe, 1, 0x63, 2, 0xfe, 0, 0, 0],
-        rest: &[0, 0, 0, 1, 99, 2, 0, 0, 0], ..RGB },
+    "blank_first r 4 00 00000000",
+    "black_returns_rgb r 3 c0fe656667fe000000 000000656667000000",
+    "black_returns_rgba r 4 c0ff65666768ff000000ff 000000ff65666768000000ff",
+    "black_overwritten r 3 c0fe016302fe000000 000000016302000000",
     // Index position 0 holds transparent black, and not the opaque black that is encoded.
-    Written { name: "black_and_blank", width: 2, chunks: &[0xfe, 0x65, 0x66, 0x67, 0xfe, 0, 0, 0],
-        rest: &[101, 102, 103, 0, 0, 0], ..RGB },
-    Written { name: "blank_without_place", width: 4,
-        chunks: &[0xff, 0x40, 0, 0, 0, 0xfe, 0, 0, 0, 0xfe, 0x40, 0, 0, 0xfe, 0, 0, 0],
-        rest: &[64, 0, 0, 0, 0, 0, 0, 0, 64, 0, 0, 0, 0, 0, 0, 0], ..RGBA },
-];
-
-// Runs, and black after other pixels and before them.
-#[rattlefmt::skip]
-static RUNS: [Written; 11] = [
-    Written { name: "plain_runs", width: 3,
-        chunks: &[0xfe, 1, 0x63, 2, 0xfe, 0xfb, 0xfc, 0xfd, 0x40],
-        rest: &[1, 99, 2, 251, 252, 253, 249, 250, 251], ..RGB },
+    "black_and_blank r 3 fe656667fe000000 656667000000",
+    "blank_without_place r 4 ff40000000fe000000fe400000fe000000 40000000000000004000000000000000",
+    // Runs, and black after other pixels and before them.
+    "plain_runs r 3 fe016302fefbfcfd40 016302fbfcfdf9fafb",
     // Runs of two, at the end and within.
-    Written { name: "plain_runs", width: 4,
-        chunks: &[0xfe, 1, 0x63, 2, 0xfe, 0x0b, 0x21, 0x37, 0xc1],
-        rest: &[1, 99, 2, 11, 33, 55, 11, 33, 55, 11, 33, 55], ..RGB },
-    Written { name: "plain_runs", width: 5,
-        chunks: &[0xfe, 1, 0x63, 2, 0xfe, 0x0b, 0x21, 0x37, 0xc1, 0xfe, 1, 2, 3],
-        rest: &[1, 99, 2, 11, 33, 55, 11, 33, 55, 11, 33, 55, 1, 2, 3], ..RGB },
-    Written { name: "plain_runs", width: 4,
-        chunks: &[0xff, 1, 0x63, 2, 3, 0xff, 0x0b, 0x21, 0x37, 0x4d, 0xc1],
-        rest: &[1, 99, 2, 3, 11, 33, 55, 77, 11, 33, 55, 77, 11, 33, 55, 77], ..RGBA },
-    Written { name: "plain_runs", width: 5,
-        chunks: &[0xff, 1, 0x63, 2, 3, 0xff, 0x0b, 0x21, 0x37, 0x4d, 0xc1, 0xff, 1, 2, 3, 4],
-        rest: &[1, 99, 2, 3, 11, 33, 55, 77, 11, 33, 55, 77, 11, 33, 55, 77, 1, 2, 3, 4], ..RGBA },
-    Written { name: "black returns twice", width: 5,
-        chunks: &[0xc0, 0xfe, 0x65, 0x66, 0x67, 0xfe, 0, 0, 0, 0x33, 0x35],
-        rest: &[0, 0, 0, 101, 102, 103, 0, 0, 0, 101, 102, 103, 0, 0, 0], ..RGB },
-    Written { name: "black returns after 63", width: 65,
-        chunks: &[0xfd, 0xc0, 0xff, 0x65, 0x66, 0x67, 0x68, 0xff, 0, 0, 0, 0xff],
-        first: BLACK, times: 63, rest: &[101, 102, 103, 104, 0, 0, 0, 255], ..RGBA },
-    Written { name: "black twice", width: 2, chunks: &[0xc1], first: &[0, 0, 0], times: 2, ..RGB },
-    Written { name: "black twice", width: 2, chunks: &[0xc1], first: BLACK, times: 2, ..RGBA },
-    Written { name: "blank after a pixel", width: 2, chunks: &[0xff, 0x65, 0x66, 0x67, 0x68, 0x00],
-        rest: &[101, 102, 103, 104, 0, 0, 0, 0], ..RGBA },
-    Written { name: "black after a pixel", width: 2,
-        chunks: &[0xff, 0x65, 0x66, 0x67, 0x68, 0xff, 0, 0, 0, 0xff],
-        rest: &[101, 102, 103, 104, 0, 0, 0, 255], ..RGBA },
-];
-
-// Repeats in the styles `Reference` and `Places`.
-#[rattlefmt::skip]
-static STYLES: [Written; 10] = [
+    "plain_runs r 3 fe016302fe0b2137c1 0163020b21370b21370b2137",
+    "plain_runs r 3 fe016302fe0b2137c1fe010203 0163020b21370b21370b2137010203",
+    "plain_runs r 4 ff01630203ff0b21374dc1 016302030b21374d0b21374d0b21374d",
+    "plain_runs r 4 ff01630203ff0b21374dc1ff01020304 016302030b21374d0b21374d0b21374d01020304",
+    "black_returns_twice r 3 c0fe656667fe0000003335 000000656667000000656667000000",
+    "black_returns_after_63 r 4 fdc0ff65666768ff000000ff 63x 000000ff 65666768000000ff",
+    "black_twice r 3 c1 000000000000",
+    "black_twice r 4 c1 000000ff000000ff",
+    "blank_after_a_pixel r 4 ff6566676800 6566676800000000",
+    "black_after_a_pixel r 4 ff65666768ff000000ff 65666768000000ff",
+    // Repeats in the styles `Reference` and `Places`.
     REPEAT,
     REPEAT_AS_PLACE,
-    Written { name: "styles", styles: &[Reference, Places], width: 5,
-        chunks: &[0xfe, 0x65, 0x66, 0x67, 0xfe, 1, 2, 3, 0x33, 0xc0, 0x17],
-        rest: &[101, 102, 103, 1, 2, 3, 101, 102, 103, 101, 102, 103, 1, 2, 3], ..RGB },
-    Written { name: "one after runs of 62", width: 65,
-        chunks: &[0xfe, 0x65, 0x66, 0x67, 0xfd, 0xc0, 0xfe, 1, 2, 3],
-        first: PX, times: 64, rest: &[1, 2, 3], ..RGB },
-    Written { name: "one after runs of 62", styles: &[Places], width: 65,
-        chunks: &[0xfe, 0x65, 0x66, 0x67, 0xfd, 0x33, 0xfe, 1, 2, 3],
-        first: PX, times: 64, rest: &[1, 2, 3], ..RGB },
-    Written { name: "two stay a run", styles: &[Reference, Places], width: 4,
-        chunks: &[0xfe, 0x65, 0x66, 0x67, 0xc1, 0xfe, 1, 2, 3],
-        first: PX, times: 3, rest: &[1, 2, 3], ..RGB },
-    Written { name: "one at the end", styles: &[Reference, Places], width: 2,
-        chunks: &[0xfe, 0x65, 0x66, 0x67, 0xc0],
-        first: PX, times: 2, ..RGB },
-    Written { name: "one at the start", styles: &[Reference, Places], width: 2,
-        chunks: &[0xc0, 0xfe, 0x65, 0x66, 0x67],
-        rest: &[0, 0, 0, 101, 102, 103], ..RGB },
-    Written { name: "one after its own place", styles: &[Reference, Places], width: 3,
-        chunks: &[0x00, 0xc0, 0xff, 1, 2, 3, 4],
-        rest: &[0, 0, 0, 0, 0, 0, 0, 0, 1, 2, 3, 4], ..RGBA },
-    // `Places` keeps both runs: nothing fresh precedes the first or follows the last.
-    Written { name: "one at the start", styles: &[Reference, Places], width: 3,
-        chunks: &[0xc0, 0xfe, 0x65, 0x66, 0x67, 0xc0],
-        rest: &[0, 0, 0, 101, 102, 103, 101, 102, 103], ..RGB },
-];
-
-// Style `Tight`.
-#[rattlefmt::skip]
-static TIGHT: [Written; 6] = [
+    "styles rp 3 fe656667fe01020333c017 656667010203656667656667010203",
+    "one_after_runs_of_62 r 3 fe656667fdc0fe010203 64x 656667 010203",
+    "one_after_runs_of_62 p 3 fe656667fd33fe010203 64x 656667 010203",
+    "two_stay_a_run rp 3 fe656667c1fe010203 656667656667656667010203",
+    "one_at_the_end rp 3 fe656667c0 656667656667",
+    "one_at_the_start rp 3 c0fe656667 000000656667",
+    "one_after_its_own_place rp 4 00c0ff01020304 000000000000000001020304",
+    // Style `Tight`.
     BLACK_AS_PLACE,
-    Written { name: "black_returns_rgba", styles: &[Tight], width: 3,
-        chunks: &[0xc0, 0xff, 0x65, 0x66, 0x67, 0x68, 0x35],
-        rest: &[0, 0, 0, 255, 101, 102, 103, 104, 0, 0, 0, 255], ..RGBA },
-    Written { name: "blank_without_place", styles: &[Tight], width: 4,
-        chunks: &[0xff, 0x40, 0, 0, 0, 0x01, 0xfe, 0x40, 0, 0, 0x01],
-        rest: &[64, 0, 0, 0, 0, 0, 0, 0, 64, 0, 0, 0, 0, 0, 0, 0], ..RGBA },
-    Written { name: "black_overwritten", styles: &[Tight], width: 3,
-        chunks: &[0xc0, 0xfe, 0x01, 0x63, 0x02, 0xfe, 0, 0, 0], rest: &[0, 0, 0, 1, 99, 2, 0, 0, 0],
-        ..RGB },
-    Written { name: "black_and_blank", styles: &[Tight], width: 2,
-        chunks: &[0xfe, 0x65, 0x66, 0x67, 0xfe, 0, 0, 0],
-        rest: &[101, 102, 103, 0, 0, 0], ..RGB },
-    Written { name: "a run stays", styles: &[Tight], width: 4,
-        chunks: &[0xc0, 0xfe, 0x65, 0x66, 0x67, 0xc0, 0xfe, 1, 2, 3],
-        rest: &[0, 0, 0, 101, 102, 103, 101, 102, 103, 1, 2, 3], ..RGB },
+    "black_returns_rgba t 4 c0ff6566676835 000000ff65666768000000ff",
+    "blank_without_place t 4 ff4000000001fe40000001 40000000000000004000000000000000",
+    "black_overwritten t 3 c0fe016302fe000000 000000016302000000",
+    "black_and_blank t 3 fe656667fe000000 656667000000",
+    "a_run_stays t 3 c0fe656667c0fe010203 000000656667656667010203",
 ];
-
-// The table of repeats of the start pixel and of one pixel.
-fn start_table() -> &'static [Written] {
-    &FROM_START
-}
-
-// The table of index positions.
-fn position_table() -> &'static [Written] {
-    &POSITIONS
-}
-
-// The table of runs.
-fn run_table() -> &'static [Written] {
-    &RUNS
-}
-
-// The table of two styles.
-fn style_table() -> &'static [Written] {
-    &STYLES
-}
-
-// The table of style `Tight`.
-fn tight_table() -> &'static [Written] {
-    &TIGHT
-}
-
-/// Files that the encoder writes. Each table has a function of its own, since a function is proved
-/// together with the tables that it names.
-pub fn written_tables() -> [&'static [Written]; 5] {
-    [
-        start_table(),
-        position_table(),
-        run_table(),
-        style_table(),
-        tight_table(),
-    ]
-}
-
-/// The chunks of a file of one row that is only decoded, and its image in three and in four
-/// channels.
-#[derive(Clone, Copy)]
-pub struct Given {
-    pub name: &'static str,
-    pub width: u32,
-    pub channels: Channels,
-    pub chunks: &'static [u8],
-    pub three: &'static [u8],
-    pub four: &'static [u8],
-}
-
-impl Given {
-    /// The header.
-    pub fn header(&self) -> Header {
-        row(self.width, self.channels)
-    }
-
-    /// The file, with its image in its own channels.
-    pub fn image(&self, rt: &impl Abort, alloc: Global) -> Image {
-        let own = if self.channels.is_rgb() {
-            self.three
-        } else {
-            self.four
-        };
-        Image {
-            header: self.header(),
-            style: Reference,
-            raw: made::bytes(rt, alloc, own),
-            file: file_of(rt, alloc, self.header(), self.chunks),
-        }
-    }
-}
 
 // Files that are only decoded.
 #[rattlefmt::skip]
-static GIVEN: [Given; 13] = [
-    Given { name: "black_returns_rgb", width: 3, channels: Rgb,
-        chunks: &[0xc0, 0xfe, 0x65, 0x66, 0x67, 0x35],
-        three: &[0, 0, 0, 101, 102, 103, 0, 0, 0],
-        four: &[0, 0, 0, 255, 101, 102, 103, 255, 0, 0, 0, 255] },
+static GIVEN: [&str; 13] = [
+    "black_returns_rgb - 3 c0fe65666735 000000656667000000 000000ff656667ff000000ff",
     // Pixels of runs are seen.
-    Given { name: "black_returns_rgba", width: 3, channels: Rgba,
-        chunks: &[0xc0, 0xff, 0x65, 0x66, 0x67, 0x68, 0x35],
-        three: &[0, 0, 0, 101, 102, 103, 0, 0, 0],
-        four: &[0, 0, 0, 255, 101, 102, 103, 104, 0, 0, 0, 255] },
+    "black_returns_rgba - 4 c0ff6566676835 000000656667000000 000000ff65666768000000ff",
     // Position 17 was never written.
-    Given { name: "blank_without_place", width: 4, channels: Rgba,
-        chunks: &[0xff, 0x40, 0, 0, 0, 0x11, 0xfe, 0x40, 0, 0, 0x11],
-        three: &[64, 0, 0, 0, 0, 0, 64, 0, 0, 0, 0, 0],
-        four: &[64, 0, 0, 0, 0, 0, 0, 0, 64, 0, 0, 0, 0, 0, 0, 0] },
+    "blank_without_place - 4 ff4000000011fe40000011 400000000000400000000000 40000000000000004000000000000000",
     // The pixel from an empty position is seen.
-    Given { name: "empty_place", width: 3, channels: Rgba,
-        chunks: &[0xff, 0x40, 0, 0, 0, 0x11, 0x00],
-        three: &[0x40, 0, 0, 0, 0, 0, 0, 0, 0], four: &[0x40, 0, 0, 0, 0, 0, 0, 0, 0, 0, 0, 0] },
-    Given { name: "chunks_under_rgb_header", width: 1, channels: Rgb, chunks: &[0x11],
-        three: &[0, 0, 0], four: &[0, 0, 0, 255] },
-    Given { name: "chunks_under_rgb_header", width: 1, channels: Rgb, chunks: &[0xff, 1, 2, 3, 4],
-        three: &[1, 2, 3], four: &[1, 2, 3, 255] },
-    Given { name: "last_run", width: 4, channels: Rgb, chunks: &[0xfd],
-        three: &[0; 12], four: &[0, 0, 0, 255, 0, 0, 0, 255, 0, 0, 0, 255, 0, 0, 0, 255] },
-    Given { name: "place_rgba", width: 3, channels: Rgba, chunks: PLACE_CHUNKS,
-        three: &[101, 102, 103, 1, 2, 3, 101, 102, 103], four: PLACE_RAW },
-    Given { name: "black_and_blank", width: 2, channels: Rgb,
-        chunks: &[0xfe, 0x65, 0x66, 0x67, 0x00],
-        three: &[101, 102, 103, 0, 0, 0], four: &[101, 102, 103, 255, 0, 0, 0, 255] },
+    "empty_place - 4 ff400000001100 400000000000000000 400000000000000000000000",
+    "chunks_under_rgb_header - 3 11 000000 000000ff",
+    "chunks_under_rgb_header - 3 ff01020304 010203 010203ff",
+    "last_run - 3 fd 000000000000000000000000 000000ff000000ff000000ff000000ff",
+    "place_rgba - 4 ff65666768ff0102030436 656667010203656667 656667680102030465666768",
+    "black_and_blank - 3 fe65666700 656667000000 656667ff000000ff",
     // Under a header of four channels the second pixel comes out transparent.
-    Given { name: "black_and_blank", width: 2, channels: Rgba,
-        chunks: &[0xfe, 0x65, 0x66, 0x67, 0x00],
-        three: &[101, 102, 103, 0, 0, 0], four: &[101, 102, 103, 255, 0, 0, 0, 0] },
-    Given { name: "alpha stays inside", width: 3, channels: Rgb,
-        chunks: &[0xff, 1, 2, 3, 4, 0xfe, 5, 6, 7, 0x0e],
-        three: &[1, 2, 3, 5, 6, 7, 1, 2, 3], four: &[1, 2, 3, 255, 5, 6, 7, 255, 1, 2, 3, 255] },
-    Given { name: "transparent black is seen", width: 3, channels: Rgb, chunks: &[0x11, 0x6b, 0x07],
-        three: &[0, 0, 0, 0, 0, 1, 0, 0, 1], four: &[0, 0, 0, 255, 0, 0, 1, 255, 0, 0, 1, 255] },
+    "black_and_blank - 4 fe65666700 656667000000 656667ff00000000",
+    "alpha_stays_inside - 3 ff01020304fe0506070e 010203050607010203 010203ff050607ff010203ff",
+    "transparent_black_is_seen - 3 116b07 000000000001000001 000000ff000001ff000001ff",
     // Two differences give two black pixels.
-    Given { name: "black twice", width: 2, channels: Rgb, chunks: &[0x6a, 0x6a],
-        three: &[0; 6], four: &[0, 0, 0, 255, 0, 0, 0, 255] },
+    "black_twice - 3 6a6a 000000000000 000000ff000000ff",
 ];
 
-/// The table of files that are only decoded.
-pub fn given_table() -> &'static [Given] {
+/// The examples that the encoder writes.
+pub fn written() -> &'static [&'static str] {
+    &WRITTEN
+}
+
+/// The examples that are only decoded.
+pub fn given() -> &'static [&'static str] {
     &GIVEN
+}
+
+/// A word of an example, counted from 0.
+pub fn word(example: &str, i: usize) -> &str {
+    for (k, word) in example.split(' ').enumerate() {
+        if k == i {
+            return word;
+        }
+    }
+    ""
+}
+
+// The number of a hexadecimal digit.
+fn digit(letter: u8) -> u8 {
+    letter.wrapping_sub(if letter < b'a' { b'0' } else { b'a' - 10 })
+}
+
+/// The bytes of a word of an example.
+pub fn bytes(rt: &impl Abort, alloc: Global, example: &str, i: usize) -> Vec<u8> {
+    let mut bytes = Vec::new(alloc);
+    for pair in word(example, i).as_bytes().chunks_exact(2) {
+        if let [high, low] = pair {
+            let byte = digit(*high).wrapping_mul(16).wrapping_add(digit(*low));
+            bytes.push(byte).expect(rt, "refused");
+        }
+    }
+    bytes
+}
+
+// The raw bytes of an example that the encoder writes.
+fn raw(rt: &impl Abort, alloc: Global, example: &str) -> Vec<u8> {
+    let Some(times) = word(example, 4).strip_suffix("x") else {
+        return bytes(rt, alloc, example, 4);
+    };
+    let mut raw = Vec::new(alloc);
+    for _ in 0..times.parse::<u32>().unwrap_or(0) {
+        made::append(rt, &mut raw, &bytes(rt, alloc, example, 5));
+    }
+    made::append(rt, &mut raw, &bytes(rt, alloc, example, 6));
+    raw
+}
+
+// The header of a row of these raw bytes.
+fn row_of(example: &str, raw: &[u8]) -> Header {
+    let (channels, size) = if word(example, 2) == "3" {
+        (Channels::Rgb, 3)
+    } else {
+        (Channels::Rgba, 4)
+    };
+    row((raw.len() / size).min(1000) as u32, channels)
+}
+
+// The image of an example with these raw bytes.
+fn of(rt: &impl Abort, alloc: Global, example: &str, style: Style, raw: Vec<u8>) -> Image {
+    let header = row_of(example, &raw);
+    Image {
+        header,
+        style,
+        raw,
+        file: file_of(rt, alloc, header, &bytes(rt, alloc, example, 3)),
+    }
+}
+
+/// The image of an example that the encoder writes, in a style.
+pub fn image(rt: &impl Abort, alloc: Global, example: &str, style: Style) -> Image {
+    of(rt, alloc, example, style, raw(rt, alloc, example))
+}
+
+/// The image, in its own channels, of an example that is only decoded.
+pub fn given_image(rt: &impl Abort, alloc: Global, example: &str) -> Image {
+    let i = if word(example, 2) == "3" { 4 } else { 5 };
+    of(
+        rt,
+        alloc,
+        example,
+        Style::Reference,
+        bytes(rt, alloc, example, i),
+    )
 }
 
 /// The example `one_rgb_pixel`.
 pub fn one_rgb_pixel(rt: &impl Abort, alloc: Global) -> Image {
     Image {
         header: Header::default(),
-        style: Reference,
+        style: Style::Reference,
         raw: made::bytes(rt, alloc, &PIXEL),
         file: made::bytes(rt, alloc, &ONE_RGB_PIXEL),
     }
 }
 
-// Adds the files of a table.
-fn add_table(rt: &impl Abort, alloc: Global, images: &mut Vec<Image>, table: &[Written]) {
-    for example in table {
-        images
-            .push(example.image(rt, alloc, Reference))
-            .expect(rt, "refused");
-    }
-}
-
 // Adds the files that the encoder writes.
 fn add_written(rt: &impl Abort, alloc: Global, images: &mut Vec<Image>) {
-    for table in written_tables() {
-        add_table(rt, alloc, images, table);
-    }
-}
-
-// Adds the files that are only decoded.
-fn add_given(rt: &impl Abort, alloc: Global, images: &mut Vec<Image>) {
-    for example in given_table() {
-        images.push(example.image(rt, alloc)).expect(rt, "refused");
+    for example in written() {
+        let image = image(rt, alloc, example, Style::Reference);
+        images.push(image).expect(rt, "refused");
     }
 }
 
@@ -388,6 +220,9 @@ pub fn files(rt: &impl Abort, alloc: Global) -> Vec<Image> {
     let mut images = Vec::new(alloc);
     images.push(one_rgb_pixel(rt, alloc)).expect(rt, "refused");
     add_written(rt, alloc, &mut images);
-    add_given(rt, alloc, &mut images);
+    for example in given() {
+        let image = given_image(rt, alloc, example);
+        images.push(image).expect(rt, "refused");
+    }
     images
 }

@@ -1,8 +1,7 @@
 //! Images that are encoded by each of the calls, and decoded back.
 use crate::tests::fakes::{Bad, End, NONE, Sink};
 use crate::tests::library::support::decodings::Decoding;
-use crate::tests::library::support::generator::Rgba;
-use crate::tests::library::support::plain::plain_chunks;
+use crate::tests::library::support::generator::{Numbers, Rgba, drawn};
 use crate::tests::library::support::{
     assert_bytes, assert_count, assert_fails, assert_given, assert_header, assert_number, made,
 };
@@ -20,20 +19,13 @@ pub fn row(width: u32, channels: Channels) -> Header {
     }
 }
 
-// The fourteen bytes of a header.
-fn header_bytes(header: Header) -> [u8; 14] {
-    let [w_3, w_2, w_1, w_0] = header.width.to_be_bytes();
-    let [h_3, h_2, h_1, h_0] = header.height.to_be_bytes();
-    let channels = if header.channels.is_rgb() { 3 } else { 4 };
-    let colorspace = if header.colorspace.is_srgb() { 0 } else { 1 };
-    [
-        0x71, 0x6f, 0x69, 0x66, w_3, w_2, w_1, w_0, h_3, h_2, h_1, h_0, channels, colorspace,
-    ]
-}
-
 /// A file: the fourteen bytes of a header, the chunks as they are given, and the end marker.
 pub fn file_of(rt: &impl Abort, alloc: Global, header: Header, chunks: &[u8]) -> Vec<u8> {
-    let mut file = made::bytes(rt, alloc, &header_bytes(header));
+    let mut file = made::bytes(rt, alloc, b"qoif");
+    made::append(rt, &mut file, &header.width.to_be_bytes());
+    made::append(rt, &mut file, &header.height.to_be_bytes());
+    let last = [header.channels.as_u8(), header.colorspace.as_u8()];
+    made::append(rt, &mut file, &last);
     made::append(rt, &mut file, chunks);
     made::append(rt, &mut file, &[0, 0, 0, 0, 0, 0, 0, 1]);
     file
@@ -42,31 +34,9 @@ pub fn file_of(rt: &impl Abort, alloc: Global, header: Header, chunks: &[u8]) ->
 /// The raw bytes of pixels. In three channels their alpha is dropped.
 pub fn raw_of(rt: &impl Abort, alloc: Global, channels: Channels, pixels: &[Rgba]) -> Vec<u8> {
     let mut raw = Vec::new(alloc);
-    for [r, g, b, a] in pixels {
-        made::append(rt, &mut raw, &[*r, *g, *b]);
-        if channels.is_rgba() {
-            raw.push(*a).expect(rt, "refused");
-        }
-    }
-    raw
-}
-
-/// The raw bytes, in these channels, of a file's pixels, which count as opaque if its own channels
-/// are three.
-pub fn seen_raw(
-    rt: &impl Abort,
-    alloc: Global,
-    pixels: &[Rgba],
-    own: Channels,
-    channels: Channels,
-) -> Vec<u8> {
-    let mut raw = raw_of(rt, alloc, channels, pixels);
-    if own.is_rgb() && channels.is_rgba() {
-        for px in raw.chunks_exact_mut(4) {
-            if let [_, _, _, alpha] = px {
-                *alpha = 255;
-            }
-        }
+    let size = usize::from(channels.as_u8()).min(4);
+    for px in pixels {
+        made::append(rt, &mut raw, &px[..size]);
     }
     raw
 }
@@ -81,30 +51,30 @@ pub struct Image {
 }
 
 impl Image {
-    /// The image of these pixels, which are opaque if there are three channels, and the file that
-    /// the plain encoder makes of it.
-    pub fn of(
-        rt: &impl Abort,
-        alloc: Global,
-        header: Header,
-        style: Style,
-        pixels: &[Rgba],
-    ) -> Image {
-        let chunks = plain_chunks(rt, alloc, style, pixels);
-        Image {
+    /// The image of these raw bytes, with the file that the encoder makes of it.
+    pub fn of(rt: &impl Abort, alloc: Global, header: Header, style: Style, raw: Vec<u8>) -> Image {
+        let file = Vec::new(alloc);
+        let mut image = Image {
             header,
             style,
-            raw: raw_of(rt, alloc, header.channels, pixels),
-            file: file_of(rt, alloc, header, &chunks),
-        }
+            raw,
+            file,
+        };
+        image.file = image.encoder(rt).encode_to_vec(alloc).expect(rt, "refused");
+        image
+    }
+
+    /// An image of drawn pixels, the same for the same seed.
+    pub fn drawn(rt: &impl Abort, alloc: Global, seed: u64, header: Header, style: Style) -> Image {
+        let n = header.width as usize * header.height as usize;
+        let pixels = drawn(rt, alloc, &mut Numbers::new(seed), header.channels, n);
+        let raw = raw_of(rt, alloc, header.channels, &pixels);
+        Image::of(rt, alloc, header, style, raw)
     }
 
     /// Its encoder.
     pub fn encoder(&self, rt: &impl Abort) -> Encoder<'_> {
-        let encoder = Encoder::new(&self.raw, self.header.width, self.header.height).expect(
-            rt, "refused",
-        );
-        encoder.with_style(self.style)
+        made::encoder(rt, &self.raw, self.header.width, self.header.height).with_style(self.style)
     }
 
     /// Its file, which is decoded in its own channels.
@@ -124,39 +94,36 @@ impl Image {
         assert!(rt; encoder.channels() == self.header.channels);
         assert_given(rt, encoder.encode_to_vec(alloc), &self.file);
         self.sent(rt, alloc, usize::MAX);
-        let required = encoder.required_buf_len();
-        let mut buf = made::filled(rt, alloc, 0xaa, required.saturating_add(3));
-        let size = encoder.encode_to_buf(&mut buf).expect(rt, "refused");
-        self.check_front(rt, size, &buf);
+        let most = encoder.required_buf_len().saturating_add(3);
+        let mut buf = made::filled(rt, alloc, 0xaa, most);
+        assert_count(rt, encoder.encode_to_buf(&mut buf), self.file.len());
+        assert_bytes(rt, &buf, &self.file_in(rt, alloc, most));
         if self.style == Style::Reference {
-            self.check_free(rt, alloc);
+            self.check_free(rt, alloc, &mut buf);
         }
         self.decoding().check_free(rt, alloc, &self.raw);
         self.decoding().check(rt, alloc, &self.raw, &[]);
     }
 
-    // The file stands at the front of the buffer, and each byte after it is as before.
-    fn check_front(&self, rt: &impl Abort, size: usize, buf: &[u8]) {
-        assert_number(rt, size, self.file.len());
-        match buf.strip_prefix(self.file.as_slice()) {
-            Some(rest) => {
-                for byte in rest {
-                    assert!(rt; *byte == 0xaa);
-                }
-            }
-            None => assert_bytes(rt, buf, &self.file),
-        }
+    // The file at the front of a buffer of so many bytes, each of which was 0xaa.
+    fn file_in(&self, rt: &impl Abort, alloc: Global, size: usize) -> Vec<u8> {
+        let mut buf = made::bytes(rt, alloc, &self.file);
+        buf.resize(size, 0xaa).expect(rt, "refused");
+        buf
     }
 
-    // Encodes the image by the two free calls. The buffer has three bytes more than it needs.
-    fn check_free(&self, rt: &impl Abort, alloc: Global) {
+    // Encodes the image by the two free calls.
+    fn check_free(&self, rt: &impl Abort, alloc: Global, buf: &mut [u8]) {
         let (width, height) = (self.header.width, self.header.height);
-        let file = encode_to_vec(alloc, &self.raw, width, height).expect(rt, "refused");
-        assert_bytes(rt, &file, &self.file);
-        let most = self.header.encode_max_len();
-        let mut buf = made::filled(rt, alloc, 0xaa, most.saturating_add(3));
-        let size = encode_to_buf(&mut buf, &self.raw, width, height).expect(rt, "refused");
-        self.check_front(rt, size, &buf);
+        assert_given(
+            rt,
+            encode_to_vec(alloc, &self.raw, width, height),
+            &self.file,
+        );
+        buf.fill(0xaa);
+        let size = encode_to_buf(buf, &self.raw, width, height);
+        assert_count(rt, size, self.file.len());
+        assert_bytes(rt, buf, &self.file_in(rt, alloc, buf.len()));
     }
 
     /// Encodes the image to a writer that takes at most `most` bytes a call, and all of the file.
@@ -180,8 +147,11 @@ impl Image {
             let refusal = self.encoder(rt).encode_to_stream(&mut writer).err();
             assert_fails(rt, refusal, ErrorKind::BrokenPipe);
             assert_number(rt, writer.calls, call);
-            assert_number(rt, writer.got.len(), before.saturating_mul(4096));
-            assert!(rt; self.file.starts_with(&writer.got));
+            assert_bytes(
+                rt,
+                &writer.got,
+                &self.file[..before.saturating_mul(4096).min(self.file.len())],
+            );
         }
     }
 }

@@ -1,13 +1,8 @@
 //! What the tests make, with ample memory and of what isn't refused. Nothing is promised of it: the
 //! fewer facts a test sees, the faster it is proved.
 use crate::tests::fakes::{Bad, Sink};
-use crate::tests::library::support::generator::Rgba;
-pub use crate::tests::library::support::generator::drawn as pixels;
-use crate::tests::library::support::images::Image;
-pub use crate::tests::library::support::images::{
-    file_of as file, raw_of as raw, seen_raw as seen,
-};
-use qoi::{Buffered, Bytes, Decoder, Encoder, Header, Reader, Style, encode_to_vec};
+pub use crate::tests::library::support::images::file_of as file;
+use qoi::{Buffered, Bytes, Decoder, Encoder, Reader, encode_to_vec};
 use std::alloc::Global;
 use std::io::{BufRead, BufReader, Read};
 use std::process::Abort;
@@ -54,17 +49,6 @@ pub fn buffer<R: Read + Drop>(
 /// A writer in memory.
 pub fn sink(rt: &impl Abort, alloc: Global, most: usize, bad: Bad) -> Sink {
     Sink::new(alloc, most, bad).expect(rt, "refused")
-}
-
-/// An image of these pixels.
-pub fn image(
-    rt: &impl Abort,
-    alloc: Global,
-    header: Header,
-    style: Style,
-    pixels: &[Rgba],
-) -> Image {
-    Image::of(rt, alloc, header, style, pixels)
 }
 
 /// An encoder of these raw bytes.

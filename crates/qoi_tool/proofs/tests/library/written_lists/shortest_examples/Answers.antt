@@ -18,6 +18,5 @@ returns c = record {
   opens_with_color = refl;
   first_unseen = refl;
   next_unseen = refl;
-  last_unseen = refl;
   none_unseen = refl;
 }
