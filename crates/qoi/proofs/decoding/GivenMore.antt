@@ -9,7 +9,7 @@ use Rattle.qoi.specs.inner.Chunks.{Conversion, RefusesFilling}
 use Rattle.qoi.specs.Raw.{IsChannels}
 use Rattle.qoi.specs.inner.Filling.{Reached, HasWritten, reached, filling}
 use Rattle.qoi.specs.inner.Hashed.{pixel_of_lanes}
-use Rattle.qoi.specs.pieces.Unread.{Refused, Unread, kept_raw, bytes_left, KeepsPixels, IsUnread, GivesMore, RefusesMore, Asks, Steps, TakesInPlace, IsInPlace}
+use Rattle.qoi.specs.pieces.Unread.{Refused, Unread, kept_raw, bytes_left, KeepsPixels, IsUnread, AreEnough, GivesMore, RefusesMore, Asks, Steps, TakesInPlace, IsInPlace}
 use Rattle.qoi.proofs.decoding.PieceSteps.{Lent, gives, kept_long, minus_whole, piece_lent, piece_read, placed_most, read_two}
 use Rattle.qoi.proofs.format.WholePixels.{by_channels}
 use Rattle.qoi.proofs.decoding.PixelPieces.{in_three}
@@ -62,9 +62,22 @@ gives_then_none {f} {c} {ahead} {middle} {rest} {old} {between} {new} {out} {siz
 }
 
 -- a step that is refused after another
-pub refused_after : {f c : ℕ} {in_memory : Bool} {ahead middle rest : Option (List ℕ)} {old between : Unread} {out : List ℕ} {size : ℕ} {fault : Option Error}
-    → GivesMore f c ahead middle old between out size → RefusesMore f c in_memory middle rest between fault → RefusesMore f c in_memory ahead rest old fault
-refused_after one two = record { refused = λ n start given h. two.refused n start _ (one.read n start given h) }
+pub refused_after : {f c more all : ℕ} {in_memory : Bool} {ahead middle rest : Option (List ℕ)} {old between : Unread} {out : List ℕ} {size : ℕ} {fault : Option Error}
+    → GivesMore f c ahead middle old between out size → RefusesMore f c more in_memory middle rest between fault → size + more ≤ all
+    → RefusesMore f c all in_memory ahead rest old fault
+refused_after {out = out} {size = size} one two fits = record {
+  refused = λ n start given h pixels enough. two.refused n start _ (one.read n start given h) pixels
+      (enough.0, omega (arith, enough.1, fits, length-append given (take size out), length-take-le size out one.within));
+}
+
+-- a step that is refused behind those bytes of an output that another gave
+pub refused_two : {f c : ℕ} {in_memory : Bool} {ahead middle rest : Option (List ℕ)} {old between : Unread} {front : List ℕ} {i : ℕ} {fault : Option Error} (more : List ℕ)
+    → GivesMore f c ahead middle old between front i → RefusesMore f c (length more) in_memory middle rest between fault
+    → length more ≡ length (mid_of i (length front - i) front)
+    → RefusesMore f c (length (put_mid i (length front - i) front more)) in_memory ahead rest old fault
+refused_two {front = front} {i = i} more one two same =
+    let room = mid_len i (length front) front (omega (arith, one.within)) in
+    refused_after one two (omega (arith, same_len_mid i (length front - i) front more same, same, room, one.within))
 
 -- a step into three channels of a file of four
 pub steps_in_three : (in_memory : Bool) (ahead rest : Option (List ℕ)) (old new : Unread) (out : List ℕ) (result : Result ℕ Refused) (k : Conversion)
@@ -85,11 +98,20 @@ steps_in_three in_memory ahead rest old new out result k three four h =
 pub faulted : (Why : Error → Type 0) {fault : Option Error} {e : Error} → fault ≡ Some e → Why e → MatchOption fault ⊥ Why
 faulted Why is why = rw is why
 
+-- pixels that are enough are those of an output, too
+enough_lent : {f c n m all : ℕ} {start ahead : Option (List ℕ)} {given : List ℕ} {p : Unread} {out : List ℕ} {at : ℕ} (size : ℕ) → IsChannels c
+    → (l : Lent f c n m start ahead given p out at) → length out ≤ size + 3072 → AreEnough c n (length given + size) all → length l.gone + m ≤ all
+enough_lent {n = n} {m} {all} {given = given} {out = out} size is l fits enough =
+    by_channels (λ k. k * (length l.gone + m) ≡ length given + length out → min (length given + size + 3072) (n * k) ≤ all * k → length l.gone + m ≤ all) is
+    (λ a b. omega (arith, a, b, fits, l.most)) (λ a b. omega (arith, a, b, fits, l.most)) l.ends enough.1
+
 -- chunks were refused for an output that was lent
-pub refuses_lent : {f c m at : ℕ} {in_memory : Bool} {ahead rest : Option (List ℕ)} {p : Unread} {out : List ℕ} {fault : Option Error} {e : Error}
-    → ((n : ℕ) (start : Option (List ℕ)) (given : List ℕ) → IsUnread f c n start ahead given p → Lent f c n m start ahead given p out at)
-    → RefusesFilling f c in_memory ahead rest (filling p.table (reached p.last at) out) e → fault ≡ Some e → RefusesMore f c in_memory ahead rest p fault
-refuses_lent lends why is = record { refused = λ n start given h. let l = lends n start given h in faulted _ is (why l.gone _ _ l.before n l.most) }
+pub refuses_lent : {f c m at size : ℕ} {in_memory : Bool} {ahead rest : Option (List ℕ)} {p : Unread} {out : List ℕ} {fault : Option Error} {e : Error}
+    → IsChannels c → length out ≤ size + 3072 → ((n : ℕ) (start : Option (List ℕ)) (given : List ℕ) → IsUnread f c n start ahead given p → Lent f c n m start ahead given p out at)
+    → RefusesFilling f c in_memory ahead rest (filling p.table (reached p.last at) out) e → fault ≡ Some e → RefusesMore f c size in_memory ahead rest p fault
+refuses_lent {size = size} channels fits lends why is = record {
+  refused = λ n start given h all enough. let l = lends n start given h in faulted _ is (why l.gone _ _ l.before all (enough_lent size channels l fits enough));
+}
 
 -- a step after one that gives none
 pub gives_after_none : {f c : ℕ} {ahead middle rest : Option (List ℕ)} {old between new : Unread} {out : List ℕ} {size : ℕ}

@@ -71,6 +71,14 @@ gone_count f c n m gone given undecoded is so_far all =
     → (undecoded ≡ k * m → length gone + m ≡ n) × (k * m ≤ undecoded → length gone + m ≤ n)) is
     (λ a b. (λ d. omega arith, λ d. omega arith)) (λ a b. (λ d. omega arith, λ d. omega arith)) size all
 
+-- and with those of an output as many as its bytes, too
+gone_bytes : (f c m : ℕ) (gone : Past) (given out : List ℕ) → IsChannels c → given ≡ output f c (reverse gone) → length out ≡ c * m
+    → c * (length gone + m) ≡ length given + length out
+gone_bytes f c m gone given out is so_far many =
+    let size : length given ≡ c * length gone = ap length so_far ∙ length-output f c (reverse gone) is ∙ ap (λ k. c * k) (length-reverse gone) in
+    by_channels (λ k. length given ≡ k * length gone → length out ≡ k * m → k * (length gone + m) ≡ length given + length out) is (λ a b. omega (arith, a, b))
+    (λ a b. omega (arith, a, b)) size many
+
 -- from the beginning on
 none_off : (n : ℕ) → n - 0 ≡ n
 none_off n = omega arith
@@ -97,6 +105,7 @@ pub record Lent (f c n m : ℕ) (start old : Option (List ℕ)) (given : List �
   pub before : DecoderBetween f c gone m start old (filling p.table (reached p.last at) out)
   pub so_far : given ≡ output f c (reverse gone)
   pub most : length gone + m ≤ n
+  pub ends : c * (length gone + m) ≡ length given + length out
 
 -- as many copies of the last pixel as are left of a run, at the front of an output
 begun : {f c : ℕ} {gone : Past} {start ahead : Option (List ℕ)} {table : List ℕ} {last : ℕ} (m run : ℕ) (out : List ℕ) → IsChannels c
@@ -134,6 +143,7 @@ run_lent {f} {c} {n} {start} {old} {given} p m out is h same some size fits whol
       before = begun m p.run out is stands size whole inside bytes;
       so_far = so_far;
       most = (gone_count f c n m gone given p.undecoded is so_far (omega (arith, same, h.size))).1 (subst (λ k. k ≤ p.undecoded) size fits);
+      ends = gone_bytes f c m gone given out is so_far size;
     }
 
 -- with no run

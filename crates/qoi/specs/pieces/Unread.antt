@@ -1,5 +1,5 @@
 -- What is unread of an image that is read piece by piece, and what is decoded in place.
-use Rattle.std.specs.Prelude.{◌≡◌, ℕ, ◌+◌, ◌-◌, ◌*◌, ◌%◌, ◌<◌, ◌≤◌, ◌/◌, List, ◌++◌, length, take, drop, reverse, replicate, Bool, false, Option, None, Result, MatchOption, MatchResult}
+use Rattle.std.specs.Prelude.{◌≡◌, ℕ, ◌+◌, ◌-◌, ◌*◌, ◌%◌, ◌<◌, ◌≤◌, ◌/◌, List, ◌++◌, length, min, take, drop, reverse, replicate, Bool, false, Option, None, Result, MatchOption, MatchResult}
 pub use Rattle.qoi.specs.declared.decode.pixel_reader.unread.Unread.{Unread}
 pub use Rattle.qoi.specs.declared.decode.pixel_reader.unread.Refused.{Refused}
 use Rattle.qoi.specs.Qoi.{Error, Header, Channels, Past, run_max, channels_number, IsValid}
@@ -65,10 +65,15 @@ pub record GivesMore (file_channels channels : ℕ) (ahead rest : Option (List �
   -- and the place for an error is as before
   pub fault : new.fault ≡ old.fault
 
--- A step was refused: the place for the error has one, and of each image it says why chunks are refused.
-pub record RefusesMore (file_channels channels : ℕ) (in_memory : Bool) (ahead rest : Option (List ℕ)) (old : Unread) (fault : Option Error) : Type 0 where
+-- of an image of n pixels the first `all` have so many raw bytes and 3,072 more, or are all there are
+abbrev pub AreEnough : ℕ → ℕ → ℕ → ℕ → Type 0
+AreEnough channels n bytes all = (all ≤ n) × (min (bytes + 3072) (n * channels) ≤ all * channels)
+
+-- A step that was to give `size` bytes was refused: the place for the error has one, and of each image it
+-- says why chunks are refused, also if the image had no more pixels than are enough.
+pub record RefusesMore (file_channels channels size : ℕ) (in_memory : Bool) (ahead rest : Option (List ℕ)) (old : Unread) (fault : Option Error) : Type 0 where
   pub refused : (n : ℕ) (start : Option (List ℕ)) (given : List ℕ) → IsUnread file_channels channels n start ahead given old
-      → MatchOption fault ⊥ (RefusesChunks in_memory n start rest)
+      → (all : ℕ) → AreEnough channels n (length given + size) all → MatchOption fault ⊥ (RefusesChunks in_memory all start rest)
 
 -- so many bytes may be asked of a step: none are kept, and as many are left
 pub record Asks (channels : ℕ) (p : Unread) (size : ℕ) : Type 0 where
@@ -79,7 +84,7 @@ pub record Asks (channels : ℕ) (p : Unread) (size : ℕ) : Type 0 where
 -- a step gave as many bytes as `size` says of what it returned, or was refused
 abbrev pub Steps : {T : Type 0} → ℕ → ℕ → Bool → Option (List ℕ) → Option (List ℕ) → Unread → Unread → List ℕ → (T → ℕ) → Result T Refused → Type 0
 Steps f c in_memory ahead rest old new out size result =
-    MatchResult result (λ given. GivesMore f c ahead rest old new out (size given)) (λ _. RefusesMore f c in_memory ahead rest old new.fault)
+    MatchResult result (λ given. GivesMore f c ahead rest old new out (size given)) (λ _. RefusesMore f c (length out) in_memory ahead rest old new.fault)
 
 -- chunks that stood ahead were taken, and the output has their bytes up to where it stopped, but for those of a run
 abbrev pub TakesInPlace : ℕ → ℕ → Option (List ℕ) → Option (List ℕ) → Filling → List ℕ → List ℕ → Reached → ℕ → Type 0

@@ -2,10 +2,11 @@
 ghost use Rattle.std.specs.Io.KnownBytes.{Keeps};
 ghost use Rattle.std.specs.Prelude.{◌*◌, ◌≡◌, ℕ, ◌+◌, ◌-◌, ◌<◌, ◌≤◌, List, [], ◌++◌, length, take, drop, min, Option, Some, Ok, true, false, IsTrue, IfSome, IfOk, IfErr, OnErr, IsErrOf};
 ghost use Rattle.qoi.specs.Decoded.{HasDecoded};
+ghost use Rattle.qoi.specs.Decoding.{RefusesBytes};
 ghost use Rattle.qoi.specs.DecoderState.{DecoderState, output_byte_count};
 ghost use Rattle.qoi.specs.Images.{front_image, front_rest};
 ghost use Rattle.qoi.specs.pieces.PixelReader.{PixelsState, as_decoder, pixels_left, HasGiven, HasRows, RefusesPixels, IsSpent};
-ghost use Rattle.qoi.specs.Qoi.{Error, channels_number};
+ghost use Rattle.qoi.specs.Qoi.{Error, channels_number, pixel_count};
 ghost use Rattle.qoi.specs.pieces.Unread.{bytes_left, IsRestOf, KeepsPixels, Asks, Steps};
 ghost use Rattle.qoi.specs.Reading.{StandsAhead, IsCutAhead, IsWrongAhead, SaysWhy};
 ghost use Rattle.qoi.specs.Rectangles.{row_bytes, rectangle};
@@ -227,6 +228,13 @@ impl<R: Reader> PixelReader<R> {
         ensures refused { (d : DecoderState R) (start : Option (List ℕ)) (given : List ℕ)
             → HasGiven d start (R.ahead self.old.reader) given self.old
             → IfErr result (RefusesPixels R.in_memory d start (R.ahead self.new.reader)) }
+        // In memory what is broken over 3,072 raw bytes behind the buffer isn't seen: the bytes are
+        // refused as an image of n pixels, too, if these go so far or are all.
+        ensures early { (d : DecoderState R) (bytes given : List ℕ) (n : ℕ)
+            → HasGiven d (Some bytes) (R.ahead self.old.reader) given self.old
+            → IsTrue R.in_memory → n ≤ pixel_count d.header
+            → min (length given + length buf.old + 3072) (output_byte_count d)
+            ≤ n * channels_number d.channels → IfErr result (RefusesBytes n bytes) }
         // In memory an image that stands whole isn't refused.
         ensures missing { (d : DecoderState R) (bytes given : List ℕ)
             → HasGiven d (Some bytes) (R.ahead self.old.reader) given self.old

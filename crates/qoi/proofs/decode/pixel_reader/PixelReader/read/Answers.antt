@@ -1,17 +1,20 @@
 -- A piece more is given, or the image is refused.
-use Rattle.std.proofs.Common.{◌≡◌, ◌++◌, List, ℕ, Bool, true, false, IsTrue, Option, Some, None, IfSome, MatchOption, take, drop, length, arith, refl, sym, ap, ◌∙◌, subst}
+use Rattle.std.proofs.Common.{◌≡◌, ◌++◌, List, ℕ, ◌+◌, ◌≤◌, Bool, true, false, IsTrue, Option, Some, None, IfSome, MatchOption, take, drop, length, arith, refl, sym, ap, ◌∙◌, subst}
 use Rattle.std.proofs.lemmas.List.{length-append, length-drop, length-take, length-take-le, drop_at, drop-take, take_all}
 use Rattle.std.proofs.Math.Nat.{mul-add}
 use lib.Seq.{take-append_seam}
 use Rattle.qoi.specs.Images.{front_image}
 use Rattle.qoi.specs.Qoi.{Error, Header, Channels, IsValid, channels_number, pixel_count}
+use Rattle.qoi.specs.Decoding.{RefusesBytes}
 use Rattle.qoi.specs.DecoderState.{DecoderState}
 use Rattle.qoi.specs.Reading.{StandsAhead}
 use Rattle.qoi.specs.pieces.PixelReader.{PixelsState, HasGiven, HasRows, RefusesPixels}
-use Rattle.qoi.specs.pieces.Unread.{KeepsPixels, IsUnread}
+use Rattle.qoi.specs.pieces.Unread.{KeepsPixels, IsUnread, AreEnough}
 use Rattle.qoi.specs.inner.Chunks.{RefusesChunks}
 use Rattle.qoi.proofs.format.RectangleLaws.{picture_row}
 use Rattle.qoi.proofs.decoding.PixelPieces.{byte_bounds, has_given, unread_of, refuses_pixels, rows_more, rows_next}
+use Rattle.qoi.proofs.decode.pixel_reader.PixelReader.read.Given.{Over}
+use Rattle.qoi.proofs.decode.pixel_reader.PixelReader.read.Goals.{After-refuse}
 use Rattle.qoi.proofs.decode.pixel_reader.PixelReader.read.Goals as goal
 
 -- what holds of the error in its place, holds of the one that is returned
@@ -106,18 +109,42 @@ pub returns-then-self-clause-refused : goal.returns-then-self-clause-refused
 unfolding HasGiven
 returns-then-self-clause-refused g c d start given h = let going = ap (λ s. s.refused) c.self.view_is ∙ h.going in absurd (cc)
 
-pub returns-in-Err-clause-refused : goal.returns-in-Err-clause-refused
+-- chunks of pixels that are enough were refused
+refused_as : (g : Over) (c : After-refuse g) (d : DecoderState _) (start : Option (List ℕ)) (given : List ℕ) → HasGiven d start (g.R.Reader.ahead c.args.self.now.reader) given c.args.self.now
+    → (all : ℕ) → AreEnough (channels_number d.channels) (pixel_count d.header) (length given + length c.next_piece.new.out) all
+    → RefusesChunks g.R.Reader.in_memory all start (g.R.Reader.ahead c.next_piece.new.self.reader) c.refuse.result
 unfolding HasGiven
-returns-in-Err-clause-refused g c d start given h =
+refused_as g c d start given h all enough =
     let header = ap (λ s. s.header) c.self.view_is ∙ h.header in
     let chosen = ap (λ s. s.channels) c.self.view_is ∙ h.channels in
     let ahead = ap (λ s. g.R.Reader.ahead s.reader) c.self.view_is in
     let unread = ap (λ s. s.unread) c.self.view_is in
-    let ahead_now = g.R.Reader.ahead c.next_piece.new.self.reader in
+    fault_is _ c.next_piece.new.unread.fault c.refuse.result c.refuse.ensures.error
+    (c.in-Err.ensures.step.refused _ start given (unread_of header chosen ahead unread h.unread) all
+    (subst (λ k. AreEnough (channels_number k) (pixel_count c.self.inside.decoder.header) (length given + length c.next_piece.new.out) all) (sym chosen)
+    (subst (λ (k : Header). AreEnough (channels_number d.channels) (pixel_count k) (length given + length c.next_piece.new.out) all) (sym header) enough)))
+
+pub returns-in-Err-clause-refused : goal.returns-in-Err-clause-refused
+returns-in-Err-clause-refused g c d start given h =
     refuses_pixels g.R.Reader.in_memory d start _ c.refuse.result
-    (subst (λ k. RefusesChunks g.R.Reader.in_memory (pixel_count k) start ahead_now c.refuse.result) header
-    (fault_is _ c.next_piece.new.unread.fault c.refuse.result c.refuse.ensures.error
-    (c.in-Err.ensures.step.refused _ start given (unread_of header chosen ahead unread h.unread))))
+    (refused_as g (goal.at.returns-in-Err-clause-refused g c).After-refuse d start given h (pixel_count d.header) (omega arith, omega arith))
+
+-- in memory the bytes say why
+in_bytes : (in_memory : Bool) (n : ℕ) (bytes : List ℕ) (new : Option (List ℕ)) (e : Error) → RefusesChunks in_memory n (Some bytes) new e → IsTrue in_memory
+    → RefusesBytes n bytes e
+in_bytes true n bytes new e why held = why
+in_bytes false n bytes new e why held = absurd (cc)
+
+pub returns-in-Err-clause-early : goal.returns-in-Err-clause-early
+returns-in-Err-clause-early g c d bytes given n h held fits enough =
+    let size : length c.next_piece.new.out ≤ length c.args.buf.now =
+    omega (arith, c.next_piece.auto.out, length-take c.min-size.result c.args.buf.now) in
+    in_bytes g.R.Reader.in_memory n bytes _ c.refuse.result
+    (refused_as g (goal.at.returns-in-Err-clause-early g c).After-refuse d (Some bytes) given h n (fits, omega (arith, enough, size))) held
+
+pub returns-then-self-clause-early : goal.returns-then-self-clause-early
+unfolding HasGiven
+returns-then-self-clause-early g c d bytes given n h held fits enough = let going = ap (λ s. s.refused) c.self.view_is ∙ h.going in absurd (cc)
 
 pub returns-in-Err-clause-missing : goal.returns-in-Err-clause-missing
 returns-in-Err-clause-missing g c d bytes given h held =

@@ -1,10 +1,10 @@
 -- What was lent is decoded, and at the end of the image the end marker is taken.
-use Rattle.std.proofs.Common.{refl, ◌≡◌, ℕ, ◌/◌, ◌%◌, ◌<◌, ◌≤◌, ◌-◌, List, take, drop, take-append-drop, length, Option, arith, ◌∙◌, subst}
-use Rattle.std.proofs.lemmas.List.{length-take-le}
+use Rattle.std.proofs.Common.{refl, ◌≡◌, ℕ, ◌+◌, ◌*◌, ◌/◌, ◌%◌, ◌<◌, ◌≤◌, ◌-◌, List, take, drop, take-append-drop, length, min, Option, arith, ◌∙◌, subst}
+use Rattle.std.proofs.lemmas.List.{length-take, length-take-le}
 use Rattle.qoi.specs.Raw.{IsChannels}
 use Rattle.qoi.specs.inner.Chunks.{RefusesChunks}
-use Rattle.qoi.specs.pieces.Unread.{Unread, KeepsNothing, IsUnread}
-use Rattle.qoi.proofs.format.WholePixels.{whole_pixels}
+use Rattle.qoi.specs.pieces.Unread.{Unread, KeepsNothing, IsUnread, AreEnough}
+use Rattle.qoi.proofs.format.WholePixels.{by_channels, whole_pixels}
 use Rattle.qoi.proofs.decoding.Progress.{none_written}
 use Rattle.qoi.proofs.decoding.GivenMore.{faulted, gives_none, refuses_lent}
 use Rattle.qoi.proofs.decoding.PieceSteps.{Lent, lent, kept_read, rest_count, rest_read, rest_whole, minus_whole}
@@ -25,9 +25,16 @@ rest_lent {c = c} p is h same size some short =
     let front = length-take-le p.undecoded p.bytes (omega (arith, size, short)) in
     lent (p.undecoded / c) (take p.undecoded p.bytes) is h same some (front ∙ rest_whole is h same.0 some) (omega (arith, front))
 
+-- of an image of which 3,072 bytes at most are left, only all pixels are enough
+all_enough : {f c n all : ℕ} {start old : Option (List ℕ)} {given : List ℕ} {p : Unread} → IsChannels c → IsUnread f c n start old given p → KeepsNothing p
+    → p.undecoded ≤ 3072 → AreEnough c n (length given + 0) all → n ≡ all
+all_enough {n = n} {all} {given = given} {p} is h same short enough =
+    by_channels (λ k. length given + p.undecoded ≡ k * n → min (length given + 0 + 3072) (n * k) ≤ all * k → n ≡ all) is
+    (λ a b. omega (arith, a, b, short, enough.0)) (λ a b. omega (arith, a, b, short, enough.0)) (omega (arith, h.size, same)) enough.1
+
 pub returns-in-Err-clause-step : goal.returns-in-Err-clause-step
 returns-in-Err-clause-step g c =
-    refuses_lent (λ n start given h. room_lent c.args.self.now c.args.room c.requires.channels h c.requires.none (omega (arith, c.requires.room.1)) c.requires.whole (omega (arith, c.if-self-gt-DECODED_AHEAD.true, c.requires.room.1)))
+    refuses_lent c.requires.channels (omega (arith, length-take c.args.room c.args.self.now.bytes, c.requires.room.1)) (λ n start given h. room_lent c.args.self.now c.args.room c.requires.channels h c.requires.none (omega (arith, c.requires.room.1)) c.requires.whole (omega (arith, c.if-self-gt-DECODED_AHEAD.true, c.requires.room.1)))
     c.in-Err.ensures.refused c.fail.ensures
 
 pub returns-then-self-gt-DECODED_AHEAD-clause-step : goal.returns-then-self-gt-DECODED_AHEAD-clause-step
@@ -51,11 +58,12 @@ returns-then-self-gt-DECODED_AHEAD-clause-step g c =
 
 pub returns-in-Err-rest-clause-step : goal.returns-in-Err-rest-clause-step
 returns-in-Err-rest-clause-step g c = record {
-  refused = λ n start given h.
+  refused = λ n start given h all enough.
       let l = rest_lent c.args.self.now c.requires.channels h c.requires.none (omega arith) c.requires.some (omega (arith, c.if-self-gt-DECODED_AHEAD.false)) in
       let count = rest_count c.requires.channels h c.requires.none l (rest_whole c.requires.channels h c.requires.none.0 c.requires.some) in
       faulted _ c.fail-in-Err-rest.ensures
-      (subst (λ k. RefusesChunks g.R.Chunks.in_memory k start (g.R.Chunks.ahead c.rest_of_image-rest.new.reader) c.in-Err-rest.e) count (c.in-Err-rest.ensures.refused l.gone _ _ l.before));
+      (subst (λ k. RefusesChunks g.R.Chunks.in_memory k start (g.R.Chunks.ahead c.rest_of_image-rest.new.reader) c.in-Err-rest.e)
+      (count ∙ all_enough c.requires.channels h c.requires.none (omega (arith, c.if-self-gt-DECODED_AHEAD.false)) enough) (c.in-Err-rest.ensures.refused l.gone _ _ l.before));
 }
 
 pub returns-clause-step : goal.returns-clause-step

@@ -1,13 +1,19 @@
 -- What was lent is decoded.
-use Rattle.std.proofs.Common.{◌≡◌, ◌*◌, ◌/◌, ◌≤◌, take, length, arith, rules, refl}
+use Rattle.std.proofs.Common.{◌≡◌, ℕ, ◌+◌, ◌*◌, ◌/◌, ◌≤◌, List, ◌++◌, take, drop, length, length-append, arith, rules, refl}
+use Rattle.qoi.specs.Raw.{IsChannels}
 use Rattle.qoi.specs.pieces.Unread.{KeepsNothing}
 use Rattle.qoi.proofs.decoding.GivenMore.{refuses_lent}
 use Rattle.qoi.proofs.decoding.PieceSteps.{front_lent, front_most, long_read, minus_whole}
 use Rattle.qoi.proofs.decode.pixel_reader.unread.Unread.long_piece.Goals as goal
 
+-- the output that is lent is no longer than the whole
+lent_within : (c : ℕ) (out new : List ℕ) → IsChannels c → length new ≡ length (take (length out / c * c) out)
+    → length (take (length out / c * c) out) ≤ length (new ++ drop (length out / c * c) out) + 3072
+lent_within c out new is same = omega (arith, length-append new (drop (length out / c * c) out), same)
+
 pub returns-in-Err-clause-step : goal.returns-in-Err-clause-step
 returns-in-Err-clause-step g c =
-    refuses_lent (λ n start given h. front_lent c.args.self.now c.args.out.now c.requires.channels h (c.requires.asks.none, c.requires.run) c.requires.asks.fits (omega (arith, c.if-out-lt-RUN_ROOM.false)))
+    refuses_lent c.requires.channels (lent_within g.row.N c.args.out.now c.some_chunks.new.out c.requires.channels c.some_chunks.auto.out) (λ n start given h. front_lent c.args.self.now c.args.out.now c.requires.channels h (c.requires.asks.none, c.requires.run) c.requires.asks.fits (omega (arith, c.if-out-lt-RUN_ROOM.false)))
     c.in-Err.ensures.refused c.fail.ensures
 
 pub returns-clause-step : goal.returns-clause-step

@@ -1,6 +1,6 @@
 -- What is left of a run is stored, and what was lent is decoded behind it; a run may have more bytes than
 -- have room behind that.
-use Rattle.std.proofs.Common.{arith}
+use Rattle.std.proofs.Common.{◌*◌, ◌/◌, length, drop, length-append, arith}
 use Rattle.qoi.proofs.decoding.GivenMore.{gives_placed, gives_two, refuses_lent}
 use Rattle.qoi.proofs.decoding.PieceSteps.{piece_lent}
 use Rattle.qoi.proofs.decode.pixel_reader.unread.Unread.piece_front.Goals as goal
@@ -10,7 +10,8 @@ returns-then-out-lt-IN_PLACE-clause-step g c = c.give_run.ensures.gives _
 
 pub returns-in-Err-clause-step : goal.returns-in-Err-clause-step
 returns-in-Err-clause-step g c =
-    refuses_lent (λ n start given h. piece_lent c.args.self.now c.args.out.now c.store_run.new.out c.requires.channels h c.requires.asks.none c.requires.asks.pixels (omega (arith, c.if-out-lt-IN_PLACE.false)) (omega (arith, c.if-out-lt-IN_PLACE.false)) c.store_run.auto.out c.store_run.ensures)
+    refuses_lent c.requires.channels (omega (arith, length-append c.chunks_in_place.new.out (drop (length c.args.out.now / g.row.N * g.row.N) c.store_run.new.out), c.chunks_in_place.auto.out))
+    (λ n start given h. piece_lent c.args.self.now c.args.out.now c.store_run.new.out c.requires.channels h c.requires.asks.none c.requires.asks.pixels (omega (arith, c.if-out-lt-IN_PLACE.false)) (omega (arith, c.if-out-lt-IN_PLACE.false)) c.store_run.auto.out c.store_run.ensures)
     c.in-Err.ensures.refused c.fail.ensures
 
 pub returns-then-now-out-clause-step : goal.returns-then-now-out-clause-step
