@@ -12,7 +12,6 @@ use crate::encode::block::planes::Planes;
 use crate::encode::block::{Block, write_block};
 use crate::encode::carry::{Carry, FRONT_CARRIED};
 use crate::encode::coder::{Coder, LastPixel, style_of};
-use crate::encode::pairs::{go_by_pairs, write_pairs};
 use crate::encode::piece::{OpenPiece, Piece, REPEATS_AT_ONCE};
 use crate::encode::pixels::{FrontBlock, MANY_BYTES, PixelOf, Pixels};
 use crate::encode::runs::repeats_of;
@@ -187,14 +186,12 @@ fn write_by_blocks<'a, 'p, const N: usize, const STYLE: u8, const ROOM: usize, c
     (piece, rest)
 }
 
-// Writes the repeats that wait, those at the front and the fresh pixel after them; and then pairs or,
-// if not `PAIRS`, blocks of few fresh pixels, as long as they come and the piece isn't full. Returns
-// the rest.
+// Writes the repeats that wait, those at the front and the fresh pixel after them; and then blocks of
+// few fresh pixels, as long as they come and the piece isn't full. Returns the rest.
 //
-// It isn't inlined, and pairs have a copy: in one function these loops and the one over blocks would be
-// slower.
+// It isn't inlined: in one function these loops and the one over blocks would be slower.
 #[inline(never)]
-fn write_apart<'a, 'p, const N: usize, const STYLE: u8, const ROOM: usize, const PAIRS: bool>(
+fn write_apart<'a, 'p, const N: usize, const STYLE: u8, const ROOM: usize>(
     last: &mut LastPixel,
     table: &mut PixelTable,
     piece: OpenPiece<'p, ROOM>,
@@ -208,18 +205,14 @@ fn write_apart<'a, 'p, const N: usize, const STYLE: u8, const ROOM: usize, const
     let mut piece = piece.piece;
     let mut coder = Coder::<N>::new(style_of::<STYLE>(), *last);
     let rest = coder.write_next(table, &mut piece, raw);
-    let rest = if PAIRS {
-        write_pairs::<N, STYLE, ROOM>(&mut coder, table, &mut piece, rest)
-    } else {
-        write_sparse::<N, STYLE, ROOM>(&mut coder, table, &mut piece, rest)
-    };
+    let rest = write_sparse::<N, STYLE, ROOM>(&mut coder, table, &mut piece, rest);
     *last = coder.last;
     (piece, rest)
 }
 
 /// Writes what is at the front: blocks, until the piece is full or fewer pixels than a block has are
-/// left; or repeats and the fresh pixel after them, and pairs or blocks of few fresh pixels that
-/// follow (`write_apart`). Returns the rest. Any pixels may follow. Which way is asked only here, so
+/// left; or repeats and the fresh pixel after them, and blocks of few fresh pixels that follow
+/// (`write_apart`). Returns the rest. Any pixels may follow. Which way is asked only here, so
 /// mostly once a piece.
 #[inline(always)]
 pub(super) fn write_some<'a, 'p, const N: usize, const STYLE: u8, const ROOM: usize>(
@@ -233,12 +226,9 @@ pub(super) fn write_some<'a, 'p, const N: usize, const STYLE: u8, const ROOM: us
     ensures { WritesSome (style_of STYLE) raw.entry table.old last.old piece.entry.piece
         result.1 table.new last.new result.0 }
 {
-    if go_by_pairs(last.px, raw) {
-        return write_apart::<N, STYLE, ROOM, true>(last, table, piece, raw);
-    }
     let few = go_by_sparse::<N>(PixelOf { px: last.px }, raw);
     if few || !goes_by_blocks(style_of::<STYLE>(), *last, raw) {
-        return write_apart::<N, STYLE, ROOM, false>(last, table, piece, raw);
+        return write_apart::<N, STYLE, ROOM>(last, table, piece, raw);
     }
     if begin_full(table, last.px, raw) {
         return write_by_blocks::<N, STYLE, ROOM, true>(last, table, piece, raw);

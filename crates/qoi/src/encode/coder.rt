@@ -153,10 +153,9 @@ impl<const N: usize> Coder<N> {
     }
 
     // Writes the fresh pixel `next`: by its index position if it stands there, else as
-    // `chunk_if_absent` has it. Then puts it at its position, and it is the last pixel. With `JUMP`
-    // which of them is a jump, which is faster if mostly the same one comes, else a choice of both.
+    // `chunk_if_absent` has it. Then puts it at its position, and it is the last pixel.
     #[inline(always)]
-    fn write_pixel<const ROOM: usize, const JUMP: bool>(
+    fn write_pixel<const ROOM: usize>(
         &mut self,
         table: &mut PixelTable,
         piece: &mut Piece<ROOM>,
@@ -188,16 +187,11 @@ impl<const N: usize> Coder<N> {
             },
             repeats: 0,
         };
-        if JUMP && stands {
-            // The position's byte, appended as that of a single repeat is.
-            piece.append_run(1, place);
-            return;
-        }
         let spelled = spell_pixel::<N>(before, px);
         let (number, size) = self.chunk_if_absent(table, px, spelled);
         table.put(place, px);
         let number = pick(stands, u32::from(place), number);
-        piece.append_chunk::<N, JUMP>(px.number(), number, pick(stands, 1, size));
+        piece.append_chunk::<N>(px.number(), number, pick(stands, 1, size));
     }
 
     // Writes the repeats that came before these pixels and those at their front, at most 992 in
@@ -244,19 +238,17 @@ impl<const N: usize> Coder<N> {
         ahead
     }
 
-    /// Writes the repeats that came before these pixels and the first `ahead`, which repeat, too, all
-    /// `count` of them as one run, and the fresh pixel after them. Returns the rest.
+    /// Writes the repeats that came before these pixels and the first `ahead`, which repeat, too, as
+    /// one run, and the fresh pixel after them. Returns the rest.
     #[inline(always)]
-    pub(super) fn write_short_group<'a, const ROOM: usize, const JUMP: bool>(
+    pub(super) fn write_short_group<'a, const ROOM: usize>(
         &mut self,
         table: &mut PixelTable,
         piece: &mut Piece<ROOM>,
         raw: Pixels<'a, N>,
         ahead: usize,
-        count: usize,
     ) -> Pixels<'a, N>
-        requires count { count ≡ self.old.last.repeats + ahead }
-        requires few { count < run_max }
+        requires few { self.old.last.repeats + ahead < run_max }
         requires inside { ahead < length (pixels_in raw) }
         requires repeat { take ahead (pixels_in raw) ≡ replicate ahead self.old.last.px }
         requires fresh { slice_get (pixels_in raw) ahead ≢ Some self.old.last.px }
@@ -269,10 +261,11 @@ impl<const N: usize> Coder<N> {
         ensures written { CoderPasses self.old table.old piece.old (pixels_in raw.entry)
             self.new table.new piece.new (pixels_in result) }
     {
+        let count = self.last.repeats + ahead;
         piece.append_run(count, self.single_repeat_byte(count));
         self.update_after_repeats(table, count, 0);
         let after = raw.skip(ahead);
-        self.write_pixel::<ROOM, JUMP>(table, piece, after.first());
+        self.write_pixel(table, piece, after.first());
         after.skip(1)
     }
 
@@ -302,7 +295,7 @@ impl<const N: usize> Coder<N> {
         if after.is_empty() || after.begin_with(self.last.px) {
             return after;
         }
-        self.write_pixel::<ROOM, false>(table, piece, after.first());
+        self.write_pixel(table, piece, after.first());
         after.skip(1)
     }
 

@@ -72,8 +72,7 @@ pub(super) fn write_marked<'a, const N: usize, const ROOM: usize>(
     while left != 0 {
         let zeros = left.trailing_zeros();
         let ahead = zeros as usize;
-        let repeats = coder.last.repeats + ahead;
-        rest = coder.write_short_group::<ROOM, false>(table, piece, rest, ahead, repeats);
+        rest = coder.write_short_group(table, piece, rest, ahead);
         count -= ahead + 1;
         left = (left >> zeros) / 2;
     }

@@ -1,5 +1,5 @@
 -- Fresh pixels, as bits: the lowest bit that is set is the first one.
-use Rattle.std.proofs.Common.{◌≡◌, ◌≢◌, ℕ, zero, suc, ◌+◌, ◌-◌, ◌*◌, ◌/◌, ◌%◌, ◌^◌, ◌<◌, ◌≤◌, Bool, true, false, not, cond, if◌then◌else◌, List, [], ◌∷◌, ◌++◌, length, length-drop, drop-drop, map, take, drop, replicate, Option, None, Some, refl, sym, ap, ◌∙◌, arith, take-append-drop}
+use Rattle.std.proofs.Common.{◌≡◌, ◌≢◌, ℕ, zero, suc, ◌+◌, ◌-◌, ◌*◌, ◌/◌, ◌%◌, ◌^◌, ◌<◌, ◌≤◌, Bool, true, false, not, cond, if◌then◌else◌, List, [], ◌∷◌, ◌++◌, length, drop-drop, map, take, drop, replicate, Option, None, Some, refl, sym, ap, ◌∙◌, arith, take-append-drop}
 use Rattle.std.proofs.lemmas.List.{length-take-le, take-take, drop-take}
 use Rattle.std.proofs.lemmas.Option.{same_Some}
 use Rattle.std.proofs.Math.Nat.{pow-suc, mul_comm, div-div-eq-div-mul}
@@ -146,23 +146,6 @@ marks_group q ps lanes bits enough few is some =
       later = λ p e. m.later ∙ ap (λ z. fresh_marks z (drop (suc n) (take lanes ps))) (same_Some _ _ (sym at ∙ e))
           ∙ ap (fresh_marks p) (ap (λ l. drop (suc n) (take l ps)) left ∙ drop-take (suc n) (lanes - (n + 1)) ps ∙ ap (λ k. take (lanes - (n + 1)) (drop k ps)) next);
     }
-
--- a repeat stands at the front, and then a fresh pixel
-pub record IsPair (q : RgbaPixel) (ps : List RgbaPixel) : Type 0 where
-  pub repeats : take 1 ps ≡ replicate 1 q
-  pub other : slice_get ps 1 ≢ Some q
-
--- the bits 1010 are those of two pairs
-pub two_pairs : (q : RgbaPixel) (ps : List RgbaPixel) → 4 ≤ length ps → fresh_marks q (take 4 ps) ≡ 10
-    → IsPair q ps × ((p : RgbaPixel) → slice_get ps 1 ≡ Some p → IsPair p (drop 2 ps))
-unfolding count_trailing_zeros
-two_pairs q ps enough is =
-    let one = marks_group q ps 4 10 enough (omega arith) (sym is) (omega arith) in (
-      record { repeats = one.repeats; other = one.other },
-      λ p at.
-          let two = marks_group p (drop 2 ps) 2 2 (omega (arith, enough, length-drop 2 ps)) (omega arith) (one.later p at) (omega arith) in
-          record { repeats = two.repeats; other = two.other },
-    )
 
 -- if no bit is set, the first `lanes` repeat
 pub none_group : (q : RgbaPixel) (ps : List RgbaPixel) (lanes : ℕ) → lanes ≤ length ps → 0 ≡ fresh_marks q (take lanes ps)

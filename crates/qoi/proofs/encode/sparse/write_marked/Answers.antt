@@ -18,7 +18,7 @@ write_short_group-rest-requires g c =
       | inl some ↦ omega (arith, i.few (group.first some), group.inside, i.lanes_few)
       | inr none ↦ omega (arith, none, c.loop-left.coder.last.few)
     ] in
-    (omega arith, (omega arith, (omega arith, (refl, (few, (omega (arith, group.inside, i.enough), (group.repeats, (group.other, omega (arith, i.room, group.inside, c.requires.room)))))))))
+    (omega arith, (omega arith, (omega arith, (few, (omega (arith, group.inside, i.enough), (group.repeats, (group.other, omega (arith, i.room, group.inside, c.requires.room))))))))
 
 pub overflow_sub-count : goal.overflow_sub-count
 overflow_sub-count g c =
