@@ -13,9 +13,9 @@ use crate::encode::block::{Block, write_block};
 use crate::encode::carry::{Carry, FRONT_CARRIED};
 use crate::encode::coder::{Coder, LastPixel, style_of};
 use crate::encode::piece::{OpenPiece, Piece, REPEATS_AT_ONCE};
-use crate::encode::pixels::{FrontBlock, MANY_BYTES, PixelOf, Pixels};
+use crate::encode::pixels::{FrontBlock, PixelOf, Pixels};
 use crate::encode::runs::repeats_of;
-use crate::encode::sparse::{go_by_sparse, goes_by_marks, write_marked, write_sparse};
+use crate::encode::sparse::{goes_by_marks, write_marked};
 use crate::encode::table::PixelTable;
 use crate::packed::Packed;
 use crate::types::Style::{self, Places, Reference, Tight};
@@ -46,6 +46,9 @@ fn goes_by_blocks<const N: usize>(style: Style, last: LastPixel, raw: Pixels<N>)
 fn is_rgba(table: &PixelTable, before: Packed, px: Packed) -> bool {
     px.a() != before.a() && !table.at(px.hash_index()).is_same(px)
 }
+
+// With fewer raw bytes, to ask whether they go by a loop of their own takes longer than it brings.
+const MANY_BYTES: usize = 1024;
 
 // Whether RGBA chunks give the first three pixels, and so may give most of those that follow, if these
 // are many.
@@ -186,10 +189,8 @@ fn write_by_blocks<'a, 'p, const N: usize, const STYLE: u8, const ROOM: usize, c
     (piece, rest)
 }
 
-// Writes the repeats that wait, those at the front and the fresh pixel after them; and then blocks of
-// few fresh pixels, as long as they come and the piece isn't full. Returns the rest.
-//
-// It isn't inlined: in one function these loops and the one over blocks would be slower.
+// Writes the repeats that wait, those at the front and the fresh pixel after them, by `write_next`.
+// Returns the rest. It isn't inlined: in one function with it the loop over blocks would be slower.
 #[inline(never)]
 fn write_apart<'a, 'p, const N: usize, const STYLE: u8, const ROOM: usize>(
     last: &mut LastPixel,
@@ -205,15 +206,13 @@ fn write_apart<'a, 'p, const N: usize, const STYLE: u8, const ROOM: usize>(
     let mut piece = piece.piece;
     let mut coder = Coder::<N>::new(style_of::<STYLE>(), *last);
     let rest = coder.write_next(table, &mut piece, raw);
-    let rest = write_sparse::<N, STYLE, ROOM>(&mut coder, table, &mut piece, rest);
     *last = coder.last;
     (piece, rest)
 }
 
 /// Writes what is at the front: blocks, until the piece is full or fewer pixels than a block has are
-/// left; or repeats and the fresh pixel after them, and blocks of few fresh pixels that follow
-/// (`write_apart`). Returns the rest. Any pixels may follow. Which way is asked only here, so
-/// mostly once a piece.
+/// left; or repeats and the fresh pixel after them (`write_apart`). Returns the rest. Any pixels may
+/// follow. Which way is asked only here, so mostly once a piece.
 #[inline(always)]
 pub(super) fn write_some<'a, 'p, const N: usize, const STYLE: u8, const ROOM: usize>(
     last: &mut LastPixel,
@@ -226,8 +225,7 @@ pub(super) fn write_some<'a, 'p, const N: usize, const STYLE: u8, const ROOM: us
     ensures { WritesSome (style_of STYLE) raw.entry table.old last.old piece.entry.piece
         result.1 table.new last.new result.0 }
 {
-    let few = go_by_sparse::<N>(PixelOf { px: last.px }, raw);
-    if few || !goes_by_blocks(style_of::<STYLE>(), *last, raw) {
+    if !goes_by_blocks(style_of::<STYLE>(), *last, raw) {
         return write_apart::<N, STYLE, ROOM>(last, table, piece, raw);
     }
     if begin_full(table, last.px, raw) {

@@ -6,9 +6,6 @@ use crate::encode::piece::REPEATS_AT_ONCE;
 use crate::packed::Packed;
 use crate::utils::skip;
 
-/// With fewer raw bytes, to ask whether they go by a loop of their own takes longer than it brings.
-pub(super) const MANY_BYTES: usize = 1024;
-
 /// Raw bytes of whole pixels, which have `N` bytes each.
 #[derive(Clone, Copy)]
 pub(super) struct Pixels<'a, const N: usize> {

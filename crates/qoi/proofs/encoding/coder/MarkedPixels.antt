@@ -1,5 +1,5 @@
 -- Fresh pixels, as bits: the lowest bit that is set is the first one.
-use Rattle.std.proofs.Common.{◌≡◌, ◌≢◌, ℕ, zero, suc, ◌+◌, ◌-◌, ◌*◌, ◌/◌, ◌%◌, ◌^◌, ◌<◌, ◌≤◌, Bool, true, false, not, cond, if◌then◌else◌, List, [], ◌∷◌, ◌++◌, length, drop-drop, map, take, drop, replicate, Option, None, Some, refl, sym, ap, ◌∙◌, arith, take-append-drop}
+use Rattle.std.proofs.Common.{◌≡◌, ◌≢◌, ℕ, zero, suc, ◌+◌, ◌-◌, ◌*◌, ◌/◌, ◌%◌, ◌^◌, ◌<◌, ◌≤◌, Bool, true, false, not, cond, if◌then◌else◌, List, [], ◌∷◌, ◌++◌, length, map, take, drop, replicate, Option, None, Some, refl, sym, ap, ◌∙◌, arith, take-append-drop}
 use Rattle.std.proofs.lemmas.List.{length-take-le, take-take, drop-take}
 use Rattle.std.proofs.lemmas.Option.{same_Some}
 use Rattle.std.proofs.Math.Nat.{pow-suc, mul_comm, div-div-eq-div-mul}
@@ -90,21 +90,10 @@ pub get_drop : (n : ℕ) (ps : List RgbaPixel) → slice_get (drop n ps) 0 ≡ s
 get_drop (suc n) (p ∷ ps) = get_drop n ps
 get_drop n ps = refl
 
-pub get_further : (n m : ℕ) (ps : List RgbaPixel) → slice_get (drop m ps) n ≡ slice_get ps (m + n)
-get_further n m ps = sym (get_drop n (drop m ps)) ∙ ap (λ z. slice_get z 0) (drop-drop n m ps) ∙ get_drop (m + n) ps
-
 -- the last of several copies
 last_copy : (n : ℕ) (q : RgbaPixel) (rest : List RgbaPixel) → slice_get (replicate (suc n) q ++ rest) n ≡ Some q
 last_copy zero q rest = refl
 last_copy (suc n) q rest = last_copy n q rest
-
--- The last of sixteen pixels, of which so many are left that repeat q, is q.
-pub last_of_block : (q : RgbaPixel) (ps : List RgbaPixel) (left : ℕ) → left < 16 → slice_get ps (15 - left) ≡ Some q
-    → drop (16 - left) ps ≡ replicate left q ++ drop left (drop (16 - left) ps) → slice_get ps 15 ≡ Some q
-last_of_block q ps zero few is repeats = is
-last_of_block q ps (suc n) few is repeats =
-    let at : (16 - suc n) + n ≡ 15 = omega (arith, few) in
-    ap (slice_get ps) (sym at) ∙ sym (get_further n (16 - suc n) ps) ∙ ap (λ z. slice_get z n) repeats ∙ last_copy n q _
 
 -- what stands among the first m
 get_take : (n m : ℕ) (ps : List RgbaPixel) → n < m → slice_get (take m ps) n ≡ slice_get ps n
