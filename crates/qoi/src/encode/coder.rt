@@ -5,7 +5,7 @@ ghost use Rattle.qoi.specs.Qoi.{Chunk, RgbaPixel, Past, run_max, chunk_max, mark
 ghost use Rattle.qoi.specs.Raw.{IsChannels, IsChannels-prop};
 ghost use Rattle.qoi.specs.Runs.{runs_by};
 ghost use Rattle.qoi.specs.Written.{IsFirst};
-ghost use Rattle.qoi.specs.Styles.{Style, choice_in, style_of};
+ghost use Rattle.qoi.specs.Styles.{Style, choice_in, style_in};
 ghost use Rattle.qoi.specs.inner.Table.{Holds};
 
 use crate::consts::{QOI_OP_RUN, QOI_RUN_MAX};
@@ -18,15 +18,13 @@ use crate::packed::Packed;
 use crate::types::Style::{self, Places, Reference, Tight};
 use crate::utils::pick;
 
-/// The style of a number. It is a constant for the compiler, so each number has loops of its own.
+/// The style of a loop, by its number: `Reference`, if that is 0, which is then a constant for the
+/// compiler, or the one that the loop is told.
 #[inline(always)]
-pub(super) fn style_of<const STYLE: u8>() -> Style
-    ensures { result ≡ style_of STYLE }
+pub(super) fn style_in<const STYLE: u8>(told: Style) -> Style
+    ensures { result ≡ style_in STYLE told }
 {
-    if STYLE == 0 {
-        return Reference;
-    }
-    if STYLE == 1 { Places } else { Tight }
+    if STYLE == 0 { Reference } else { told }
 }
 
 /// The last pixel that was written or repeated, `px`; `repeats`, how many repeats of it came that
@@ -63,8 +61,7 @@ impl LastPixel {
 }
 
 /// Writes pixels of `N` channels one by one, in this style and after this last one. The table is
-/// passed beside it, so that these few stay in registers. Where loops are called, the style is that
-/// of a number (`style_of`), which no register holds.
+/// passed beside it, so that these few stay in registers.
 #[derive(Drop)]
 pub(super) struct Coder<const N: usize> {
     pub(super) last: LastPixel,
