@@ -72,6 +72,11 @@ def entries(top=TOP, root=ROOM / "port"):
     return library / "out/libqoi_bench.a"
 
 
+def size_of(library):
+    """How many bytes of code and constants a static library has."""
+    return int(run("size", "-t", library).splitlines()[-1].split()[0])
+
+
 def before():
     """The same of the commit that BEFORE names. Its calls are named before_.. and not port_.."""
     root = ROOM / "before"

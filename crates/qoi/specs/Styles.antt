@@ -7,9 +7,9 @@ use Rattle.qoi.specs.Qoi.{Chunk, Place, Run, RgbaPixel, Past, previous, hash, th
 use Rattle.qoi.specs.Written.{fresh, IsChoice, WrittenBy}
 use Rattle.qoi.specs.Tight.{IsTightChoice}
 
--- the style of a number, by which a coder's loops are told apart
-abbrev pub style_of : ℕ → Style
-style_of n = if n == 0 then Reference else (if n == 1 then Places else Tight)
+-- the style of a coder's loop, by its number: Reference, or the one that it is told
+abbrev pub style_in : ℕ → Style → Style
+style_in n told = if n == 0 then Reference else told
 
 -- the chunk is a run
 abbrev pub is_run : Chunk → Bool

@@ -19,7 +19,6 @@ mod in_place;
 mod one_chunk;
 mod output;
 mod pixel_reader;
-mod plain_rows;
 mod reached;
 mod reader;
 mod slice;

@@ -15,7 +15,6 @@ mod carry;
 mod chunks;
 mod coder;
 pub(crate) mod fresh;
-mod pairs;
 pub(crate) mod piece;
 mod pixel_writer;
 mod pixels;

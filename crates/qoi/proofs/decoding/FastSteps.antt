@@ -1,5 +1,5 @@
 -- A chunk more, while there is room ahead.
-use Rattle.std.proofs.Common.{◌≡◌, ◌⊎◌, ℕ, Option, Some, None, take-append-drop, ◌+◌, ◌-◌, ◌*◌, ◌/◌, ◌%◌, ◌<◌, ◌≤◌, inl, inr, List, ◌++◌, length, take, drop, get_or, Bool, true, false, cond, nat_eq, nat_le, arith, refl, sym, ap, ◌∙◌, subst, ◌∷◌, append_assoc}
+use Rattle.std.proofs.Common.{◌≡◌, ℕ, Option, Some, None, take-append-drop, ◌+◌, ◌-◌, ◌*◌, ◌/◌, ◌%◌, ◌<◌, ◌≤◌, inl, inr, List, ◌++◌, length, take, drop, get_or, Bool, true, false, cond, nat_eq, arith, refl, sym, ap, ◌∙◌, subst, ◌∷◌, append_assoc}
 use Rattle.std.proofs.lemmas.Bool.{cases_lt}
 use Rattle.std.proofs.lemmas.Bool.Decides.{nat_tests}
 use Rattle.std.proofs.lemmas.List.{get_or-drop, get_or-take, length-take-le, length-drop, drop-drop, drop-append-le}
@@ -7,7 +7,7 @@ use Rattle.std.specs.Io.KnownBytes.{Consumes}
 use mir.Val.{bool_byte}
 use Rattle.qoi.specs.Qoi.{Past, AreBytes, chunk_bytes}
 use Rattle.qoi.specs.Raw.{IsChannels}
-use Rattle.qoi.specs.inner.Filling.{Progress, reached, filling, taken_further, HasCopies, HasFilled, HasAhead, DecodesChunk, DecoderBetween, FastStep, FastChunks, IsAdvance, IsPlainTag}
+use Rattle.qoi.specs.inner.Filling.{Progress, reached, filling, taken_further, HasCopies, HasFilled, HasAhead, DecodesChunk, DecoderBetween, FastStep, FastChunks, IsAdvance}
 use Rattle.qoi.specs.inner.Hashed.{pixel_of_lanes, HoldsSeen, IsAfterShort, IsAfterFull}
 use Rattle.qoi.proofs.format.WholePixels.{by_channels, take_whole}
 use Rattle.qoi.proofs.decoding.FilledBuffer.{filled_copies, block_fits}
@@ -59,23 +59,6 @@ one_more false size s = omega (arith, s)
 -- an RGBA chunk has one byte more
 pub full_size : (b size : ℕ) → b < 256 → size ≡ bool_byte (nat_eq b 255) → (b < 255 → size ≡ 0) × (255 ≤ b → size ≡ 1)
 full_size b size low is = (λ less. grind (arith, nat_tests), λ more. grind (arith, nat_tests))
-
--- how many bytes a plain chunk has
-pub plain_count : (b full rgba : ℕ) → full ≡ bool_byte (nat_le 254 b) → rgba ≡ bool_byte (nat_eq b 255) → (b < 254 → 1 + 3 * full + rgba ≡ 1) × (b ≡ 254 → 1 + 3 * full + rgba ≡ 4)
-    × (b ≡ 255 → 1 + 3 * full + rgba ≡ 5) × (full ≤ 1) × (rgba ≤ 1)
-plain_count b full rgba is last = (λ low. grind (arith, nat_tests), λ rgb. grind (arith, nat_tests), λ more. grind (arith, nat_tests), grind (arith, nat_tests), grind (arith, nat_tests))
-
--- a byte below an RGB chunk's isn't an RGBA chunk's
-pub below_rgb : (b : ℕ) → nat_le 254 b ≡ false → nat_eq b 255 ≡ false
-below_rgb b low = grind (arith, nat_tests)
-
--- the byte after it is picked of three
-pub plain_next : (full rgba : Bool) (at f r : ℕ) (bytes : List ℕ) → f ≡ bool_byte full → r ≡ bool_byte rgba → (full ≡ false → rgba ≡ false)
-    → cond full (cond rgba (get_or bytes (at + 5) 0) (get_or bytes (at + 4) 0)) (get_or bytes (at + 1) 0) ≡ get_or bytes (at + (1 + 3 * f + r)) 0
-plain_next true true at f r bytes is last all = let k : at + 5 ≡ at + (1 + 3 * f + r) = omega (arith, is, last) in ap (λ k. get_or bytes k 0) k
-plain_next true false at f r bytes is last all = let k : at + 4 ≡ at + (1 + 3 * f + r) = omega (arith, is, last) in ap (λ k. get_or bytes k 0) k
-plain_next false true at f r bytes is last all = let no : true ≡ false = all refl in cc
-plain_next false false at f r bytes is last all = let k : at + 1 ≡ at + (1 + 3 * f + r) = omega (arith, is, last) in ap (λ k. get_or bytes k 0) k
 
 -- A chunk's pixel was put into the table and is stored, as often as is asked for and a vector holds;
 -- its first byte is at hand, and so is the byte after the chunk.
@@ -230,15 +213,3 @@ step_at_first {N} {F} {i} {k} {l} {n} {r} {t} {bytes} {table} {table'} {out} {ou
     let to : (m : ℕ) → Progress N F = λ m. record { last = p.last; taken = m; at = p.at; next = p.next } in
     let same : p.taken + 0 ≡ p.taken = omega arith in
     step_within (subst (λ m. FastStep i l r bytes (to m) table out new table' out') same step) least most room
-
--- a plain chunk that isn't a full one is no luma, and a vector holds its pixels
-pub plain_short : (c b : ℕ) → IsPlainTag c b → b < 254 → (b ≤ 191 + 16 / c) × ((b < 128) ⊎ (192 ≤ b))
-plain_short c b is low = elim is [
-  | inl early ↦ (omega (arith, early), inl early)
-  | inr other ↦ elim other [ inl run ↦ (run.1, inr run.0) | inr full ↦ absurd (omega (arith, full, low)) ]
-]
-
--- it has no second byte
-pub plain_size : (b : ℕ) → (b < 128) ⊎ (192 ≤ b) → HasSize b 1
-plain_size b other =
-    record { one = λ l. refl; luma = λ l h. absurd (elim other [ inl early ↦ omega (arith, l, early) | inr run ↦ omega (arith, h, run) ]); run = λ l. refl }

@@ -2,7 +2,6 @@
 pub mod BlockStep
 pub mod BlockWritten
 pub mod FourFours
-pub mod FreshWords
 pub mod FullBlock
 pub mod LaneBytes
 pub mod LastCount

@@ -1,8 +1,7 @@
 -- What the decoders' tables say of bytes, entry by entry.
-use Rattle.std.proofs.Common.{◌≡◌, ℕ, ◌+◌, ◌-◌, ◌*◌, ◌/◌, ◌%◌, ◌<◌, ◌≤◌, ◌&&◌, ◌||◌, Bool, true, IsTrue, cond, not, take, drop, get_or, eqb, nat_le, nat_lt, arith, refl}
+use Rattle.std.proofs.Common.{◌≡◌, ℕ, ◌+◌, ◌-◌, ◌*◌, ◌/◌, ◌%◌, ◌<◌, ◌≤◌, ◌&&◌, true, cond, take, drop, get_or, eqb, nat_le, nat_lt, arith, refl}
 use Rattle.std.proofs.lemmas.Bool.Decides.{nat_tests}
-use mir.Val.{bool_byte}
-use Rattle.qoi.specs.inner.Filling.{IsAdvance, IsPlainTag}
+use Rattle.qoi.specs.inner.Filling.{IsAdvance}
 use Rattle.qoi.specs.inner.Hashed.{step, IsAdded}
 use Rattle.qoi.specs.declared.decode.deltas.TheConstants.{ADDED, BYTE_TABLES}
 use Rattle.qoi.proofs.format.Entries.{pass, value_at}
@@ -21,7 +20,7 @@ others_add b byte = record {
 
 -- an entry of the table that begins there
 pub byte_value : (value : ℕ → ℕ) (begin from n b : ℕ) → pass (λ b x. eqb x (value b)) from (take n (drop (begin + from) BYTE_TABLES)) ≡ true
-    → from ≤ b → b < from + n → begin + from + n ≤ 2048 → get_or BYTE_TABLES (begin + b) 0 ≡ value b
+    → from ≤ b → b < from + n → begin + from + n ≤ 1280 → get_or BYTE_TABLES (begin + b) 0 ≡ value b
 byte_value value begin from n b all low high within = value_at BYTE_TABLES value begin from n b (begin + b) refl all low high within
 
 -- how many pixels a chunk has, by its first byte
@@ -32,11 +31,3 @@ count_by b = cond (nat_le 192 b && nat_lt b 254) (b - 191) 1
 pub advance_is : (c b x : ℕ) → x ≡ c * count_by b → IsAdvance c b x
 advance_is c b x e =
     record { once = λ less. grind (arith, nat_tests); run = λ low high. grind (arith, nat_tests); full = λ more. grind (arith, nat_tests) }
-
--- whether a chunk is plain, by its first byte
-abbrev pub plain_by : ℕ → ℕ → Bool
-plain_by c b = nat_lt b 128 || (nat_le 192 b && nat_le b (191 + 16 / c)) || nat_le 254 b
-
--- so an entry says that isn't zero
-pub plain_is : (c b x : ℕ) → x ≡ bool_byte (plain_by c b) → (IsTrue (not (eqb x 0)) → IsPlainTag c b) × (IsPlainTag c b → IsTrue (not (eqb x 0)))
-plain_is c b x e = (λ tested. grind (arith, nat_tests), λ plain. grind (arith, nat_tests))

@@ -2,10 +2,9 @@
 use Rattle.std.proofs.Common.{◌≡◌, ℕ, ◌+◌, ◌-◌, ◌*◌, ◌/◌, ◌%◌, ◌^◌, ◌<◌, ◌≤◌, ◌⊎◌, inl, inr, List, arith, refl, sym, subst, ap, ◌∙◌}
 use Rattle.std.specs.Int.Bits.{bit_and, and_zero_r}
 use Rattle.std.proofs.lemmas.Bool.{cases_lt}
-use Rattle.std.proofs.lemmas.Grind.{and_high_numeral}
 use Rattle.std.proofs.lemmas.Nat.{and_block, and_mask}
 use Rattle.qoi.specs.Qoi.{RgbaPixel, Past, pixel, blank, hash, moved, seen, after_diff, after_luma}
-use Rattle.qoi.specs.inner.Hashed.{pixel_of_lanes, IsHashed, IsPlain, IsAdded, IsAfterShort, HoldsSeen, step}
+use Rattle.qoi.specs.inner.Hashed.{pixel_of_lanes, IsHashed, IsAdded, IsAfterShort, HoldsSeen, step}
 use Rattle.qoi.specs.declared.decode.deltas.TheConstants.{KEEP}
 use Rattle.qoi.proofs.format.SamePixels.{same_pixel}
 
@@ -99,38 +98,6 @@ unfolding hash
 after_rgba s keep w is_keep hashed =
     let kept : bit_and s keep ≡ 0 = ap (λ m. bit_and s m) is_keep ∙ and_zero_r s in
     omega (arith, kept, hashed)
-
--- the mask leaves the index position alone
-top_alone : (s : ℕ) → s < 2 ^ 64 → bit_and s 0xff00000000000000 ≡ s / 2 ^ 56 * 2 ^ 56
-top_alone s l = omega (arith, and_high_numeral s 0xfeffffffffffffff refl l)
-
--- the index position, which the product has, is added to the lanes
-pub placed_lanes : (l mask : ℕ) → IsPlain l → mask ≡ 0xff00000000000000 → IsNumberOf ((l + bit_and (l * 0x0c0014001c002c00 % 2 ^ 64) mask) % 2 ^ 64) (pixel_of_lanes l)
-unfolding hash
-placed_lanes l mask plain is =
-    let place = l * 0x0c0014001c002c00 % 2 ^ 64 / 2 ^ 56 in
-    let top : bit_and (l * 0x0c0014001c002c00 % 2 ^ 64) mask ≡ place * 2 ^ 56 = ap (λ m. bit_and (l * 0x0c0014001c002c00 % 2 ^ 64) m) is ∙ top_alone (l * 0x0c0014001c002c00 % 2 ^ 64) (omega arith) in
-    let sum : (l + bit_and (l * 0x0c0014001c002c00 % 2 ^ 64) mask) % 2 ^ 64 ≡ l + place * 2 ^ 56 = omega (arith, top, plain) in
-    let px : pixel_of_lanes ((l + bit_and (l * 0x0c0014001c002c00 % 2 ^ 64) mask) % 2 ^ 64) ≡ pixel_of_lanes l = same_pixel _ _ (omega (arith, sum)) (omega (arith, sum)) (omega (arith, sum)) (omega (arith, sum, plain)) in
-    record {
-      pixel_is = px;
-      is_hashed = omega (arith, sum, plain) ∙ ap (λ p. 4 * hash p) (sym px);
-    }
-
--- three of four lanes, and alpha of the last pixel
-pub lanes_with_alpha : (s four kept read : ℕ) → IsPlain four → kept ≡ 0xff000000000000 → read ≡ 2 ^ 48 - 1
-    → (bit_and s kept + bit_and four read) % 2 ^ 64 ≡ four % 2 ^ 48 + s / 2 ^ 48 % 2 ^ 8 * 2 ^ 48
-lanes_with_alpha s four kept read plain is_kept is_read =
-    let alpha : bit_and s kept ≡ s / 2 ^ 48 % 2 ^ 8 * 2 ^ 48 = ap (λ m. bit_and s m) is_kept ∙ alpha_alone s in
-    let lanes : bit_and four read ≡ four % 2 ^ 48 = ap (λ m. bit_and four m) is_read ∙ and_mask four 48 in
-    omega (arith, alpha, lanes)
-
--- all four lanes, and nothing of the last pixel
-pub lanes_alone : (s four kept read : ℕ) → four < 2 ^ 64 → kept ≡ 0 → read ≡ 2 ^ 64 - 1 → (bit_and s kept + bit_and four read) % 2 ^ 64 ≡ four
-lanes_alone s four kept read l is_kept is_read =
-    let none : bit_and s kept ≡ 0 = ap (λ m. bit_and s m) is_kept ∙ and_zero_r s in
-    let lanes : bit_and four read ≡ four % 2 ^ 64 = ap (λ m. bit_and four m) is_read ∙ and_mask four 64 in
-    omega (arith, none, lanes, l)
 
 -- the index position of a moved pixel
 hash_moved : (p : RgbaPixel) (r g b k : ℕ) → k % 64 ≡ (3 * r + 5 * g + 7 * b) % 64 → hash (moved p r g b) ≡ (hash p + k) % 64

@@ -27,10 +27,6 @@ put_again p past is i = go (eqb (hash p) i) refl
     go true e = sym is ∙ ap (seen past) (eqb-true (hash p) i e)
     go false e = refl
 
--- so the table holds it
-pub holds_again : (table : List RgbaPixel) (p : RgbaPixel) (past : Past) → seen past (hash p) ≡ p → Holds table past → Holds table (p ∷ past)
-holds_again table p past is h i l = h i l ∙ ap Some (sym (put_again p past is i))
-
 -- the decoder's numbers after a pixel, put once, are those after some copies of it
 pub holds_seen_copies : (numbers : List ℕ) (p : RgbaPixel) (past : Past) (n : ℕ) → 0 < n → HoldsSeen numbers (p ∷ past)
     → HoldsSeen numbers (replicate n p ++ past)

@@ -1,7 +1,7 @@
 -- A coder between two steps: the pixels that it reads, the bytes that it keeps, its table and its
 -- last pixel, by what is still to be written of an image's list; what a step does to that; and the
 -- chunk of a fresh pixel as a number.
-use Rattle.std.specs.Prelude.{◌≡◌, ◌<◌, ℕ, Bool, not, ◌&&◌, ◌||◌, nat_lt, if◌then◌else◌, List, [], ◌∷◌, ◌++◌, length, take, Option, Some}
+use Rattle.std.specs.Prelude.{◌≡◌, ◌%◌, ◌<◌, ℕ, Bool, not, ◌&&◌, ◌||◌, nat_lt, if◌then◌else◌, List, [], ◌∷◌, ◌++◌, length, take, Option, Some}
 use Rattle.std.specs.List.{AllByRecursion}
 pub use Rattle.qoi.specs.declared.encode.coder.Coder.{Coder}
 pub use Rattle.qoi.specs.declared.encode.coder.LastPixel.{LastPixel}
@@ -85,8 +85,9 @@ pub record CoderEnds {N size : ℕ} (c : Coder N) (table : List RgbaPixel) (piec
 
 -- From the pixels, table, last pixel and piece to these some pixels are written, whatever others follow.
 pub record WritesSome {N ROOM : ℕ} (style : Style) (raw : Pixels N) (table : List RgbaPixel) (last : LastPixel) (piece : Piece ROOM)
-    (raw' : Pixels N) (table' : List RgbaPixel) (last' : LastPixel) (piece' : Piece ROOM) : Type 0 where
+    (rest : List ℕ) (table' : List RgbaPixel) (last' : LastPixel) (piece' : Piece ROOM) : Type 0 where
   pub opaque : N ≡ 3 → last'.px.a ≡ 255
-  pub less : length (pixels_in raw') < length (pixels_in raw)
+  pub whole : length rest % N ≡ 0
+  pub less : length (pixels_of N rest) < length (pixels_in raw)
   pub on : (ahead : List ℕ) (more : List RgbaPixel) → CoderBetween style ahead (pixels_in raw ++ more) table last (kept_bytes piece)
-      → CoderBetween style ahead (pixels_in raw' ++ more) table' last' (kept_bytes piece')
+      → CoderBetween style ahead (pixels_of N rest ++ more) table' last' (kept_bytes piece')

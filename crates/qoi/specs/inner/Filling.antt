@@ -1,11 +1,11 @@
 -- A buffer that is filled with pixels, and the state of a decoder between two chunks.
-use Rattle.std.specs.Prelude.{◌≡◌, ℕ, ◌-◌, ◌*◌, ◌/◌, ◌%◌, ◌+◌, ◌<◌, ◌≤◌, List, [], ◌++◌, length, take, reverse, replicate, min, slice_index, ◌⊎◌, Bool, IsTrue, Option, Some, drop}
+use Rattle.std.specs.Prelude.{◌≡◌, ℕ, ◌-◌, ◌*◌, ◌%◌, ◌+◌, ◌<◌, ◌≤◌, List, [], ◌++◌, length, take, reverse, replicate, min, slice_index, ◌⊎◌, Bool, IsTrue, Option, Some, drop}
 use Rattle.std.specs.Io.KnownBytes.{Consumes}
 pub use Rattle.qoi.specs.declared.decode.fast.Progress.{Progress}
 pub use Rattle.qoi.specs.declared.decode.fast.TheConstants.{INPUT_ROOM, OUTPUT_ROOM}
 pub use Rattle.qoi.specs.declared.decode.output.TheConstants.{RUN_ROOM}
 pub use Rattle.qoi.specs.declared.decode.reached.Reached.{Reached}
-use Rattle.qoi.specs.Qoi.{Chunk, RgbaPixel, Past, luma_tag, run_tag, rgb_tag, rgba_tag, IsChunk, AreChunks, bytes_of, chunk_bytes, times, then_chunk, then_chunks, StayBelow}
+use Rattle.qoi.specs.Qoi.{Chunk, RgbaPixel, Past, run_tag, rgb_tag, rgba_tag, IsChunk, AreChunks, bytes_of, chunk_bytes, times, then_chunk, then_chunks, StayBelow}
 use Rattle.qoi.specs.inner.Hashed.{pixel_of_lanes, HasSeen}
 use Rattle.qoi.specs.Raw.{IsChannels, output}
 
@@ -120,10 +120,6 @@ pub record CanLoop {N F : ℕ} (row input : ℕ) (bytes out : List ℕ) (now : P
 -- the first byte of an RGB or of an RGBA chunk
 abbrev pub IsFullTag : ℕ → Type 0
 IsFullTag b = (b ≡ rgb_tag) ⊎ (b ≡ rgba_tag)
-
--- the first byte of a chunk that is no luma, and no run that a vector of sixteen bytes doesn't hold
-abbrev pub IsPlainTag : ℕ → ℕ → Type 0
-IsPlainTag channels b = (b < luma_tag) ⊎ ((run_tag ≤ b) × (b ≤ run_tag - 1 + 16 / channels)) ⊎ (rgb_tag ≤ b)
 
 -- how many bytes the pixels of a chunk have, by its first byte
 pub record IsAdvance (channels b size : ℕ) : Type 0 where

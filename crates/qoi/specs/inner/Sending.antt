@@ -46,15 +46,12 @@ pub record CoderGoes (p : Pending) (kept raw : List ℕ) (p' : Pending) (kept' r
 abbrev pub GoesByPixels : Pending → List ℕ → Type 0
 GoesByPixels p raw = EndsOpaque p × (length raw % pixel_size p ≡ 0)
 
--- Whole pixels went into the piece, until it was full or fewer than a block has were left: the piece, and
--- those.
+-- some whole pixels went into the piece: the piece, and the raw bytes that are left
 pub record FillsPiece {size : ℕ} (p : Pending) (piece : OpenPiece size) (raw : List ℕ) (p' : Pending) (result : Piece size × Bor (List ℕ)) : Type 0 where
   pub stays : StaysIn p p'
   pub goes : CoderGoes p (kept_bytes piece.piece) raw p' (kept_bytes result.0) result.1.now
   pub whole : GoesByPixels p' result.1.now
-  pub less : 16 * pixel_size p ≤ length raw → length result.1.now < length raw
-  pub same : length raw < 16 * pixel_size p → result.0 ≡ piece.piece
-  pub until : (length result.1.now < 16 * pixel_size p') ⊎ (size ≤ result.0.end + SPARE)
+  pub less : length result.1.now < length raw
 
 module _ {W : Type 0} (wrote : W → List ℕ → W → Type 0) (a : W) (p : Pending) (kept raw : List ℕ) where
   -- From one state to another, whatever raw bytes follow: of the bytes that were ahead the first ones

@@ -1,7 +1,7 @@
 //! Chunks in memory while input and output have room ahead, from any pixel on: in blocks, after
-//! each of which a row of RGB or of RGBA chunks is looked for (`full_rows`), then one of plain
-//! chunks (`plain_rows`): so these cost the fast loop no test a chunk. Such a row is chunks one after
-//! the other, not a row of the image; `ROW` is for how many short ones room is tested at once.
+//! each of which a row of RGB or of RGBA chunks is looked for (`full_rows`): so it costs the fast
+//! loop no test a chunk. Such a row is chunks one after the other, not a row of the image; `ROW` is
+//! for how many short ones room is tested at once.
 ghost use Rattle.std.specs.Prelude.{◌≡◌, ◌⊎◌, ◌+◌, ◌*◌, ◌<◌, ◌≤◌, length, drop, Some, true};
 
 use crate::decode::fast::{FEW, INPUT_ROOM, OUTPUT_ROOM, Progress};
@@ -16,19 +16,15 @@ const BLOCK: usize = 2048;
 // After a row of more bytes than `LONG_ROW` another one may soon follow, and a block has fewer.
 const LONG_ROW: usize = 32;
 
-// After a row of plain chunks of more bytes than this a block has fewer, too. A row of RGBA chunks
-// and short ones by turns ends after so many bytes.
-const LONG_PLAIN_ROW: usize = 144;
-
 const SHORT_BLOCK: usize = 8;
 
 impl<const N: usize, const F: usize> Progress<N, F> {
     ghost use Rattle.qoi.specs.inner.Filling.{INPUT_ROOM, IsFillable, filling, CanLoop, FastChunks};
     ghost use Rattle.qoi.specs.inner.Chunks.{TakesMore};
 
-    // `chunks_ahead` from a state of the loop: in blocks, and in rows of full chunks or of plain ones,
-    // if `ROW` is 8, else by `chunks_until`. States are copied `by_fields`: a load of sixteen bytes
-    // would wait until the two numbers in them, just stored, are in the cache.
+    // `chunks_ahead` from a state of the loop: in blocks, and in rows of full chunks, if `ROW` is 8,
+    // else by `chunks_until`. States are copied `by_fields`: a load of sixteen bytes would wait until
+    // the two numbers in them, just stored, are in the cache.
     #[inline(always)]
     fn blocks_of_chunks<const ROW: usize>(
         self,
@@ -51,14 +47,8 @@ impl<const N: usize, const F: usize> Progress<N, F> {
             if block.taken <= near || far < block.taken {
                 return block.by_fields();
             }
-            let full = block.full_row(table, bytes, out);
-            let least = if full.taken > block.taken {
-                LONG_ROW
-            } else {
-                LONG_PLAIN_ROW
-            };
-            now = full.plain_row(table, bytes, out).by_fields();
-            let is_long = least < now.taken - block.taken;
+            now = block.full_row(table, bytes, out).by_fields();
+            let is_long = LONG_ROW < now.taken - block.taken;
             near = far.min(now.taken + if is_long { SHORT_BLOCK } else { BLOCK });
         }
         now.by_fields()

@@ -1,9 +1,9 @@
 //! What the bytes of a chunk do to the last pixel, and how many bytes its pixels have, by tables:
 //! so a loop has no jump between kinds of chunks.
-ghost use Rattle.std.specs.Prelude.{◌≡◌, ◌↔◌, IsTrue, ℕ, ◌-◌, ◌*◌, ◌/◌, ◌%◌, ◌^◌, ◌<◌, ◌≤◌, nat_le, nat_lt, ◌&&◌, length, slice_index};
+ghost use Rattle.std.specs.Prelude.{◌≡◌, ℕ, ◌-◌, ◌*◌, ◌/◌, ◌%◌, ◌^◌, ◌<◌, ◌≤◌, nat_le, nat_lt, ◌&&◌, length, slice_index};
 ghost use Rattle.qoi.specs.Qoi.{diff_tag, luma_tag, run_tag, rgb_tag, rgba_tag};
 ghost use Rattle.qoi.specs.Raw.{IsChannels};
-ghost use Rattle.qoi.specs.inner.Filling.{IsAdvance, IsPlainTag};
+ghost use Rattle.qoi.specs.inner.Filling.{IsAdvance};
 ghost use Rattle.qoi.specs.inner.Hashed.{step, IsAdded};
 ghost use Rattle.qoi.specs.declared.decode.deltas.TheConstants.{KEEP};
 
@@ -71,14 +71,7 @@ macro_rules! count {
     };
 }
 
-// 1 if a chunk is plain in so many channels, 0 if it is a luma or a run that a vector doesn't hold.
-macro_rules! plain {
-    ($b:literal, $channels:literal) => {
-        if $b < 128 || (192 <= $b && $b <= 191 + 16 / $channels) || 254 <= $b { 1 } else { 0 }
-    };
-}
-
-// Eight tables, one after the other: one array needs one address in a loop.
+// Five tables, one after the other: one array needs one address in a loop.
 macro_rules! byte_tables {
     ($($b:literal)*) => {
         [
@@ -91,16 +84,11 @@ macro_rules! byte_tables {
             // How many bytes the chunk's pixels have in three channels, and in four.
             $(3 * count!($b),)*
             $(4 * count!($b),)*
-            // What counts of the product with four lanes: the index position of a full chunk.
-            $(if $b < 254 { 0 } else { 0xff << 56 },)*
-            // Whether the chunk is plain, in three channels, and in four.
-            $(plain!($b, 3),)*
-            $(plain!($b, 4),)*
         ]
     };
 }
 
-static BYTE_TABLES: [u64; 2048] = of_all_bytes!(byte_tables);
+static BYTE_TABLES: [u64; 1280] = of_all_bytes!(byte_tables);
 
 /// Whether a chunk with this first byte is a luma.
 #[inline(always)]
@@ -165,16 +153,6 @@ pub(super) fn read_by(b1: usize) -> u64
     BYTE_TABLES[512 + b1]
 }
 
-/// What counts of the product that has the index position of a chunk's lanes.
-#[inline(always)]
-pub(super) fn placed_by(b1: usize) -> u64
-    requires { b1 < 256 }
-    ensures none { b1 < rgb_tag → result ≡ 0 }
-    ensures full { rgb_tag ≤ b1 → result ≡ 0xff * 2 ^ 56 }
-{
-    BYTE_TABLES[1280 + b1]
-}
-
 /// How many bytes the pixels of a chunk have in `N` channels.
 #[inline(always)]
 pub(super) fn advance<const N: usize>(b1: usize) -> usize
@@ -186,19 +164,5 @@ pub(super) fn advance<const N: usize>(b1: usize) -> usize
         BYTE_TABLES[768 + b1] as usize
     } else {
         BYTE_TABLES[1024 + b1] as usize
-    }
-}
-
-/// Whether a chunk with this first byte is plain: no luma, and no run that a vector of sixteen bytes
-/// doesn't hold.
-#[inline(always)]
-pub(super) fn is_plain<const N: usize>(b1: u8) -> bool
-    requires { IsChannels N }
-    ensures { IsTrue result ↔ IsPlainTag N b1 }
-{
-    if N == 3 {
-        BYTE_TABLES[1536 + b1 as usize] != 0
-    } else {
-        BYTE_TABLES[1792 + b1 as usize] != 0
     }
 }

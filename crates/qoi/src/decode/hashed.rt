@@ -1,10 +1,10 @@
 //! Pixels as single numbers that hold their index positions too.
-ghost use Rattle.std.specs.Prelude.{◌≡◌, ◌⊎◌, ℕ, ◌<◌, ◌≤◌, length, take, slice_index, replicate};
-ghost use Rattle.qoi.specs.Qoi.{pixel, start, hash, positions, luma_tag, run_tag, rgb_tag};
+ghost use Rattle.std.specs.Prelude.{◌≡◌, ℕ, ◌<◌, ◌≤◌, length, take, slice_index, replicate};
+ghost use Rattle.qoi.specs.Qoi.{pixel, start, hash, positions, rgb_tag};
 ghost use Rattle.qoi.specs.Raw.{IsChannels, output};
 ghost use Rattle.qoi.specs.inner.Hashed.{pixel_of_lanes, IsPlain, IsHashed, IsAfterShort, IsAfterFull};
 
-use crate::decode::deltas::{kept_by, placed_by, read_by, second_added};
+use crate::decode::deltas::{kept_by, read_by, second_added};
 use crate::decode::table::SizedTerms;
 use std::marker::Model;
 use std::simd::{Simd, u8x4, u8x16, u16x4, u64x2};
@@ -112,27 +112,6 @@ impl Hashed {
         let own = (self.0 & kept_by(b1)).wrapping_mul(ALPHA_FACTOR);
         let read = Hashed::of_lanes(four_lanes(&bytes[1..5]) & read_by(b1));
         Hashed(own.wrapping_add(read.0))
-    }
-
-    /// The pixel after the chunk that the bytes begin with, whose first byte is `b1`, if it isn't a
-    /// luma: `after_short` and `after_full` in one, without a jump.
-    #[inline(always)]
-    pub(super) fn after_plain<const SIZE: usize>(
-        self,
-        table: &SizedTerms<SIZE>,
-        b1: usize,
-        bytes: &[u8],
-    ) -> Hashed
-        requires long { (b1 < 256) × (5 ≤ length bytes.now) }
-        requires other { (b1 < luma_tag) ⊎ (run_tag ≤ b1) }
-        ensures short { (e : ℕ) → b1 < rgb_tag
-            → IsAfterShort b1 e table.now (pixel_of_lanes self) (pixel_of_lanes result) }
-        ensures full { IsAfterFull b1 bytes.now (pixel_of_lanes self) (pixel_of_lanes result) }
-    {
-        let read = four_lanes(&bytes[1..5]) & read_by(b1);
-        let lanes = (self.0 & kept_by(b1)).wrapping_add(read);
-        let place = lanes.wrapping_mul(LANES_FACTOR) & placed_by(b1);
-        Hashed(lanes.wrapping_add(place).wrapping_add(table.at(b1)))
     }
 
     /// The first sixteen bytes of the pixel when it is written again and again in `N` channels, of

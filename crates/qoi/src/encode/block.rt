@@ -5,7 +5,7 @@ ghost use Rattle.std.specs.Prelude.{◌≡◌, ℕ, Bool, false, ◌+◌, ◌-�
 ghost use Rattle.qoi.specs.Qoi.{RgbaPixel, Past};
 ghost use Rattle.qoi.specs.Raw.{IsChannels, AreOpaque};
 ghost use Rattle.qoi.specs.inner.block.Lanes.{fresh_marks, mask, State, lanes_of, NoneBlank};
-ghost use Rattle.qoi.specs.Styles.{Places, Tight, style_of};
+ghost use Rattle.qoi.specs.Styles.{Places, Tight, style_in};
 ghost use Rattle.qoi.specs.inner.BlockLoop.{InBlocks};
 ghost use Rattle.qoi.specs.inner.Coder.{pixels_in, kept_bytes};
 ghost use Rattle.qoi.specs.inner.Table.{Holds};
@@ -31,7 +31,7 @@ use crate::encode::block::spelling::{Spelled, are_full, spell_block, spell_full}
 use crate::encode::block::steps::{Changes, find_changes};
 use crate::encode::block::storing::store_sixteen;
 use crate::encode::carry::Carry;
-use crate::encode::coder::style_of;
+use crate::encode::coder::style_in;
 use crate::encode::piece::{OpenPiece, Piece};
 use crate::encode::pixels::FrontBlock;
 use crate::encode::table::PixelTable;
@@ -39,12 +39,14 @@ use crate::packed::Packed;
 use crate::types::Style::{self, Places, Reference, Tight};
 use std::simd::prelude::*;
 
-/// Sixteen pixels, packed and in planes, and the changes from the pixels before them.
+/// Sixteen pixels, packed and in planes, the changes from the pixels before them, and the style that
+/// the loop is told.
 #[derive(Clone, Copy)]
 pub(super) struct Block {
     pub(super) words: Words,
     pub(super) planes: Planes,
     pub(super) changes: Changes,
+    pub(super) style: Style,
     ghost packed: { ArePacked words },
     ghost planes_are: { ArePlanes (block_pixels words) planes },
 }
@@ -57,6 +59,7 @@ impl Block {
             result.changes }
         ensures pixels { block_pixels result.words ≡ take 16 (pixels_in front.entry.raw) }
         ensures opaque { N ≡ 3 → AreOpaque (block_pixels result.words) }
+        ensures style { result.style ≡ front.entry.style }
     {
         let words = first_sixteen::<N>(front.raw.bytes);
         let planes = make_planes::<N>(words);
@@ -64,6 +67,7 @@ impl Block {
             words,
             planes,
             changes: find_changes::<N>(carry.before, planes),
+            style: front.style,
         }
     }
 
@@ -123,15 +127,15 @@ impl Block {
         ensures { (s : State)
             → AreChanges (lanes_of s.held s.last (block_pixels self.words)) self.changes
             → s.carry ≡ carry.entry.count
-            → (style_of STYLE ≡ Places → s.placed ≡ carry.entry.placed)
+            → (style_in STYLE self.style ≡ Places → s.placed ≡ carry.entry.placed)
             → IsBlock s (block_pixels self.words) self.planes.r stands places
-            → HasSpelled (style_of STYLE) s (block_pixels self.words) result }
+            → HasSpelled (style_in STYLE self.style) s (block_pixels self.words) result }
     {
         if FULL && are_full(self.changes.steps.a, stands) {
             return spell_full(self.changes.rep, self.planes.r);
         }
         let x = spell_block(self.changes, self.planes.r, stands, places, carry.count);
-        match style_of::<STYLE>() {
+        match style_in::<STYLE>(self.style) {
             Reference | Tight => x,
             Places => name_single(x, stands, places, carry.placed),
         }
@@ -178,13 +182,14 @@ pub(super) fn write_block<'p, const N: usize, const STYLE: u8, const ROOM: usize
 ) -> (Carry<N>, Piece<'p, ROOM>)
     requires { N ≡ 3 → AreOpaque (block_pixels block.words) }
     ensures { (ahead : List ℕ) (n : ℕ) (rest more : List RgbaPixel)
-        → FitsBlock (style_of STYLE) table.old carry.entry.before (block_pixels block.words)
-        block.changes
-        → InBlocks (style_of STYLE) ahead n (block_pixels block.words ++ rest) more
+        → FitsBlock (style_in STYLE block.style) table.old
+        carry.entry.before (block_pixels block.words) block.changes
+        → InBlocks (style_in STYLE block.style) ahead n (block_pixels block.words ++ rest) more
         table.old carry.entry (kept_bytes piece.entry.piece)
-        → InBlocks (style_of STYLE) ahead n rest more table.new result.0 (kept_bytes result.1) }
+        → InBlocks (style_in STYLE block.style) ahead n rest more
+        table.new result.0 (kept_bytes result.1) }
 {
-    let style = style_of::<STYLE>();
+    let style = style_in::<STYLE>(block.style);
     let Piece { bytes, end } = piece.piece;
     let places = index_positions(block.planes);
     store_places::<ROOM, FULL>(places, bytes);

@@ -1,8 +1,8 @@
 //! Writes what is at the front of an image's pixels into a piece: blocks of sixteen, and between
 //! two of them repeats are carried (QOI specification 1.0, "Data" and "Chunks").
-ghost use Rattle.std.specs.Prelude.{◌≡◌, ◌≢◌, ℕ, ◌<◌, ◌≤◌, true, List, [], Some, length, slice_get, IsTrue};
+ghost use Rattle.std.specs.Prelude.{◌≡◌, ℕ, ◌<◌, ◌≤◌, true, List, Some, length, slice_get, IsTrue};
 ghost use Rattle.qoi.specs.Qoi.{RgbaPixel};
-ghost use Rattle.qoi.specs.Styles.{Style, style_of};
+ghost use Rattle.qoi.specs.Styles.{Style, style_in};
 ghost use Rattle.qoi.specs.inner.BlockLoop.{GoesByBlocks, IsCarried, WritesBlocks};
 ghost use Rattle.qoi.specs.inner.block.Planes.{last_pixel};
 ghost use Rattle.qoi.specs.inner.Coder.{pixels_in, WritesSome};
@@ -11,20 +11,19 @@ use crate::consts::QOI_RUN_MAX;
 use crate::encode::block::planes::Planes;
 use crate::encode::block::{Block, write_block};
 use crate::encode::carry::{Carry, FRONT_CARRIED};
-use crate::encode::coder::{Coder, LastPixel, style_of};
-use crate::encode::pairs::{go_by_pairs, write_pairs};
+use crate::encode::coder::{Coder, LastPixel, style_in};
 use crate::encode::piece::{OpenPiece, Piece, REPEATS_AT_ONCE};
-use crate::encode::pixels::{FrontBlock, MANY_BYTES, PixelOf, Pixels};
+use crate::encode::pixels::{FrontBlock, PixelOf, Pixels};
 use crate::encode::runs::repeats_of;
-use crate::encode::sparse::{go_by_sparse, goes_by_marks, write_marked, write_sparse};
+use crate::encode::sparse::{goes_by_marks, write_marked};
 use crate::encode::table::PixelTable;
 use crate::packed::Packed;
 use crate::types::Style::{self, Places, Reference, Tight};
 
-// Whether the front goes by blocks: once a fresh pixel came or, except in style `Tight`, if no repeats
-// wait and the next pixel is fresh; but not if over `FRONT_CARRIED` repeats wait and another follows.
+/// Whether the front goes by blocks: once a fresh pixel came or, except in style `Tight`, if no repeats
+/// wait and the next pixel is fresh; but not if over `FRONT_CARRIED` repeats wait and another follows.
 #[inline(always)]
-fn goes_by_blocks<const N: usize>(style: Style, last: LastPixel, raw: Pixels<N>) -> bool
+pub(super) fn goes_by_blocks<const N: usize>(style: Style, last: LastPixel, raw: Pixels<N>) -> bool
     requires some { 16 ≤ length (pixels_in raw) }
     requires opaque { N ≡ 3 → last.px.a ≡ 255 }
     ensures { IsTrue result
@@ -48,10 +47,13 @@ fn is_rgba(table: &PixelTable, before: Packed, px: Packed) -> bool {
     px.a() != before.a() && !table.at(px.hash_index()).is_same(px)
 }
 
-// Whether RGBA chunks give the first three pixels, and so may give most of those that follow, if these
-// are many.
+// With fewer raw bytes, to ask whether they go by a loop of their own takes longer than it brings.
+const MANY_BYTES: usize = 1024;
+
+/// Whether RGBA chunks give the first three pixels, and so may give most of those that follow, if these
+/// are many.
 #[inline(always)]
-fn begin_full<const N: usize>(table: &PixelTable, last: Packed, raw: Pixels<N>) -> bool
+pub(super) fn begin_full<const N: usize>(table: &PixelTable, last: Packed, raw: Pixels<N>) -> bool
     requires { 3 ≤ length (pixels_in raw) }
 {
     if N == 3 || raw.bytes.len() < MANY_BYTES {
@@ -77,8 +79,8 @@ fn carried<const N: usize>(coder: &Coder<N>) -> Carry<N>
 
 // The coder after a fresh pixel and the repeats that are carried.
 #[inline(always)]
-fn coder_after<const N: usize, const STYLE: u8>(carry: Carry<N>) -> Coder<N>
-    ensures style { result.style ≡ style_of STYLE }
+fn coder_after<const N: usize>(style: Style, carry: Carry<N>) -> Coder<N>
+    ensures style { result.style ≡ style }
     ensures begun { result.last.begun ≡ true }
     ensures carried { IsCarried result.last carry.entry }
 {
@@ -88,7 +90,7 @@ fn coder_after<const N: usize, const STYLE: u8>(carry: Carry<N>) -> Coder<N>
         placed: carry.placed,
         repeats: usize::from(carry.count),
     };
-    Coder::new(style_of::<STYLE>(), last)
+    Coder::new(style, last)
 }
 
 // Writes the full runs of the carried repeats and those at the front; the others are carried.
@@ -127,10 +129,11 @@ fn write_front<'a, 'p, const N: usize, const STYLE: u8, const ROOM: usize, const
     front: FrontBlock<'a, N>,
     carry: Carry<N>,
 ) -> (Pixels<'a, N>, Carry<N>, Piece<'p, ROOM>)
-    ensures { WritesBlocks (style_of STYLE) (length (pixels_in front.entry.whole))
+    ensures { WritesBlocks (style_in STYLE front.entry.style) (length (pixels_in front.entry.whole))
         front.entry.raw table.old carry.entry piece.entry.piece
         result.0 table.new result.1 result.2 }
 {
+    let style = style_in::<STYLE>(front.style);
     let block = Block::first::<N>(front, carry);
     let marks = block.marks();
     if marks == 0 {
@@ -138,13 +141,13 @@ fn write_front<'a, 'p, const N: usize, const STYLE: u8, const ROOM: usize, const
     }
     if goes_by_marks(marks, front, carry) {
         let mut piece = piece.piece;
-        let mut coder = coder_after::<N, STYLE>(carry);
+        let mut coder = coder_after::<N>(style, carry);
         let rest = write_marked(&mut coder, table, &mut piece, front, marks);
         return (rest, carried(&coder), piece);
     }
-    if block.may_miss_blank(style_of::<STYLE>(), table) {
+    if block.may_miss_blank(style, table) {
         let mut piece = piece.piece;
-        let mut coder = coder_after::<N, STYLE>(carry);
+        let mut coder = coder_after::<N>(style, carry);
         let rest = coder.write_next(table, &mut piece, front.raw);
         return (rest, carried(&coder), piece);
     }
@@ -152,96 +155,67 @@ fn write_front<'a, 'p, const N: usize, const STYLE: u8, const ROOM: usize, const
     (front.raw.skip(16), after, piece)
 }
 
-// Writes by blocks until the piece is full or fewer pixels than a block has are left, whatever pixels
-// come meanwhile. Returns the rest.
-//
-// Each style has a loop of its own, and another if `FULL`: where an RGBA chunk is expected to give
-// each pixel (`begin_full`). The piece is a value, so that the compiler keeps its fields in registers.
-// It isn't inlined: where both loops, with `FULL` and without, are one function, they are slower.
+/// Writes by blocks until the piece is full or fewer pixels than a block has are left, whatever pixels
+/// come meanwhile. Returns the piece, and the rest.
+///
+/// `Reference` has a loop of its own, and another if `FULL`: where an RGBA chunk is expected to give each
+/// pixel (`begin_full`). The other styles share one, which is told the style. The piece is a value, so
+/// that the compiler keeps its fields in registers. It isn't inlined: where both loops, with `FULL` and
+/// without, are one function, they are slower.
 #[inline(never)]
-fn write_by_blocks<'a, 'p, const N: usize, const STYLE: u8, const ROOM: usize, const FULL: bool>(
+pub(super) fn write_by_blocks<
+    'a,
+    'p,
+    const N: usize,
+    const STYLE: u8,
+    const ROOM: usize,
+    const FULL: bool,
+>(
     last: &mut LastPixel,
     table: &mut PixelTable,
     piece: OpenPiece<'p, ROOM>,
-    raw: Pixels<'a, N>,
-) -> (Piece<'p, ROOM>, Pixels<'a, N>)
-    requires some { 16 ≤ length (pixels_in raw) }
+    front: FrontBlock<'a, N>,
+) -> (Piece<'p, ROOM>, &'a [u8])
     requires opaque { N ≡ 3 → last.old.px.a ≡ 255 }
-    requires goes { GoesByBlocks (style_of STYLE) last.old
-        (length (pixels_in raw)) (pixels_in raw) }
-    ensures { WritesSome (style_of STYLE) raw.entry table.old last.old piece.entry.piece
-        result.1 table.new last.new result.0 }
+    requires goes { GoesByBlocks (style_in STYLE front.style) last.old
+        (length (pixels_in front.raw)) (pixels_in front.raw) }
+    ensures { WritesSome (style_in STYLE front.entry.style) front.entry.raw
+        table.old last.old piece.entry.piece result.1.now table.new last.new result.0 }
 {
-    let mut carry = carried(&Coder::<N>::new(style_of::<STYLE>(), *last));
+    let style = style_in::<STYLE>(front.style);
+    let raw = front.raw;
+    let mut carry = carried(&Coder::<N>::new(style, *last));
     let mut piece = piece.piece;
     let mut rest = raw;
     while !piece.is_full() && rest.has_block() {
         (rest, carry, piece) = write_front::<N, STYLE, ROOM, FULL>(
             table,
             piece.open(),
-            rest.front_of(raw),
+            rest.front_of(raw, front.style),
             carry,
         );
     }
-    *last = coder_after::<N, STYLE>(carry).last;
-    (piece, rest)
+    *last = coder_after::<N>(style, carry).last;
+    (piece, rest.bytes)
 }
 
-// Writes the repeats that wait, those at the front and the fresh pixel after them; and then pairs or,
-// if not `PAIRS`, blocks of few fresh pixels, as long as they come and the piece isn't full. Returns
-// the rest.
-//
-// It isn't inlined, and pairs have a copy: in one function these loops and the one over blocks would be
-// slower.
+/// Writes the repeats that wait, those at the front and the fresh pixel after them, by `write_next`.
+/// Returns the piece, and the rest. It isn't inlined: in one function with it the loop over blocks would
+/// be slower.
 #[inline(never)]
-fn write_apart<'a, 'p, const N: usize, const STYLE: u8, const ROOM: usize, const PAIRS: bool>(
+pub(super) fn write_apart<'a, 'p, const N: usize, const ROOM: usize>(
     last: &mut LastPixel,
     table: &mut PixelTable,
     piece: OpenPiece<'p, ROOM>,
-    raw: Pixels<'a, N>,
-) -> (Piece<'p, ROOM>, Pixels<'a, N>)
-    requires some { pixels_in raw ≢ [] }
-    requires opaque { N ≡ 3 → last.old.px.a ≡ 255 }
-    ensures { WritesSome (style_of STYLE) raw.entry table.old last.old piece.entry.piece
-        result.1 table.new last.new result.0 }
+    front: FrontBlock<'a, N>,
+) -> (Piece<'p, ROOM>, &'a [u8])
+    requires { N ≡ 3 → last.old.px.a ≡ 255 }
+    ensures { WritesSome front.entry.style front.entry.raw
+        table.old last.old piece.entry.piece result.1.now table.new last.new result.0 }
 {
     let mut piece = piece.piece;
-    let mut coder = Coder::<N>::new(style_of::<STYLE>(), *last);
-    let rest = coder.write_next(table, &mut piece, raw);
-    let rest = if PAIRS {
-        write_pairs::<N, STYLE, ROOM>(&mut coder, table, &mut piece, rest)
-    } else {
-        write_sparse::<N, STYLE, ROOM>(&mut coder, table, &mut piece, rest)
-    };
+    let mut coder = Coder::<N>::new(front.style, *last);
+    let rest = coder.write_next(table, &mut piece, front.raw);
     *last = coder.last;
-    (piece, rest)
-}
-
-/// Writes what is at the front: blocks, until the piece is full or fewer pixels than a block has are
-/// left; or repeats and the fresh pixel after them, and pairs or blocks of few fresh pixels that
-/// follow (`write_apart`). Returns the rest. Any pixels may follow. Which way is asked only here, so
-/// mostly once a piece.
-#[inline(always)]
-pub(super) fn write_some<'a, 'p, const N: usize, const STYLE: u8, const ROOM: usize>(
-    last: &mut LastPixel,
-    table: &mut PixelTable,
-    piece: OpenPiece<'p, ROOM>,
-    raw: Pixels<'a, N>,
-) -> (Piece<'p, ROOM>, Pixels<'a, N>)
-    requires some { 16 ≤ length (pixels_in raw) }
-    requires opaque { N ≡ 3 → last.old.px.a ≡ 255 }
-    ensures { WritesSome (style_of STYLE) raw.entry table.old last.old piece.entry.piece
-        result.1 table.new last.new result.0 }
-{
-    if go_by_pairs(last.px, raw) {
-        return write_apart::<N, STYLE, ROOM, true>(last, table, piece, raw);
-    }
-    let few = go_by_sparse::<N>(PixelOf { px: last.px }, raw);
-    if few || !goes_by_blocks(style_of::<STYLE>(), *last, raw) {
-        return write_apart::<N, STYLE, ROOM, false>(last, table, piece, raw);
-    }
-    if begin_full(table, last.px, raw) {
-        return write_by_blocks::<N, STYLE, ROOM, true>(last, table, piece, raw);
-    }
-    write_by_blocks::<N, STYLE, ROOM, false>(last, table, piece, raw)
+    (piece, rest.bytes)
 }

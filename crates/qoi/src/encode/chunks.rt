@@ -3,14 +3,13 @@
 ghost use Rattle.std.specs.Prelude.{◌≡◌, ℕ, ◌-◌, ◌*◌, ◌%◌, ◌<◌, ◌≤◌, List, length};
 ghost use Rattle.qoi.specs.Encoded.{max_file_len};
 ghost use Rattle.qoi.specs.inner.Sending.{IsNew, pixel_size, StaysIn, Between, GoesByPixels, FillsPiece, IsReady, WritesWhole, WritesImage};
-ghost use Rattle.qoi.specs.Styles.{style_of};
 ghost use Rattle.qoi.specs.inner.Coder.{kept_bytes, CoderEnds, SPARE, FULL_ROOM};
 ghost use Rattle.qoi.specs.Raw.{pixels_of};
 
 use crate::encode::Encoder;
-use crate::encode::blocks::write_some;
+use crate::encode::blocks::{begin_full, goes_by_blocks, write_apart, write_by_blocks};
 use crate::encode::coder::{Coder, LastPixel};
-use crate::encode::piece::{FEW_ROOM, OpenPiece, Piece};
+use crate::encode::piece::{FEW_ROOM, OpenPiece, Piece, TINY_ROOM};
 use crate::encode::pixels::Pixels;
 use crate::encode::table::PixelTable;
 use crate::error::Result;
@@ -42,56 +41,65 @@ impl Pending {
             last: LastPixel::start(),
         }
     }
+
+    // How many raw bytes a block has.
+    #[inline(always)]
+    fn block_size(&self) -> usize
+        ensures { result ≡ 16 * pixel_size self.now }
+    {
+        16 * usize::from(self.channels.as_u8())
+    }
 }
 
-// Writes whole pixels of `N` channels (see `fill_piece`), in the style of the number `STYLE`
-// (`style_of`). The compiler makes a loop for each pair: one for all would test the style at each
-// pixel. A copy of the last pixel would wait until its parts, just stored, are in the cache.
+// `fill_piece` in `N` channels. A copy of the last pixel would wait until its parts, just stored, are in
+// the cache.
 #[inline(always)]
-fn fill_in_style<'a, 'p, W: Writer, const N: usize, const STYLE: u8, const ROOM: usize>(
+fn fill_in_channels<'a, 'p, const N: usize, const ROOM: usize>(
     pending: &mut Pending,
     piece: OpenPiece<'p, ROOM>,
     data: &'a [u8],
 ) -> (Piece<'p, ROOM>, &'a [u8])
     requires channels { pixel_size pending.old ≡ N }
-    requires style { pending.old.style ≡ style_of STYLE }
     requires whole { GoesByPixels pending.old «data».now }
+    requires block { 16 * N ≤ length «data».now }
     ensures { FillsPiece pending.old piece.entry «data».entry.now pending.new result }
 {
     let table = &mut pending.table;
     let last = &mut pending.last;
-    let mut piece = piece.piece;
-    let mut rest = Pixels::<N>::new(data);
-    while rest.has_block() && !piece.is_full() {
-        (piece, rest) = write_some::<N, STYLE, ROOM>(last, table, piece.open(), rest);
+    let raw = Pixels::<N>::new(data);
+    let front = raw.front_of(raw, pending.style);
+    if !goes_by_blocks(front.style, *last, front.raw) {
+        return write_apart(last, table, piece, front);
     }
-    (piece, rest.bytes)
+    match front.style {
+        Reference => {}
+        Places | Tight => {
+            return write_by_blocks::<N, 1, ROOM, false>(last, table, piece, front);
+        }
+    }
+    // A file in `TINY_ROOM` has too few pixels.
+    if ROOM != TINY_ROOM && begin_full(table, last.px, front.raw) {
+        return write_by_blocks::<N, 0, ROOM, true>(last, table, piece, front);
+    }
+    write_by_blocks::<N, 0, ROOM, false>(last, table, piece, front)
 }
 
-// Writes whole pixels into the piece, until it is full or fewer than a block has are left. Returns
-// the piece, and those. In `FEW_ROOM` images have no block, and it returns at once. `W` is the writer
-// that gets the piece: with a copy for each, which the compiler inlines, it stays in registers.
+// Writes some whole pixels, a block or more, into the piece: blocks, until it is full or fewer pixels
+// than a block has are left; or the repeats and the fresh pixel at the front. Returns the piece, and the
+// rest. Which way is asked only here, so mostly once a piece.
 #[inline(always)]
-fn fill_piece<'a, 'p, W: Writer, const ROOM: usize>(
+fn fill_piece<'a, 'p, const ROOM: usize>(
     pending: &mut Pending,
     piece: OpenPiece<'p, ROOM>,
     data: &'a [u8],
 ) -> (Piece<'p, ROOM>, &'a [u8])
     requires whole { GoesByPixels pending.old «data».now }
-    requires few { ROOM ≡ FEW_ROOM → length «data».now < FEW_BYTES }
+    requires block { 16 * pixel_size pending.old ≤ length «data».now }
     ensures { FillsPiece pending.old piece.entry «data».entry.now pending.new result }
 {
-    if ROOM == FEW_ROOM {
-        return (piece.piece, data);
-    }
-    // A loop for each pair, in which channels and style are constants.
-    match (pending.channels, pending.style) {
-        (Rgb, Reference) => fill_in_style::<W, 3, 0, ROOM>(pending, piece, data),
-        (Rgb, Places) => fill_in_style::<W, 3, 1, ROOM>(pending, piece, data),
-        (Rgb, Tight) => fill_in_style::<W, 3, 2, ROOM>(pending, piece, data),
-        (Rgba, Reference) => fill_in_style::<W, 4, 0, ROOM>(pending, piece, data),
-        (Rgba, Places) => fill_in_style::<W, 4, 1, ROOM>(pending, piece, data),
-        (Rgba, Tight) => fill_in_style::<W, 4, 2, ROOM>(pending, piece, data),
+    match pending.channels {
+        Rgb => fill_in_channels::<3, ROOM>(pending, piece, data),
+        Rgba => fill_in_channels::<4, ROOM>(pending, piece, data),
     }
 }
 
@@ -108,10 +116,10 @@ pub(super) fn write_pixels<'a, 'p, W: Writer, const ROOM: usize>(
     ensures written { WritesWhole W.wrote W.room W.IsFault writer.old pending.old piece.entry
         «data».entry.now writer.new pending.new result }
 {
-    let block = 16 * usize::from(pending.channels.as_u8());
+    let block = pending.block_size();
     let mut rest = data;
     while rest.len() >= block {
-        let (mut filled, after) = fill_piece::<W, ROOM>(pending, piece, rest);
+        let (mut filled, after) = fill_piece(pending, piece, rest);
         if filled.is_full() {
             filled.send(writer)?;
         }
@@ -207,9 +215,14 @@ pub(super) fn encode_few<W: Writer, const ROOM: usize>(
     ensures { WritesImage W.wrote W.IsFault encoder.now writer.old writer.new result }
 {
     let mut bytes = [0; ROOM];
-    let piece = Piece::<ROOM>::with_header(&mut bytes, &encoder.header).open();
+    let mut piece = Piece::<ROOM>::with_header(&mut bytes, &encoder.header);
     let mut pending = Pending::new(encoder.header.channels, encoder.style);
-    let (mut piece, left) = fill_piece::<W, ROOM>(&mut pending, piece, encoder.data);
+    let block = pending.block_size();
+    let mut left = encoder.data;
+    // In `FEW_ROOM` the compiler needn't see that there is no block.
+    while ROOM != FEW_ROOM && left.len() >= block {
+        (piece, left) = fill_piece(&mut pending, piece.open(), left);
+    }
     write_left(&mut pending, &mut piece, left);
     let end = piece.store_marker();
     writer.write_many(piece.front(end))?;

@@ -5,7 +5,7 @@ ghost use Rattle.qoi.specs.Qoi.{Chunk, RgbaPixel, Past, run_max, chunk_max, mark
 ghost use Rattle.qoi.specs.Raw.{IsChannels, IsChannels-prop};
 ghost use Rattle.qoi.specs.Runs.{runs_by};
 ghost use Rattle.qoi.specs.Written.{IsFirst};
-ghost use Rattle.qoi.specs.Styles.{Style, choice_in, style_of};
+ghost use Rattle.qoi.specs.Styles.{Style, choice_in, style_in};
 ghost use Rattle.qoi.specs.inner.Table.{Holds};
 
 use crate::consts::{QOI_OP_RUN, QOI_RUN_MAX};
@@ -18,15 +18,13 @@ use crate::packed::Packed;
 use crate::types::Style::{self, Places, Reference, Tight};
 use crate::utils::pick;
 
-/// The style of a number. It is a constant for the compiler, so each number has loops of its own.
+/// The style of a loop, by its number: `Reference`, if that is 0, which is then a constant for the
+/// compiler, or the one that the loop is told.
 #[inline(always)]
-pub(super) fn style_of<const STYLE: u8>() -> Style
-    ensures { result ≡ style_of STYLE }
+pub(super) fn style_in<const STYLE: u8>(told: Style) -> Style
+    ensures { result ≡ style_in STYLE told }
 {
-    if STYLE == 0 {
-        return Reference;
-    }
-    if STYLE == 1 { Places } else { Tight }
+    if STYLE == 0 { Reference } else { told }
 }
 
 /// The last pixel that was written or repeated, `px`; `repeats`, how many repeats of it came that
@@ -63,8 +61,7 @@ impl LastPixel {
 }
 
 /// Writes pixels of `N` channels one by one, in this style and after this last one. The table is
-/// passed beside it, so that these few stay in registers. Where loops are called, the style is that
-/// of a number (`style_of`), which no register holds.
+/// passed beside it, so that these few stay in registers.
 #[derive(Drop)]
 pub(super) struct Coder<const N: usize> {
     pub(super) last: LastPixel,
@@ -153,10 +150,9 @@ impl<const N: usize> Coder<N> {
     }
 
     // Writes the fresh pixel `next`: by its index position if it stands there, else as
-    // `chunk_if_absent` has it. Then puts it at its position, and it is the last pixel. With `JUMP`
-    // which of them is a jump, which is faster if mostly the same one comes, else a choice of both.
+    // `chunk_if_absent` has it. Then puts it at its position, and it is the last pixel.
     #[inline(always)]
-    fn write_pixel<const ROOM: usize, const JUMP: bool>(
+    fn write_pixel<const ROOM: usize>(
         &mut self,
         table: &mut PixelTable,
         piece: &mut Piece<ROOM>,
@@ -188,16 +184,11 @@ impl<const N: usize> Coder<N> {
             },
             repeats: 0,
         };
-        if JUMP && stands {
-            // The position's byte, appended as that of a single repeat is.
-            piece.append_run(1, place);
-            return;
-        }
         let spelled = spell_pixel::<N>(before, px);
         let (number, size) = self.chunk_if_absent(table, px, spelled);
         table.put(place, px);
         let number = pick(stands, u32::from(place), number);
-        piece.append_chunk::<N, JUMP>(px.number(), number, pick(stands, 1, size));
+        piece.append_chunk::<N>(px.number(), number, pick(stands, 1, size));
     }
 
     // Writes the repeats that came before these pixels and those at their front, at most 992 in
@@ -244,19 +235,17 @@ impl<const N: usize> Coder<N> {
         ahead
     }
 
-    /// Writes the repeats that came before these pixels and the first `ahead`, which repeat, too, all
-    /// `count` of them as one run, and the fresh pixel after them. Returns the rest.
+    /// Writes the repeats that came before these pixels and the first `ahead`, which repeat, too, as
+    /// one run, and the fresh pixel after them. Returns the rest.
     #[inline(always)]
-    pub(super) fn write_short_group<'a, const ROOM: usize, const JUMP: bool>(
+    pub(super) fn write_short_group<'a, const ROOM: usize>(
         &mut self,
         table: &mut PixelTable,
         piece: &mut Piece<ROOM>,
         raw: Pixels<'a, N>,
         ahead: usize,
-        count: usize,
     ) -> Pixels<'a, N>
-        requires count { count ≡ self.old.last.repeats + ahead }
-        requires few { count < run_max }
+        requires few { self.old.last.repeats + ahead < run_max }
         requires inside { ahead < length (pixels_in raw) }
         requires repeat { take ahead (pixels_in raw) ≡ replicate ahead self.old.last.px }
         requires fresh { slice_get (pixels_in raw) ahead ≢ Some self.old.last.px }
@@ -269,10 +258,11 @@ impl<const N: usize> Coder<N> {
         ensures written { CoderPasses self.old table.old piece.old (pixels_in raw.entry)
             self.new table.new piece.new (pixels_in result) }
     {
+        let count = self.last.repeats + ahead;
         piece.append_run(count, self.single_repeat_byte(count));
         self.update_after_repeats(table, count, 0);
         let after = raw.skip(ahead);
-        self.write_pixel::<ROOM, JUMP>(table, piece, after.first());
+        self.write_pixel(table, piece, after.first());
         after.skip(1)
     }
 
@@ -302,7 +292,7 @@ impl<const N: usize> Coder<N> {
         if after.is_empty() || after.begin_with(self.last.px) {
             return after;
         }
-        self.write_pixel::<ROOM, false>(table, piece, after.first());
+        self.write_pixel(table, piece, after.first());
         after.skip(1)
     }
 

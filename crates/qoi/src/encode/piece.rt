@@ -103,15 +103,9 @@ impl<'a, const ROOM: usize> Piece<'a, ROOM> {
         OpenPiece { piece: self }
     }
 
-    /// Appends a chunk of `size` bytes, as `store_chunk` stores it. With `JUMP` an RGBA chunk has a
-    /// jump of its own, after which its size is known.
+    /// Appends a chunk of `size` bytes, as `store_chunk` stores it.
     #[inline(always)]
-    pub(super) fn append_chunk<const N: usize, const JUMP: bool>(
-        &mut self,
-        px: u32,
-        number: u32,
-        size: u32,
-    )
+    pub(super) fn append_chunk<const N: usize>(&mut self, px: u32, number: u32, size: u32)
         requires channels { IsChannels N }
         requires room { self.old.end + (chunk_max + marker_size) ≤ ROOM }
         requires few { size ≤ N + 1 }
@@ -119,10 +113,6 @@ impl<'a, const ROOM: usize> Piece<'a, ROOM> {
             ≡ kept_bytes self.old ++ take size (digits_l 256 4 number ++ (px / 2 ^ 24) ∷ []) }
         ensures end { self.new.end ≡ self.old.end + size }
     {
-        if JUMP && size == 5 {
-            self.end = store_chunk::<N>(self.bytes, self.end, px, number, 5);
-            return;
-        }
         self.end = store_chunk::<N>(self.bytes, self.end, px, number, size);
     }
 

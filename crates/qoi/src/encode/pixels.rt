@@ -4,10 +4,8 @@ ghost use Rattle.qoi.specs.Raw.{IsChannels, IsChannels-prop, pixels_of};
 
 use crate::encode::piece::REPEATS_AT_ONCE;
 use crate::packed::Packed;
+use crate::types::Style;
 use crate::utils::skip;
-
-/// With fewer raw bytes, to ask whether they go by a loop of their own takes longer than it brings.
-pub(super) const MANY_BYTES: usize = 1024;
 
 /// Raw bytes of whole pixels, which have `N` bytes each.
 #[derive(Clone, Copy)]
@@ -24,11 +22,13 @@ pub(super) struct PixelOf<const N: usize> {
     ghost opaque: { N ≡ 3 → px.a ≡ 255 },
 }
 
-/// Pixels that begin with a block, sixteen or more: what is left of `whole`, a loop's pixels.
+/// Pixels that begin with a block, sixteen or more: what is left of `whole`, a loop's pixels, and the
+/// style that the loop is told.
 #[derive(Clone, Copy)]
 pub(super) struct FrontBlock<'a, const N: usize> {
     pub(super) raw: Pixels<'a, N>,
     pub(super) whole: Pixels<'a, N>,
+    pub(super) style: Style,
     ghost enough: { 16 ≤ length (pixels_of N raw.bytes.now) },
     ghost long: { N * 16 ≤ length raw.bytes.now },
 }
@@ -63,15 +63,20 @@ impl<'a, const N: usize> Pixels<'a, N> {
         self.bytes.len() >= 16 * N
     }
 
-    /// These pixels, a block or more, which are left of others.
+    /// These pixels, a block or more, which are left of others, in this style.
     #[tactic(auto, using(crate::proofs::encoding::coder::PixelsIn::bytes_within))]
     #[inline(always)]
-    pub(super) fn front_of(self, whole: Pixels<'a, N>) -> FrontBlock<'a, N>
+    pub(super) fn front_of(self, whole: Pixels<'a, N>, style: Style) -> FrontBlock<'a, N>
         requires { 16 ≤ length (pixels_in self) }
         ensures raw { result.raw ≡ self.entry }
         ensures whole { result.whole ≡ whole.entry }
+        ensures style { result.style ≡ style }
     {
-        FrontBlock { raw: self, whole }
+        FrontBlock {
+            raw: self,
+            whole,
+            style,
+        }
     }
 
     /// The first one.

@@ -10,6 +10,7 @@ ghost use Rattle.qoi.specs.inner.Coder.{pixels_in};
 use crate::encode::pixels::{FrontBlock, PixelOf, Pixels};
 use crate::packed::Packed;
 use crate::pixel::Pixel;
+use crate::types::Style;
 use crate::utils::skip;
 use std::simd::prelude::*;
 
@@ -34,7 +35,8 @@ pub(super) fn repeats_of<const N: usize>(raw: Pixels<N>, pixel: PixelOf<N>) -> u
     let mut count = 0;
     let mut rest = raw;
     while rest.has_block() {
-        let more = repeats_in_block::<N>(rest.front_of(raw), px);
+        // Pixels repeat whatever the style.
+        let more = repeats_in_block::<N>(rest.front_of(raw, Style::Reference), px);
         count += more;
         if more < 16 {
             return count;

@@ -23,10 +23,6 @@ pub all_first : (P : RgbaPixel → Type 0) (n : ℕ) (ps : List RgbaPixel) → A
 all_first P (suc n) (p ∷ ps) a = (a.0, all_first P n ps a.1)
 all_first P n ps a = tt
 
--- the first four pixels of bytes, packed, are these pixels
-pub four_unpacked : (n : ℕ) (bytes : List ℕ) → IsChannels n → AreBytes bytes → map pixel_of_word (map word (take 4 (pixels_of n bytes))) ≡ take 4 (pixels_of n bytes)
-four_unpacked n bytes is are = unpacked_all _ (all_first IsPixel 4 (pixels_of n bytes) (pixels_of_are n bytes is (all_bytes bytes are)))
-
 -- in three channels the first sixteen are opaque
 pub opaque_first : (n : ℕ) (bytes : List ℕ) → n ≡ 3 → AreOpaque (take 16 (pixels_of n bytes))
 opaque_first n bytes three =

@@ -1,5 +1,5 @@
 -- Fresh pixels, as bits: the lowest bit that is set is the first one.
-use Rattle.std.proofs.Common.{◌≡◌, ◌≢◌, ℕ, zero, suc, ◌+◌, ◌-◌, ◌*◌, ◌/◌, ◌%◌, ◌^◌, ◌<◌, ◌≤◌, Bool, true, false, not, cond, if◌then◌else◌, List, [], ◌∷◌, ◌++◌, length, length-drop, drop-drop, map, take, drop, replicate, Option, None, Some, refl, sym, ap, ◌∙◌, arith, take-append-drop}
+use Rattle.std.proofs.Common.{◌≡◌, ◌≢◌, ℕ, zero, suc, ◌+◌, ◌-◌, ◌*◌, ◌/◌, ◌%◌, ◌^◌, ◌<◌, ◌≤◌, Bool, true, false, not, cond, if◌then◌else◌, List, [], ◌∷◌, ◌++◌, length, map, take, drop, replicate, Option, None, Some, refl, sym, ap, ◌∙◌, arith, take-append-drop}
 use Rattle.std.proofs.lemmas.List.{length-take-le, take-take, drop-take}
 use Rattle.std.proofs.lemmas.Option.{same_Some}
 use Rattle.std.proofs.Math.Nat.{pow-suc, mul_comm, div-div-eq-div-mul}
@@ -90,21 +90,10 @@ pub get_drop : (n : ℕ) (ps : List RgbaPixel) → slice_get (drop n ps) 0 ≡ s
 get_drop (suc n) (p ∷ ps) = get_drop n ps
 get_drop n ps = refl
 
-pub get_further : (n m : ℕ) (ps : List RgbaPixel) → slice_get (drop m ps) n ≡ slice_get ps (m + n)
-get_further n m ps = sym (get_drop n (drop m ps)) ∙ ap (λ z. slice_get z 0) (drop-drop n m ps) ∙ get_drop (m + n) ps
-
 -- the last of several copies
 last_copy : (n : ℕ) (q : RgbaPixel) (rest : List RgbaPixel) → slice_get (replicate (suc n) q ++ rest) n ≡ Some q
 last_copy zero q rest = refl
 last_copy (suc n) q rest = last_copy n q rest
-
--- The last of sixteen pixels, of which so many are left that repeat q, is q.
-pub last_of_block : (q : RgbaPixel) (ps : List RgbaPixel) (left : ℕ) → left < 16 → slice_get ps (15 - left) ≡ Some q
-    → drop (16 - left) ps ≡ replicate left q ++ drop left (drop (16 - left) ps) → slice_get ps 15 ≡ Some q
-last_of_block q ps zero few is repeats = is
-last_of_block q ps (suc n) few is repeats =
-    let at : (16 - suc n) + n ≡ 15 = omega (arith, few) in
-    ap (slice_get ps) (sym at) ∙ sym (get_further n (16 - suc n) ps) ∙ ap (λ z. slice_get z n) repeats ∙ last_copy n q _
 
 -- what stands among the first m
 get_take : (n m : ℕ) (ps : List RgbaPixel) → n < m → slice_get (take m ps) n ≡ slice_get ps n
@@ -146,23 +135,6 @@ marks_group q ps lanes bits enough few is some =
       later = λ p e. m.later ∙ ap (λ z. fresh_marks z (drop (suc n) (take lanes ps))) (same_Some _ _ (sym at ∙ e))
           ∙ ap (fresh_marks p) (ap (λ l. drop (suc n) (take l ps)) left ∙ drop-take (suc n) (lanes - (n + 1)) ps ∙ ap (λ k. take (lanes - (n + 1)) (drop k ps)) next);
     }
-
--- a repeat stands at the front, and then a fresh pixel
-pub record IsPair (q : RgbaPixel) (ps : List RgbaPixel) : Type 0 where
-  pub repeats : take 1 ps ≡ replicate 1 q
-  pub other : slice_get ps 1 ≢ Some q
-
--- the bits 1010 are those of two pairs
-pub two_pairs : (q : RgbaPixel) (ps : List RgbaPixel) → 4 ≤ length ps → fresh_marks q (take 4 ps) ≡ 10
-    → IsPair q ps × ((p : RgbaPixel) → slice_get ps 1 ≡ Some p → IsPair p (drop 2 ps))
-unfolding count_trailing_zeros
-two_pairs q ps enough is =
-    let one = marks_group q ps 4 10 enough (omega arith) (sym is) (omega arith) in (
-      record { repeats = one.repeats; other = one.other },
-      λ p at.
-          let two = marks_group p (drop 2 ps) 2 2 (omega (arith, enough, length-drop 2 ps)) (omega arith) (one.later p at) (omega arith) in
-          record { repeats = two.repeats; other = two.other },
-    )
 
 -- if no bit is set, the first `lanes` repeat
 pub none_group : (q : RgbaPixel) (ps : List RgbaPixel) (lanes : ℕ) → lanes ≤ length ps → 0 ≡ fresh_marks q (take lanes ps)

@@ -2,13 +2,14 @@
 use Rattle.std.proofs.Common.{◌≡◌, inl, ℕ, ◌+◌, ◌*◌, ◌/◌, ◌%◌, ◌<◌, ◌≤◌, List, [], ◌++◌, length, length-append, append-nil, arith, Option, refl, sym, ap, ◌∙◌, append_assoc, subst, None}
 use Rattle.std.proofs.Math.Nat.{mul-mod_left}
 use Rattle.qoi.specs.Styles.{Style}
-use Rattle.qoi.specs.Qoi.{Header, Channels, AreBytes, start, channels_number, pixel_count, header_bytes, chunk_bytes, marker_size, end_marker}
+use Rattle.qoi.specs.Qoi.{RgbaPixel, Header, Channels, AreBytes, start, channels_number, pixel_count, header_bytes, chunk_bytes, marker_size, end_marker}
 use Rattle.qoi.specs.Raw.{IsChannels, pixels_of, image_byte_count}
-use Rattle.qoi.specs.inner.Coder.{pixels_in, CoderAfter, Pixels, SPARE}
+use Rattle.std.specs.Borrow.{Bor}
+use Rattle.qoi.specs.inner.Coder.{kept_bytes, CoderAfter, CoderBetween, LastPixel, Piece, Pixels, WritesSome, SPARE}
 use Rattle.qoi.specs.WrittenList.{written_list}
 use Rattle.qoi.specs.Encoded.{image_file}
 use Rattle.qoi.specs.Writers.{WroteBeginning, AppendsBeginning}
-use Rattle.qoi.specs.inner.Sending.{appended, pixel_size, EndsOpaque, IsNew, IsReady, ImageBetween, CoderGoes, GoesByPixels, GoesOn, BreaksOff, Ends, Pending}
+use Rattle.qoi.specs.inner.Sending.{appended, pixel_size, EndsOpaque, IsNew, IsReady, ImageBetween, CoderGoes, FillsPiece, GoesByPixels, GoesOn, BreaksOff, Ends, OpenPiece, Pending}
 use Rattle.qoi.specs.EncoderState.{EncoderState}
 use Rattle.qoi.proofs.format.RawPixels.{pixels_of-append, pixels_of_are}
 use Rattle.qoi.proofs.format.WholePixels.{by_channels, whole_pixels}
@@ -88,27 +89,44 @@ new_opaque new three = ap (λ x. x.a) new.state.last_is
 pub begins_appended : {a b : Option (List ℕ)} {bytes : List ℕ} → WroteBeginning appended a bytes b → AppendsBeginning a b bytes
 begins_appended some = (some.1.front, some.0, some.1.split, some.1.went)
 
--- the bytes of whole pixels
-pub bytes_in : {n : ℕ} (raw : Pixels n) → length raw.bytes.now ≡ n * length (pixels_in raw)
-bytes_in {n} raw = byte_count n raw.bytes.now raw.channels raw.whole
-
--- fewer pixels than a block has, and fewer bytes
-pub few_bytes : (n p : ℕ) → IsChannels n → p < 16 → n * p < 16 * n
-few_bytes n p is = by_channels (λ m. p < 16 → m * p < 16 * m) is (λ a. omega arith) (λ a. omega arith)
-
+-- fewer pixels than a block has
 pub few_pixels : (n : ℕ) (bytes : List ℕ) → IsChannels n → length bytes % n ≡ 0 → length bytes < 16 * n → length (pixels_of n bytes) < 16
 few_pixels n bytes is whole few =
     let p = length (pixels_of n bytes) in
     by_channels (λ m. m * p < 16 * m → p < 16) is (λ a. omega arith) (λ a. omega arith) (omega (arith, byte_count n bytes is whole, few))
 
+-- a block's pixels
+pub block_pixels : (n : ℕ) (bytes : List ℕ) → IsChannels n → length bytes % n ≡ 0 → 16 * n ≤ length bytes → 16 ≤ length (pixels_of n bytes)
+block_pixels n bytes is whole many =
+    let p = length (pixels_of n bytes) in
+    by_channels (λ m. 16 * m ≤ m * p → 16 ≤ p) is (λ a. omega arith) (λ a. omega arith) (omega (arith, byte_count n bytes is whole, many))
+
 -- fewer pixels, and fewer bytes
-pub fewer_bytes : {n : ℕ} (xs ys : Pixels n) → length (pixels_in xs) < length (pixels_in ys) → length xs.bytes.now < length ys.bytes.now
-fewer_bytes {n} xs ys =
-    let p = length (pixels_in xs) in
-    let q = length (pixels_in ys) in
-    let fewer = by_channels (λ m. p < q → m * p < m * q) xs.channels (λ a. omega arith) (λ a. omega arith) in
-    λ less. omega (arith, fewer less, bytes_in xs, bytes_in ys)
+fewer_bytes : (n : ℕ) (xs ys : List ℕ) → IsChannels n → length xs % n ≡ 0 → length ys % n ≡ 0 → length (pixels_of n xs) < length (pixels_of n ys) → length xs < length ys
+fewer_bytes n xs ys is whole whole' less =
+    let p = length (pixels_of n xs) in
+    let q = length (pixels_of n ys) in
+    let fewer = by_channels (λ m. p < q → m * p < m * q) is (λ a. omega arith) (λ a. omega arith) less in
+    omega (arith, fewer, byte_count n xs is whole, byte_count n ys is whole')
 
 -- whole pixels in front of other raw bytes
 pub whole_ahead : (n : ℕ) (xs ys : List ℕ) → IsChannels n → length xs % n ≡ 0 → pixels_of n (xs ++ ys) ≡ pixels_of n xs ++ pixels_of n ys
 whole_ahead n xs ys is whole = pixels_of-append n (length xs / n) xs ys is (whole_pixels n (length xs) is whole)
+
+-- some of these pixels are written
+pub fills : {N size : ℕ} {style : Style} {table : List RgbaPixel} {last : LastPixel} (p : Pending) (piece : OpenPiece size) (bytes : List ℕ) (raw : Pixels N) (result : Piece size × Bor (List ℕ))
+    → pixel_size p ≡ N → p.style ≡ style → raw.bytes.now ≡ bytes → WritesSome style raw p.table p.last piece.piece result.1.now table last result.0
+    → FillsPiece p piece bytes (record p { table = table; last = last }) result
+fills {N} {style = style} {table} {last} p piece bytes raw result size is same w =
+    let Goes = λ (n : ℕ) (s : Style). (ahead more : List ℕ) → CoderBetween s ahead (pixels_of n (raw.bytes.now ++ more)) p.table p.last (kept_bytes piece.piece)
+    → CoderBetween s ahead (pixels_of n (result.1.now ++ more)) table last (kept_bytes result.0) in
+    let here : Goes N style = λ ahead more s.
+    subst (λ ps. CoderBetween style ahead ps table last (kept_bytes result.0)) (sym (whole_ahead N result.1.now more raw.channels w.whole))
+    (w.on ahead (pixels_of N more)
+    (subst (λ ps. CoderBetween style ahead ps p.table p.last (kept_bytes piece.piece)) (whole_ahead N raw.bytes.now more raw.channels raw.whole) s)) in
+    subst (λ d. FillsPiece p piece d (record p { table = table; last = last }) result) same (record {
+      stays = (refl, refl);
+      goes = record { on = subst (λ n. Goes n p.style) (sym size) (subst (Goes N) (sym is) here) };
+      whole = (λ three. w.opaque (sym size ∙ three), ap (λ n. length result.1.now % n) size ∙ w.whole);
+      less = fewer_bytes N result.1.now raw.bytes.now raw.channels w.whole raw.whole w.less;
+    })

@@ -1,7 +1,7 @@
 //! The first sixteen pixels of raw bytes, packed.
 ghost use Rattle.std.specs.Prelude.{◌≡◌, ◌*◌, ◌≤◌, length, take, drop, map};
 ghost use Rattle.qoi.specs.Raw.{IsChannels, pixels_of, AreOpaque};
-ghost use Rattle.qoi.specs.inner.Packed.{word, pixel_of_word};
+ghost use Rattle.qoi.specs.inner.Packed.{word};
 ghost use Rattle.qoi.specs.inner.block.Planes.{block_pixels};
 
 use crate::encode::block::planes::Words;
@@ -10,7 +10,7 @@ use std::simd::prelude::*;
 
 /// The first sixteen pixels, packed.
 #[inline(always)]
-pub(in crate::encode) fn first_sixteen<const N: usize>(bytes: &[u8]) -> Words
+pub(super) fn first_sixteen<const N: usize>(bytes: &[u8]) -> Words
     requires channels { IsChannels N }
     requires enough { 16 * N ≤ length bytes.now }
     ensures pixels { block_pixels result ≡ take 16 (pixels_of N bytes.now) }
@@ -24,14 +24,13 @@ pub(in crate::encode) fn first_sixteen<const N: usize>(bytes: &[u8]) -> Words
     }
 }
 
-/// The first four pixels. Sixteen bytes are read, in three channels too, where the pixels have only
-/// twelve.
+// The first four pixels. Sixteen bytes are read, in three channels too, where the pixels have only
+// twelve.
 #[inline(always)]
-pub(in crate::encode) fn read_four<const N: usize>(bytes: &[u8]) -> u32x4
+fn read_four<const N: usize>(bytes: &[u8]) -> u32x4
     requires channels { IsChannels N }
     requires enough { 16 ≤ length bytes.now }
     ensures lanes { result ≡ map word (take 4 (pixels_of N bytes.now)) }
-    ensures pixels { map pixel_of_word result ≡ take 4 (pixels_of N bytes.now) }
 {
     let v = u8x16::from_slice(bytes);
     if N == 4 {

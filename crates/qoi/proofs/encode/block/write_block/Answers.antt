@@ -5,7 +5,7 @@ use Rattle.std.specs.List.{slice_get}
 use Rattle.std.proofs.lemmas.Bool.{eq-eqb}
 use Rattle.qoi.specs.Qoi.{RgbaPixel, IsPixel, hash, Past}
 use Rattle.qoi.specs.Raw.{IsChannels, AreOpaque}
-use Rattle.qoi.specs.Styles.{Places, names, style_of}
+use Rattle.qoi.specs.Styles.{Places, names, style_in}
 use Rattle.qoi.specs.inner.block.Lanes.{State, group_bytes, lanes_of, mask, step_of, same_alpha, size_of, lane_of, is_rep, goes_on}
 use Rattle.qoi.specs.inner.block.Vectors.{sizes}
 use Rattle.qoi.specs.inner.Coder.{held_in, kept_bytes, Ahead}
@@ -66,7 +66,7 @@ put_block-stands-requires-clause-below g c = λ k lt.
 
 pub returns : goal.returns
 returns g c = λ ahead n rest more fits b.
-    let style = style_of g.row.STYLE in
+    let style = style_in g.row.STYLE c.args.block.style in
     let carry = c.args.carry in
     let now = b.between in
     let q = last_pixel carry.before in
@@ -99,7 +99,7 @@ returns g c = λ ahead n rest more fits b.
     let at : c.index_positions-places.result ≡ map hash all = c.index_positions-places.ensures all sixteen planes in
     let put = c.put_block-stands.ensures s.held all now.state.table_is sixteen (block_words words c.args.block.packed) (c.read_places.ensures ∙ at) in
     let run : 0 < carry.count → take (end + 1) c.store_run.new.out ≡ take end c.store_places.new.out ++ group_bytes style carry.placed q carry.count =
-    λ some. subst (λ s. take (end + 1) c.store_run.new.out ≡ take end c.store_places.new.out ++ group_bytes s carry.placed q carry.count) c.style_of-style.ensures (c.store_run.ensures.run some) in
+    λ some. subst (λ s. take (end + 1) c.store_run.new.out ≡ take end c.store_places.new.out ++ group_bytes s carry.placed q carry.count) c.style_in-style.ensures (c.store_run.ensures.run some) in
     let placed : style ≡ Places → s.placed ≡ carry.placed = λ is. ap (λ p. names now.before (hash p)) q_is ∙ sym (b.is.placed_is ∙ now.state.placed_is is) in
     let spelled = c.spell-x.ensures s (fits.changes s.held) refl placed
     (record { sixteen = sixteen; last_is = last; red_is = planes.r_is; stands_are = put.stands_are; places_are = at }) in
@@ -109,6 +109,6 @@ returns g c = λ ahead n rest more fits b.
     (λ some. run some ∙ ap (λ z. z ++ group_bytes style carry.placed q carry.count) front) c.run_end-start.ensures in
     block_step style ahead n s rest more all x c.args.block.planes c.put_block-stands.new.table c.carry.result _ _ sixteen fits.mixed planes ready_now put.holds
     (λ tight. fits.no_blank tight s.held now.state.table_is)
-    c.carry.ensures.before c.carry.ensures.count (λ is. c.carry.ensures.placed (stand_tests s.held all) (c.style_of-style.ensures ∙ is) put.stands_are)
+    c.carry.ensures.before c.carry.ensures.count (λ is. c.carry.ensures.placed (stand_tests s.held all) (c.style_in-style.ensures ∙ is) put.stands_are)
     (λ t same last_is few. c.store_sixteen-end.ensures.written style t (subst IsPixel (sym last_is) last) same (omega arith)
     (sizes_in g.row.N t t.last all x.size carry.channels c.requires (λ three. ap (λ z. z.a) last_is ∙ carry.opaque three) same.size_is))

@@ -1,10 +1,10 @@
 -- A block, or a group. Before its groups a fresh pixel came, since the call wrote one.
-use Rattle.std.proofs.Common.{◌≡◌, ◌≤◌, ◌%◌, inl, inr, Option, None, Some, ◌++◌, take, drop, refl, sym, ap, ◌∙◌, arith, subst, take-append-drop}
+use Rattle.std.proofs.Common.{◌≡◌, ◌≤◌, ◌%◌, inl, inr, Option, None, Some, List, ◌++◌, take, drop, refl, sym, ap, ◌∙◌, arith, subst, take-append-drop}
 use Rattle.std.specs.List.{slice_get}
 use Rattle.qoi.specs.Qoi.{RgbaPixel}
 use Rattle.qoi.specs.inner.block.Vectors.{FitsBlock}
 use Rattle.qoi.specs.inner.BlockLoop.{InBlocks, FRONT_CARRIED}
-use Rattle.qoi.specs.Styles.{style_of}
+use Rattle.qoi.specs.Styles.{Style, style_in}
 use Rattle.qoi.specs.inner.Coder.{pixels_in, kept_bytes}
 use Rattle.qoi.specs.inner.block.Planes.{block_pixels, last_pixel}
 use Rattle.qoi.specs.inner.block.Lanes.{fresh_marks}
@@ -32,7 +32,7 @@ write_full_runs-requires g c =
     )
 
 pub returns-then-marks-eq0 : goal.returns-then-marks-eq0
-returns-then-marks-eq0 g c = c.write_full_runs.ensures (style_of g.row.STYLE) _ c.args.table.now
+returns-then-marks-eq0 g c = c.write_full_runs.ensures (style_in g.row.STYLE c.args.front.style) _ c.args.table.now
 
 pub write_marked-rest-requires : goal.write_marked-rest-requires
 write_marked-rest-requires g c =
@@ -56,7 +56,7 @@ returns-then-goes_by_marks g c =
       written = λ ahead n more whole b. record {
         last = c.write_marked-rest.new.coder.last;
         is = c.carried.ensures;
-        between = in_style next.written coder.style refl more
+        between = in_style next.written (coder.style ∙ c.style_in-style.ensures) refl more
             (still_between coder.carried coder.begun (inr (omega (arith, c.goes_by_marks.ensures.later c.if-goes_by_marks.true, whole))) b);
         goes = goes_on {rest = pixels_in c.write_marked-rest.result} next.begun (λ _. next.few);
       };
@@ -67,13 +67,13 @@ returns-then-may_miss_blank g c =
     let coder = c.coder_after-coder-then-may_miss_blank.ensures in
     let next = c.write_next-rest.ensures in
     let last = c.write_next-rest.new.self.last in
-    let tight = sym c.style_of.ensures ∙ c.may_miss_blank.ensures.tight c.if-may_miss_blank.true in
+    let tight = sym c.style_in-style.ensures ∙ c.may_miss_blank.ensures.tight c.if-may_miss_blank.true in
     record {
       less = next.less;
       written = λ ahead n more whole b. record {
         last = last;
         is = c.carried-then-may_miss_blank.ensures;
-        between = in_style next.written coder.style refl more (still_between coder.carried coder.begun (inl tight) b);
+        between = in_style next.written (coder.style ∙ c.style_in-style.ensures) refl more (still_between coder.carried coder.begun (inl tight) b);
         goes = goes_on {rest = pixels_in c.write_next-rest.result} (next.begun coder.begun)
             (λ e. omega (arith, next.none (λ none. (let no : ◌≡◌ {A = Option RgbaPixel} None (Some last.px) = sym (ap (λ ps. slice_get ps 0) none) ∙ e in cc))));
       };
@@ -85,14 +85,18 @@ returns g c =
     let before = c.args.carry.before in
     let ps = block_pixels c.first-block.result.words in
     let after = drop 16 (pixels_in c.args.front.raw) in
-    let fits : FitsBlock (style_of g.row.STYLE) c.args.table.now before ps c.first-block.result.changes = record {
+    let style = style_in g.row.STYLE c.first-block.result.style in
+    let same : style ≡ style_in g.row.STYLE c.args.front.style = ap (style_in g.row.STYLE) block.style in
+    let fits : FitsBlock style c.args.table.now before ps c.first-block.result.changes = record {
       changes = block.changes;
       mixed = λ none. c.if-marks-eq0.false (c.marks-marks.ensures before block.changes ∙ none);
-      no_blank = λ tight. c.may_miss_blank.ensures.none before block.changes c.if-may_miss_blank.false (c.style_of.ensures ∙ tight);
+      no_blank = λ tight. c.may_miss_blank.ensures.none before block.changes c.if-may_miss_blank.false (c.style_in-style.ensures ∙ sym same ∙ tight);
     } in
     let front = sym (take-append-drop 16 (pixels_in c.args.front.raw)) ∙ ap (λ ps. ps ++ after) (sym block.pixels) in
     record {
       less = omega (arith, c.skip.ensures.size);
-      written = λ ahead n more whole b. rw c.skip.ensures.rest (c.write_block-piece.ensures ahead n after more fits
-          (subst (λ ps. InBlocks (style_of g.row.STYLE) ahead n ps more c.args.table.now c.args.carry (kept_bytes c.args.piece.piece)) front b));
+      written = λ ahead n more whole b.
+          let In = λ (s : Style) (ps : List RgbaPixel). InBlocks s ahead n ps more c.args.table.now c.args.carry (kept_bytes c.args.piece.piece) in
+          let next = c.write_block-piece.ensures ahead n after more fits (subst (λ s. In s (ps ++ after)) (sym same) (subst (In (style_in g.row.STYLE c.args.front.style)) front b)) in
+          rw c.skip.ensures.rest (subst (λ s. InBlocks s ahead n after more c.write_block-piece.new.table c.write_block-piece.result.0 (kept_bytes c.write_block-piece.result.1)) same next);
     }

@@ -10,6 +10,11 @@ use Rattle.qoi.proofs.encoding.piece.WriterProgress.{none_but}
 use Rattle.qoi.proofs.encode.chunks.write_pixels.Goals.{then-is_full+in_ok-send, else-is_full}
 use Rattle.qoi.proofs.encode.chunks.write_pixels.Goals as goal
 
+pub fill_piece-filled-requires : goal.fill_piece-filled-requires
+fill_piece-filled-requires g c =
+    let was = c.loop-rest.invariant in
+    (omega arith, (omega arith, (was.ready.whole, omega (arith, c.loop-rest-test.true, c.block_size-block.ensures, ap channels_number was.stays.0))))
+
 pub send-requires : goal.send-requires
 send-requires g c =
     let filled = c.fill_piece-filled.result.0 in
@@ -33,7 +38,7 @@ loop-rest-preserved g c =
           (subst (WroteBut wrote a (kept_bytes old) (kept_bytes old)) (sym w.writer-is) (none_but (laws.nothing a)))
     ] in
     let now = subst (λ z. WroteBut wrote a (kept_bytes old) z c.if-is_full.writer) (sym c.open-piece.ensures) but in
-    let fewer = filled.less (omega (arith, c.loop-rest-test.true, c.from-block.ensures, c.as_u8.ensures, ap channels_number was.stays.0)) in
+    let fewer = filled.less in
     record {
       stays = (filled.stays.0 ∙ was.stays.0, filled.stays.1 ∙ was.stays.1);
       left = omega (arith, fewer, was.left);

@@ -1,12 +1,12 @@
 -- A group after the other; then the repeats at the end are carried.
-use Rattle.std.proofs.Common.{◌≡◌, inl, inr, ◌+◌, ◌-◌, ◌<◌, ◌++◌, replicate, append_assoc, length, take, drop, length-drop, drop-drop, slice_get, subst, refl, sym, ap, ◌∙◌, arith}
+use Rattle.std.proofs.Common.{◌≡◌, inl, inr, ◌+◌, ◌-◌, ◌<◌, ◌++◌, replicate, append_assoc, length, take, drop, length-drop, drop-drop, refl, sym, ap, ◌∙◌, arith}
 use Rattle.std.proofs.lemmas.Bool.{cases_lt}
 use lib.Count.{count_trailing_zeros}
 use Rattle.qoi.specs.inner.block.Lanes.{fresh_marks}
 use Rattle.qoi.specs.inner.Coder.{pixels_in}
 use Rattle.qoi.proofs.encoding.coder.CoderLink.{then_passes}
 use Rattle.qoi.proofs.encoding.coder.CoderSteps.{repeats_joined}
-use Rattle.qoi.proofs.encoding.coder.MarkedPixels.{get_further, last_of_block, marks_group, none_group}
+use Rattle.qoi.proofs.encoding.coder.MarkedPixels.{marks_group, none_group}
 use Rattle.qoi.proofs.encode.sparse.write_marked.Goals as goal
 
 pub write_short_group-rest-requires : goal.write_short_group-rest-requires
@@ -18,7 +18,7 @@ write_short_group-rest-requires g c =
       | inl some ↦ omega (arith, i.few (group.first some), group.inside, i.lanes_few)
       | inr none ↦ omega (arith, none, c.loop-left.coder.last.few)
     ] in
-    (omega arith, (omega arith, (omega arith, (refl, (few, (omega (arith, group.inside, i.enough), (group.repeats, (group.other, omega (arith, i.room, group.inside, c.requires.room)))))))))
+    (omega arith, (omega arith, (omega arith, (few, (omega (arith, group.inside, i.enough), (group.repeats, (group.other, omega (arith, i.room, group.inside, c.requires.room))))))))
 
 pub overflow_sub-count : goal.overflow_sub-count
 overflow_sub-count g c =
@@ -35,16 +35,14 @@ loop-left-preserved g c =
     let step = c.write_short_group-rest.ensures in
     let raw = pixels_in c.args.front.raw in
     let further : (16 - lanes) + (n + 1) ≡ 16 - (lanes - (n + 1)) = omega (arith, group.inside, i.lanes_few) in
-    let at : 15 - (lanes - (n + 1)) ≡ (16 - lanes) + n = omega (arith, group.inside, i.lanes_few) in
     record {
       lanes_few = omega (arith, i.lanes_few);
       enough = omega (arith, i.enough, ap length step.rest, length-drop (n + 1) rest, group.inside);
       rest_is = step.rest ∙ ap (drop (n + 1)) i.rest_is ∙ drop-drop (n + 1) (16 - lanes) raw ∙ ap (λ k. drop k raw) further;
-      last_is = λ _. ap (slice_get raw) at ∙ sym (get_further n (16 - lanes) raw) ∙ ap (λ ps. slice_get ps n) (sym i.rest_is) ∙ step.px;
       marks_are = group.later c.write_short_group-rest.new.self.last.px step.px
           ∙ ap (λ ps. fresh_marks c.write_short_group-rest.new.self.last.px (take (lanes - (n + 1)) ps)) (sym step.rest);
       few = λ _. omega (arith, step.begun.1);
-      begun = inr (step.begun.0, step.begun.1, omega (arith, group.inside, i.lanes_few));
+      begun = inr step.begun;
       room = omega (arith, i.room, step.end, group.inside);
       written = then_passes i.written step.written;
     }
@@ -60,19 +58,6 @@ returns-clause-rest g c =
 pub returns-clause-less : goal.returns-clause-less
 returns-clause-less g c =
     omega (arith, c.skip.ensures.size, ap length c.loop-left.invariant.rest_is, length-drop (16 - c.loop-left.count) (pixels_in c.args.front.raw), c.args.front.enough, c.loop-left.invariant.lanes_few)
-
-pub returns-clause-last : goal.returns-clause-last
-returns-clause-last g c =
-    let i = c.loop-left.invariant in
-    let lanes = c.loop-left.count in
-    let few : lanes < 16 = elim i.begun [
-      | inl some ↦ absurd (omega (arith, some, c.loop-left-test.false))
-      | inr begun ↦ begun.2
-    ] in
-    let raw = pixels_in c.args.front.raw in
-    let q = c.loop-left.coder.last.px in
-    last_of_block q raw lanes few (i.last_is few)
-    (subst (λ ps. ps ≡ replicate lanes q ++ drop lanes ps) i.rest_is (none_group q (pixels_in c.loop-left.rest) lanes i.enough (sym c.loop-left-test.false ∙ i.marks_are)))
 
 pub returns-clause-written : goal.returns-clause-written
 returns-clause-written g c = record {

@@ -16,9 +16,8 @@ block g c =
 pub loop-now-preserved : goal.loop-now-preserved
 loop-now-preserved g c =
     let here = block g (goal.at.loop-now-preserved g c).After-chunks_until-block in
-    let full = chunks_then (omega (arith, c.chunks_until-block.auto.out)) here c.full_row-full.ensures in
-    let plain = chunks_then (omega (arith, c.chunks_until-block.auto.out)) full c.plain_row.ensures in
-    (rw c.by_fields-now-in-loop-now.ensures plain, omega (arith, c.min-near-in-loop-now.ensures), λ le. omega (arith, c.min-near-in-loop-now.ensures, le))
+    let full = chunks_then (omega (arith, c.chunks_until-block.auto.out)) here c.full_row.ensures in
+    (rw c.by_fields-now-in-loop-now.ensures full, omega (arith, c.min-near-in-loop-now.ensures), λ le. omega (arith, c.min-near-in-loop-now.ensures, le))
 
 pub returns-then-block-near : goal.returns-then-block-near
 returns-then-block-near g c = rw c.by_fields.ensures (block g (goal.at.returns-then-block-near g c).After-chunks_until-block)

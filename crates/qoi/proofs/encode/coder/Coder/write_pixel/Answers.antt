@@ -2,15 +2,10 @@
 use Rattle.std.proofs.Common.{◌≡◌, inl, inr, ◌≢◌, ◌/◌, ◌^◌, refl, sym, ap, ◌∙◌, arith, subst, take, ◌++◌, [], ◌∷◌, if◌then◌else◌, true}
 use lib.Lanes.{digits_l}
 use Rattle.std.specs.List.{list_any}
-use Rattle.qoi.specs.Qoi.{Place, Past, IsPixel, hash, seen}
-use Rattle.qoi.specs.Runs.{runs_by}
+use Rattle.qoi.specs.Qoi.{IsPixel, hash, seen}
 use Rattle.qoi.specs.Styles.{Reference, Places, Tight}
 use Rattle.qoi.specs.inner.Coder.{held_in, kept_bytes}
-use Rattle.qoi.specs.inner.Table.{Holds}
-use Rattle.std.proofs.lemmas.Bool.{eq-eqb}
-use Rattle.qoi.proofs.format.SamePixels.{hash_below}
-use Rattle.qoi.proofs.format.SeenTable.{holds_again}
-use Rattle.qoi.proofs.encoding.coder.CoderTable.{fresh_chosen, fresh_held, place_chosen}
+use Rattle.qoi.proofs.encoding.coder.CoderTable.{fresh_chosen, fresh_held}
 use Rattle.qoi.proofs.encoding.coder.CoderSteps.{fresh_written}
 use Rattle.qoi.proofs.encoding.lists.NotedPixels.{fresh_more}
 use Rattle.qoi.proofs.encode.coder.Coder.write_pixel.Goals as goal
@@ -48,34 +43,6 @@ returns-clause-written g c ahead rest differs none b =
       begun_is = sym (ap (list_any (λ p. true)) (fresh_more past p new));
       placed_is = λ places. elim c.match-self.branch [
         | in-Places w ↦ w.self-is ∙ d.4
-        | in-Reference w ↦ absurd (elim w.in-Reference.is [
-          | inl is ↦ (let no : Reference ≡ Places = sym is ∙ places in cc)
-          | inr is ↦ (let no : Tight ≡ Places = sym is ∙ places in cc)
-        ])
-      ];
-    })
-
--- it stands at its index position, which gives it
-pub returns-then-stands-clause-written : goal.returns-then-stands-clause-written
-unfolding runs_by
-returns-then-stands-clause-written g c ahead rest differs none b =
-    let p = c.args.next.px in
-    let style = c.args.self.now.style in
-    let past = b.past in
-    let state = b.state in
-    let table = c.args.table.now in
-    let at_place : c.hash_index-place.result ≡ hash p = c.hash_index-place.ensures.position in
-    let there : (held : Past) → Holds table held → seen held (hash p) ≡ p =
-    (λ held h. ap (seen held) (sym at_place) ∙ sym (c.at.ensures held h) ∙ c.is_same-stands.ensures.0 c.if-stands.true) in
-    let new = λ (e : _). differs (e ∙ sym state.last_is) in
-    fresh_written b (Place (hash p)) differs none (hash_below p) (place_chosen style past p (there (held_in style past) state.table_is))
-    (c.append_run.ensures.kept (Place (hash p)) (λ j. sym at_place j ∷ [])) refl
-    (record {
-      table_is = fresh_held style past table table p new state.table_is (λ held h. holds_again table p held (there held h) h);
-      last_is = refl;
-      begun_is = sym (ap (list_any (λ p. true)) (fresh_more past p new));
-      placed_is = λ places. elim c.match-self.branch [
-        | in-Places w ↦ w.self-is ∙ c.if-stands.true ∙ sym (eq-eqb (hash p) (hash p) refl)
         | in-Reference w ↦ absurd (elim w.in-Reference.is [
           | inl is ↦ (let no : Reference ≡ Places = sym is ∙ places in cc)
           | inr is ↦ (let no : Tight ≡ Places = sym is ∙ places in cc)

@@ -37,7 +37,7 @@ returns-clause-written g c = record {
       let one = single_chunk c.args.self.now.style last.begun last.placed (hash last.px) count in
       let some : later ≢ [] = λ none. (let no : ◌≡◌ {A = Option RgbaPixel} None (Some px) = ap (λ ps. slice_get ps 0) (sym none) ∙ first in cc) in
       let group = group_written b n later one split (inl (λ e. differs (same_Some _ _ (sym first ∙ e)))) (λ _. inr (some, refl))
-      (rw c.requires.count at (c.append_run.ensures.kept _ c.single_repeat_byte.ensures)) c.update_after_repeats.ensures.left (rw c.requires.count at c.update_after_repeats.ensures.state) in
+      (c.append_run.ensures.kept _ c.single_repeat_byte.ensures) c.update_after_repeats.ensures.left c.update_after_repeats.ensures.state in
       let same = c.update_after_repeats.ensures.same.0 in
       let stand = subst (λ ps. CoderBetween c.update_after_repeats.new.self.style all (ps ++ more) c.update_after_repeats.new.table c.update_after_repeats.new.self.last (kept_bytes c.append_run.new.self)) (sym c.skip-after.ensures.rest ∙ ahead)
       (of_coder c.update_after_repeats.ensures.style refl group) in
