@@ -11,6 +11,7 @@ mod chosen_channels;
 mod chunks;
 mod decoder;
 mod definitions;
+mod differences;
 mod encoder;
 mod equations;
 mod errors;
