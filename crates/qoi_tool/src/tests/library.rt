@@ -34,6 +34,7 @@ mod row_callers;
 mod row_indexes;
 mod runs;
 mod saves;
+mod stacks;
 mod std_streams;
 mod strips;
 pub mod support;
