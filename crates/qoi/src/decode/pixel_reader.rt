@@ -184,11 +184,12 @@ impl<R: Reader> PixelReader<R> {
     /// taken, and no byte past it.
     ///
     /// Refusals are those of `Decoder::decode_to_buf`, but for `OutputBufferTooSmall`. They come at
-    /// the latest with the last bytes, and up to 3,072 bytes earlier. After a refusal the bytes of
-    /// `buf` may be overwritten, as many as would have been read; a slice's tail is as before the
-    /// call, and a stream stands after the bytes that were read. `left` is as before, and no more of
-    /// the image can be read: each further `read` into a buffer that isn't empty returns
-    /// `UnexpectedBufferEnd`.
+    /// the latest with the last bytes, and earlier if what is decoded ahead is broken. A slice that is
+    /// cut is refused once fewer than eight bytes are left: up to seven runs, of 1,736 raw bytes in
+    /// all, aren't read then. After a refusal the bytes of `buf` may be overwritten, as many as would
+    /// have been read; a slice's tail is as before the call, and a stream stands after the bytes that
+    /// were read. `left` is as before, and no more of the image can be read: each further `read` into
+    /// a buffer that isn't empty returns `UnexpectedBufferEnd`.
     #[tactic(auto, unfolding(crate::specs::pieces::PixelReader::pixels_left))]
     pub fn read(&mut self, buf: &mut [u8]) -> Result<usize>
         // A success: the bytes follow those that were read before.
@@ -228,8 +229,8 @@ impl<R: Reader> PixelReader<R> {
         ensures refused { (d : DecoderState R) (start : Option (List ℕ)) (given : List ℕ)
             → HasGiven d start (R.ahead self.old.reader) given self.old
             → IfErr result (RefusesPixels R.in_memory d start (R.ahead self.new.reader)) }
-        // In memory what is broken over 3,072 raw bytes behind the buffer isn't seen: the bytes are
-        // refused as an image of n pixels, too, if these go so far or are all.
+        // In memory no more than what may be decoded ahead counts: the bytes are refused as an image
+        // of n pixels, too, if these go so far or are all.
         ensures early { (d : DecoderState R) (bytes given : List ℕ) (n : ℕ)
             → HasGiven d (Some bytes) (R.ahead self.old.reader) given self.old
             → IsTrue R.in_memory → n ≤ pixel_count d.header

@@ -1,0 +1,148 @@
+//! Two files are compared by their pixels, in the memory of two pieces. The loops have proof files, with
+//! their invariants, and `difference` an answer.
+ghost use Rattle.std.specs.Prelude.{◌≡◌, ◌+◌, ◌-◌, ◌<◌, ℕ, List, ◌++◌, length, Option, None, Some, IsOk, IfOk, OnOk, IfSome, IsTrue};
+ghost use Rattle.qoi.specs.declared.header.Header.{Header};
+ghost use Rattle.qoi.specs.DecoderState.{DecoderState, output_byte_count};
+ghost use Rattle.qoi.specs.Images.{file_image, front_image, HasFrontFile};
+ghost use Rattle.qoi.specs.Reading.{StandsAhead};
+ghost use Rattle.qoi.specs.pieces.PixelReader.{HasGiven, pixels_left};
+ghost use Rattle.qoi_tool.specs.Pictures.{DiffersAt, HaveOneShape};
+
+use crate::tests::library::support::made;
+use qoi::laws::reading::{files_are_read, pieces_that_come};
+use qoi::{Bytes, Decoder, Error, Header, PixelReader, Result};
+
+/// The first byte in which two slices differ, if one does.
+fn first_unequal(one: &[u8], other: &[u8]) -> Option<usize>
+    requires { length one.now ≡ length other.now }
+    ensures equal { result ≡ None → one.now ≡ other.now }
+    ensures first { IfSome result (DiffersAt one.now other.now) }
+    ensures within { IfSome result (λ k. k < length one.now) }
+{
+    for i in 0..one.len() {
+        if one[i] != other[i] {
+            return Some(i);
+        }
+    }
+    None
+}
+
+/// The first byte in which the next pieces of two images differ.
+fn next_difference(
+    first: &mut PixelReader<Bytes<'_>>,
+    second: &mut PixelReader<Bytes<'_>>,
+    here: &mut [u8],
+    there: &mut [u8],
+) -> Result<Option<usize>>
+    requires { length here.old ≡ length there.old }
+    ensures equal { (d e : DecoderState (List ℕ)) (bytes others given : List ℕ)
+        → HasGiven d (Some bytes) (Some first.old.reader) given first.old
+        → HasGiven e (Some others) (Some second.old.reader) given second.old
+        → IfOk result (λ o. o ≡ None → (more : List ℕ)
+        × HasGiven d (Some bytes) (Some first.new.reader) (given ++ more) first.new
+        × HasGiven e (Some others) (Some second.new.reader) (given ++ more) second.new) }
+    ensures first { (d e : DecoderState (List ℕ)) (bytes others given : List ℕ) (at : ℕ)
+        → HasGiven d (Some bytes) (Some first.old.reader) given first.old
+        → HasGiven e (Some others) (Some second.old.reader) given second.old
+        → at ≡ length given
+        → IfOk result (λ o. IfSome o (λ k. DiffersAt (front_image d.channels d.header bytes)
+        (front_image e.channels e.header others) (at + k))) }
+    ensures within { IfOk result (λ o. IfSome o (λ k. k < pixels_left first.old)) }
+    ensures fewer { 0 < pixels_left first.old → 0 < length here.old
+        → OnOk result (pixels_left first.new < pixels_left first.old) }
+    ensures whole { (d e : DecoderState (List ℕ)) (bytes others given : List ℕ)
+        → HasGiven d (Some bytes) (Some first.old.reader) given first.old
+        → HasGiven e (Some others) (Some second.old.reader) given second.old
+        → output_byte_count d ≡ output_byte_count e
+        → StandsAhead d.header bytes → StandsAhead e.header others → IsOk result }
+{
+    pieces_that_come();
+    first.left();
+    second.left();
+    let size = first.read(here)?;
+    if second.read(there)? != size {
+        return Err(Error::UnexpectedBufferEnd);
+    }
+    Ok(first_unequal(&here[..size], &there[..size]))
+}
+
+// How many bytes were read of an image of so many.
+fn bytes_read(pixels: &PixelReader<Bytes<'_>>, size: usize) -> usize
+    ensures read { (d : DecoderState (List ℕ)) (start : Option (List ℕ)) (given : List ℕ)
+        → HasGiven d start (Some pixels.now.reader) given pixels.now
+        → size ≡ output_byte_count d → result ≡ length given }
+    ensures left { result ≡ size - pixels_left pixels.now }
+{
+    size.saturating_sub(pixels.left())
+}
+
+/// The first byte in which two images of `size` bytes differ.
+fn difference(
+    one: Decoder<Bytes<'_>>,
+    other: Decoder<Bytes<'_>>,
+    size: usize,
+) -> Result<Option<usize>>
+    requires one { size ≡ output_byte_count one }
+    requires other { size ≡ output_byte_count other }
+    ensures equal { IfOk result (λ o. o ≡ None
+        → front_image one.entry.channels one.entry.header one.entry.reader
+        ≡ front_image other.entry.channels other.entry.header other.entry.reader) }
+    ensures first { IfOk result (λ o. IfSome o (DiffersAt
+        (front_image one.entry.channels one.entry.header one.entry.reader)
+        (front_image other.entry.channels other.entry.header other.entry.reader))) }
+    ensures whole { StandsAhead one.entry.header one.entry.reader
+        → StandsAhead other.entry.header other.entry.reader → IsOk result }
+{
+    let (mut first, mut second) = (one.into_pixels(), other.into_pixels());
+    let (mut here, mut there) = ([0; 4096], [0; 4096]);
+    while first.left() > 0 {
+        let at = bytes_read(&first, size);
+        if let Some(k) = next_difference(&mut first, &mut second, &mut here, &mut there)? {
+            return Ok(Some(at + k));
+        }
+    }
+    if second.left() > 0 {
+        return Err(Error::UnexpectedBufferEnd);
+    }
+    Ok(None)
+}
+
+// Whether two images have one shape.
+fn have_one_shape(one: &Header, other: &Header) -> bool
+    ensures shape { IsTrue result → HaveOneShape one.now other.now }
+    ensures all { HaveOneShape one.now other.now → IsTrue result }
+{
+    one.width == other.width && one.height == other.height && one.channels == other.channels
+}
+
+/// The first byte in which the images of two files differ; none if all are the same. Two files of one
+/// shape are never refused.
+pub fn first_difference(one: &[u8], other: &[u8]) -> Result<Option<usize>>
+    ensures equal { IfOk result (λ o. o ≡ None → file_image one.now ≡ file_image other.now) }
+    ensures first { IfOk result (λ o. IfSome o
+        (DiffersAt (file_image one.now) (file_image other.now))) }
+    ensures whole { (h k : Header) (n m : ℕ) → HasFrontFile h n one.now
+        → HasFrontFile k m other.now → HaveOneShape h k → IsOk result }
+{
+    files_are_read();
+    let first = Decoder::new(one)?;
+    let second = Decoder::new(other)?;
+    let (width, height) = (second.header().width, second.header().height);
+    if !have_one_shape(first.header(), second.header()) {
+        return Err(Error::InvalidImageDimensions { width, height });
+    }
+    let size = first.required_buf_len();
+    difference(first, second, size)
+}
+
+// Pictures of three rows of a pixel, of which byte 6 differs, and one of another shape.
+#[test]
+fn a_byte_differs(rt: HostRuntime) {
+    let alloc = rt.alloc();
+    let one = made::encoded(&rt, alloc, b"first row...", 1, 3);
+    let other = made::encoded(&rt, alloc, b"first sow...", 1, 3);
+    let wide = made::encoded(&rt, alloc, b"first row...", 3, 1);
+    assert!(rt; matches!(first_difference(&one, &other), Ok(Some(6))));
+    assert!(rt; matches!(first_difference(&one, &one), Ok(None)));
+    assert!(rt; first_difference(&one, &wide).is_err());
+}

@@ -1,0 +1,109 @@
+//! Two images, one above the other, are encoded as one, in the memory of a piece. The loop has a proof
+//! file, with its invariant, and `write_both` an answer.
+ghost use Rattle.std.specs.Prelude.{◌≡◌, ◌+◌, ◌++◌, ℕ, List, Option, Some, IfOk, OnOk};
+ghost use Rattle.std.specs.Io.KnownBytes.{Appends};
+ghost use Rattle.qoi.specs.declared.types.Style.TheVariants.{Reference};
+ghost use Rattle.qoi.specs.Encoded.{image_file};
+ghost use Rattle.qoi.specs.EncoderState.{EncoderState};
+ghost use Rattle.qoi.specs.Images.{front_image};
+ghost use Rattle.qoi.specs.pieces.PixelWriter.{HasTaken, and_raw};
+
+use crate::tests::library::support::{assert_decoded, made};
+use qoi::{Decoder, Error, Header, PixelWriter, Reader, Result, Style};
+use std::alloc::Global;
+use std::io::Write;
+
+/// Encodes a decoder's image behind what a writer took. What it took and the image are joined
+/// (`joined`), so that an image may follow another one.
+pub fn append_image<R: Reader + Drop, W: Write + Drop>(
+    decoder: Decoder<R>,
+    writer: &mut PixelWriter<W>,
+) -> Result<()>
+    ensures taken { (e : EncoderState) (before : Option (List ℕ)) (bytes : List ℕ)
+        → HasTaken W.contents e before writer.old → R.ahead decoder.reader ≡ Some bytes
+        → OnOk result (HasTaken W.contents
+        (and_raw e (front_image decoder.channels decoder.header bytes)) before writer.new) }
+    ensures joined { (e : EncoderState) (before : Option (List ℕ)) (first all bytes : List ℕ)
+        → HasTaken W.contents (and_raw e first) before writer.old
+        → R.ahead decoder.reader ≡ Some bytes
+        → all ≡ first ++ front_image decoder.channels decoder.header bytes
+        → OnOk result (HasTaken W.contents (and_raw e all) before writer.new) }
+{
+    let (mut pixels, mut row) = (decoder.into_pixels(), [0; 4096]);
+    while pixels.left() > 0 {
+        let size = pixels.read(&mut row)?;
+        writer.write(&row[..size])?;
+    }
+    Ok(())
+}
+
+// The header of both images, one above the other; refused if they aren't as wide, or have other channels.
+fn header_of_both(above: Header, below: Header) -> Result<Header>
+    ensures { IfOk result (λ h. h ≡ record above { height = above.height + below.height }) }
+{
+    let (width, height) = (below.width, below.height);
+    match above.height.checked_add(height) {
+        Some(height) if width == above.width && below.channels == above.channels => {
+            Ok(Header { height, ..above })
+        }
+        _ => Err(Error::InvalidImageDimensions { width, height }),
+    }
+}
+
+/// The file, with this header, of an image and then another one.
+fn write_both<R: Reader + Drop, S: Reader + Drop, W: Write + Drop>(
+    alloc: Global,
+    header: Header,
+    above: Decoder<R>,
+    below: Decoder<S>,
+    out: W,
+) -> Result<W>
+    ensures { (one other : List ℕ) → R.ahead above.reader ≡ Some one
+        → S.ahead below.reader ≡ Some other → IfOk result (λ w.
+        Appends (W.contents out) (W.contents w) (image_file Reference header
+        (front_image above.channels above.header one
+        ++ front_image below.channels below.header other))) }
+{
+    let mut writer = PixelWriter::new(alloc, header, Style::Reference, out)?;
+    append_image(above, &mut writer)?;
+    append_image(below, &mut writer)?;
+    let out = writer.finish()?;
+    Ok(out)
+}
+
+/// The file of an image above another one, which has as many pixels in a row, and as many channels.
+pub fn stack<R: Reader + Drop, S: Reader + Drop, W: Write + Drop>(
+    alloc: Global,
+    above: Decoder<R>,
+    below: Decoder<S>,
+    out: W,
+) -> Result<W>
+    ensures { (one other : List ℕ) → R.ahead above.reader ≡ Some one
+        → S.ahead below.reader ≡ Some other → IfOk result (λ w.
+        Appends (W.contents out) (W.contents w) (image_file Reference (record above.header {
+          channels = above.channels;
+          height = above.header.height + below.header.height;
+        })
+        (front_image above.channels above.header one
+        ++ front_image below.channels below.header other))) }
+{
+    let first = above.header().with_channels(above.channels());
+    let second = below.header().with_channels(below.channels());
+    let header = header_of_both(first, second)?;
+    let out = write_both(alloc, header, above, below, out)?;
+    Ok(out)
+}
+
+// Two pictures of a row each, and one of another width.
+#[test]
+fn one_above_the_other(rt: HostRuntime) {
+    let alloc = rt.alloc();
+    let above = made::encoded(&rt, alloc, b"above.", 2, 1);
+    let below = made::encoded(&rt, alloc, b"below.", 2, 1);
+    let (first, second) = (made::slice(&rt, &above), made::stream(&rt, &below[..]));
+    let both = stack(alloc, first, second, Vec::new(alloc)).expect(&rt, "refused");
+    assert_decoded(&rt, alloc, &mut made::slice(&rt, &both), b"above.below.");
+    let tall = made::encoded(&rt, alloc, b"below.", 1, 2);
+    let (first, second) = (made::slice(&rt, &above), made::slice(&rt, &tall));
+    assert!(rt; stack(alloc, first, second, Vec::new(alloc)).is_err());
+}
