@@ -32,8 +32,8 @@ struct Left<'a> {
 
 // Decodes chunks one by one, with every test, after what others reached: if `RUN_FITS`, where the
 // image goes on behind `out`, as long as any run's vectors have room there, else until it is full.
-// `None` if fewer than eight bytes are left before that: the file is cut, since its end marker alone
-// has eight.
+// `None` if fewer than eight bytes are left before that: the file is cut, since its end marker
+// alone has eight.
 #[inline(never)]
 fn careful_chunks<'a, const N: usize, const F: usize, const RUN_FITS: bool, const SIZE: usize>(
     table: &mut SizedTerms<SIZE>,
@@ -64,7 +64,7 @@ fn careful_chunks<'a, const N: usize, const F: usize, const RUN_FITS: bool, cons
     Some(Left { reached: now, rest })
 }
 
-// What `careful_chunks` decodes: first by `fast_chunks` of `blocks`, then by itself.
+// What `careful_chunks` decodes: first by `fast_chunks` of `stretches`, then by itself.
 #[inline(always)]
 fn slice_chunks<'a, const N: usize, const F: usize, const RUN_FITS: bool>(
     table: &mut TermTable,

@@ -13,23 +13,23 @@ front_of-front-requires g c =
 pub returns-then-not-goes_by_blocks : goal.returns-then-not-goes_by_blocks
 returns-then-not-goes_by_blocks g c =
     let front = c.front_of-front in
-    fills c.args.pending.now c.args.piece c.args.data.now front.result.raw c.write_apart.result c.requires.channels (sym front.ensures.style)
-    (ap (λ (r : Pixels g.row.N). r.bytes.now) front.ensures.raw ∙ c.new-raw.ensures) c.write_apart.ensures
+    fills c.args.pending.now c.args.piece c.args.data.now front.result.raw c.write_opening.result c.requires.channels (sym front.ensures.style)
+    (ap (λ (r : Pixels g.row.N). r.bytes.now) front.ensures.raw ∙ c.new-raw.ensures) c.write_opening.ensures
 
 pub returns-in-Places : goal.returns-in-Places
 returns-in-Places g c =
     let front = c.front_of-front in
-    fills c.args.pending.now c.args.piece c.args.data.now front.result.raw c.write_by_blocks.result c.requires.channels (sym front.ensures.style)
-    (ap (λ (r : Pixels g.row.N). r.bytes.now) front.ensures.raw ∙ c.new-raw.ensures) c.write_by_blocks.ensures
+    fills c.args.pending.now c.args.piece c.args.data.now front.result.raw c.write_blocks.result c.requires.channels (sym front.ensures.style)
+    (ap (λ (r : Pixels g.row.N). r.bytes.now) front.ensures.raw ∙ c.new-raw.ensures) c.write_blocks.ensures
 
-pub returns-then-begin_full : goal.returns-then-begin_full
-returns-then-begin_full g c =
+pub returns-then-begin_with_rgba : goal.returns-then-begin_with_rgba
+returns-then-begin_with_rgba g c =
     let front = c.front_of-front in
-    fills c.args.pending.now c.args.piece c.args.data.now front.result.raw c.write_by_blocks-then-begin_full.result c.requires.channels (sym front.ensures.style ∙ c.in-Reference.is)
-    (ap (λ (r : Pixels g.row.N). r.bytes.now) front.ensures.raw ∙ c.new-raw.ensures) c.write_by_blocks-then-begin_full.ensures
+    fills c.args.pending.now c.args.piece c.args.data.now front.result.raw c.write_blocks-then-begin_with_rgba.result c.requires.channels (sym front.ensures.style ∙ c.in-Reference.is)
+    (ap (λ (r : Pixels g.row.N). r.bytes.now) front.ensures.raw ∙ c.new-raw.ensures) c.write_blocks-then-begin_with_rgba.ensures
 
 pub returns : goal.returns
 returns g c =
     let front = c.front_of-front in
-    fills c.args.pending.now c.args.piece c.args.data.now front.result.raw c.write_by_blocks-2.result c.requires.channels (sym front.ensures.style ∙ c.in-Reference.is)
-    (ap (λ (r : Pixels g.row.N). r.bytes.now) front.ensures.raw ∙ c.new-raw.ensures) c.write_by_blocks-2.ensures
+    fills c.args.pending.now c.args.piece c.args.data.now front.result.raw c.write_blocks-2.result c.requires.channels (sym front.ensures.style ∙ c.in-Reference.is)
+    (ap (λ (r : Pixels g.row.N). r.bytes.now) front.ensures.raw ∙ c.new-raw.ensures) c.write_blocks-2.ensures
