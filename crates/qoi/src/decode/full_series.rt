@@ -1,5 +1,6 @@
 //! Series of RGB or of RGBA chunks, as noise has them, by a loop of their own.
 ghost use Rattle.std.specs.Prelude.{◌≡◌};
+ghost use Rattle.qoi.specs.inner.Filling.{CanLoop, FastChunks, IsFullTag};
 
 use crate::consts::{QOI_OP_RGB, QOI_OP_RGBA};
 use crate::decode::fast::{INPUT_ROOM, OUTPUT_ROOM, Progress};
@@ -16,7 +17,7 @@ struct Series<const N: usize, const F: usize, const TAG: u8> {
 }
 
 impl<const N: usize, const F: usize, const TAG: u8> Series<N, F, TAG> {
-    ghost use Rattle.qoi.specs.inner.Filling.{HasAhead, FastStep, IsFullTag, KeepsAlpha};
+    ghost use Rattle.qoi.specs.inner.Filling.{HasAhead, FastStep, KeepsAlpha};
 
     // Decodes the chunk that comes next, whose first byte is `TAG`.
     #[inline(always)]
@@ -68,50 +69,48 @@ impl<const N: usize, const F: usize, const TAG: u8> Series<N, F, TAG> {
     }
 }
 
-impl<const N: usize, const F: usize> Progress<N, F> {
-    ghost use Rattle.qoi.specs.inner.Filling.{CanLoop, FastChunks, IsFullTag};
-
-    // Decodes chunks with the first byte `TAG`, as many as come one after the other, while there is
-    // room ahead.
-    #[inline(never)]
-    fn series_of<const TAG: u8>(self, table: &mut TermTable, bytes: &[u8], out: &mut [u8]) -> Self
-        requires tag { IsFullTag TAG }
-        requires ahead { CanLoop 8 1 bytes.now out.old self }
-        ensures { FastChunks bytes.now self.entry table.old out.old result table.new out.new }
-    {
-        let before = self.last;
-        let to = self.by_fields();
-        let mut series = Series::<N, F, TAG> { to, before };
-        let far = bytes.len() - INPUT_ROOM;
-        let top = out.len() - OUTPUT_ROOM;
-        while series.to.next == TAG && series.to.taken <= far && series.to.at <= top {
-            series = series.chunks_of(table, bytes, out);
-        }
-        let Series { to, .. } = series;
-        to.by_fields()
+// Decodes chunks with the first byte `TAG`, as many as come one after the other, while there is
+// room ahead.
+#[inline(never)]
+fn series_of<const N: usize, const F: usize, const TAG: u8>(
+    from: Progress<N, F>,
+    table: &mut TermTable,
+    bytes: &[u8],
+    out: &mut [u8],
+) -> Progress<N, F>
+    requires tag { IsFullTag TAG }
+    requires ahead { CanLoop 8 1 bytes.now out.old from }
+    ensures { FastChunks bytes.now from.entry table.old out.old result table.new out.new }
+{
+    let before = from.last;
+    let to = from.by_fields();
+    let mut series = Series::<N, F, TAG> { to, before };
+    let far = bytes.len() - INPUT_ROOM;
+    let top = out.len() - OUTPUT_ROOM;
+    while series.to.next == TAG && series.to.taken <= far && series.to.at <= top {
+        series = series.chunks_of(table, bytes, out);
     }
+    let Series { to, .. } = series;
+    to.by_fields()
+}
 
-    /// Decodes a series of RGB or of RGBA chunks, if one comes next.
-    #[inline(always)]
-    pub(super) fn take_full_series(
-        self,
-        table: &mut TermTable,
-        bytes: &[u8],
-        out: &mut [u8],
-    ) -> Self
-        requires { CanLoop 8 11 bytes.now out.old self }
-        ensures { FastChunks bytes.now self.entry table.old out.old result table.new out.new }
-    {
-        let at = self.taken;
-        if self.next == QOI_OP_RGB && bytes[at + 4] == QOI_OP_RGB && bytes[at + 8] == QOI_OP_RGB {
-            return self.series_of::<0xfe>(table, bytes, out);
-        }
-        if self.next == QOI_OP_RGBA
-            && bytes[at + 5] == QOI_OP_RGBA
-            && bytes[at + 10] == QOI_OP_RGBA
-        {
-            return self.series_of::<0xff>(table, bytes, out);
-        }
-        self
+/// Decodes a series of RGB or of RGBA chunks, if one comes next.
+#[inline(always)]
+pub(super) fn take_full_series<const N: usize, const F: usize>(
+    from: Progress<N, F>,
+    table: &mut TermTable,
+    bytes: &[u8],
+    out: &mut [u8],
+) -> Progress<N, F>
+    requires { CanLoop 8 11 bytes.now out.old from }
+    ensures { FastChunks bytes.now from.entry table.old out.old result table.new out.new }
+{
+    let at = from.taken;
+    if from.next == QOI_OP_RGB && bytes[at + 4] == QOI_OP_RGB && bytes[at + 8] == QOI_OP_RGB {
+        return series_of::<N, F, 0xfe>(from, table, bytes, out);
     }
+    if from.next == QOI_OP_RGBA && bytes[at + 5] == QOI_OP_RGBA && bytes[at + 10] == QOI_OP_RGBA {
+        return series_of::<N, F, 0xff>(from, table, bytes, out);
+    }
+    from
 }

@@ -223,8 +223,10 @@ pub(super) fn encode_in_one_piece<W: Writer, const ROOM: usize>(
     while ROOM != LEAST_ROOM && left.len() >= block {
         (piece, left) = fill_piece(&mut pending, piece.open(), left);
     }
-    write_last_pixels(&mut pending, &mut piece, left);
-    let end = piece.store_marker();
-    writer.write_many(piece.front(end))?;
+    // A copy, since this one is lent: so in the loop the piece stays in registers.
+    let mut last_piece = piece;
+    write_last_pixels(&mut pending, &mut last_piece, left);
+    let end = last_piece.store_marker();
+    writer.write_many(last_piece.front(end))?;
     Ok(end)
 }

@@ -2,12 +2,12 @@
 use Rattle.std.proofs.Common.{◌+◌, arith}
 use Rattle.qoi.specs.inner.Filling.{FastChunks}
 use Rattle.qoi.proofs.decoding.FastSteps.{chunks_then, front_chunks}
-use Rattle.qoi.proofs.decode.fast.Progress.chunks_by_stretches.Given.{Over}
-use Rattle.qoi.proofs.decode.fast.Progress.chunks_by_stretches.Goals.{After-chunks_until-stretch}
-use Rattle.qoi.proofs.decode.fast.Progress.chunks_by_stretches.Goals as goal
+use Rattle.qoi.proofs.decode.stretches.chunks_by_stretches.Given.{Over}
+use Rattle.qoi.proofs.decode.stretches.chunks_by_stretches.Goals.{After-chunks_until-stretch}
+use Rattle.qoi.proofs.decode.stretches.chunks_by_stretches.Goals as goal
 
 -- after a stretch, which is the front of the bytes
-stretch : (g : Over) (c : After-chunks_until-stretch g) → FastChunks c.args.bytes.now c.args.self c.args.table.now c.args.out.now
+stretch : (g : Over) (c : After-chunks_until-stretch g) → FastChunks c.args.bytes.now c.args.from c.args.table.now c.args.out.now
     c.chunks_until-stretch.result c.chunks_until-stretch.new.table c.chunks_until-stretch.new.out
 stretch g c =
     let i = c.loop-now.invariant in

@@ -1,7 +1,7 @@
 -- As many chunks more as come.
 use Rattle.std.proofs.Common.{arith}
 use Rattle.qoi.proofs.decoding.FastSteps.{step_more}
-use Rattle.qoi.proofs.decode.fast.Progress.series_of.Goals as goal
+use Rattle.qoi.proofs.decode.full_series.series_of.Goals as goal
 
 pub loop-series-preserved : goal.loop-series-preserved
 loop-series-preserved g c =
