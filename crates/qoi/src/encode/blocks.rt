@@ -173,9 +173,8 @@ fn write_front_block<
 ///
 /// `Reference` has a loop of its own, and another if `ALL_RGBA`: where an RGBA chunk is expected to
 /// give each pixel (`begin_with_rgba`). The other styles share one, which is told the style. The
-/// piece is a value, so that the compiler keeps its fields in registers. It isn't inlined: where
-/// both loops, with `ALL_RGBA` and without, are one function, they are slower.
-#[inline(never)]
+/// piece is a value, so that the compiler keeps its fields in registers.
+#[inline(always)]
 pub(super) fn write_blocks<
     'a,
     'p,
@@ -213,9 +212,8 @@ pub(super) fn write_blocks<
 }
 
 /// Writes the repeats that wait, those at the front and the fresh pixel after them, by
-/// `write_next_group`. Returns the piece, and the rest. It isn't inlined: in one function with it
-/// the loop over blocks would be slower.
-#[inline(never)]
+/// `write_next_group`. Returns the piece, and the rest.
+#[inline(always)]
 pub(super) fn write_opening<'a, 'p, const N: usize, const ROOM: usize>(
     last: &mut LastPixel,
     table: &mut PixelTable,

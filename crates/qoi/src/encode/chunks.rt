@@ -2,8 +2,10 @@
 //! once, or those of some raw bytes.
 ghost use Rattle.std.specs.Prelude.{◌≡◌, ℕ, ◌-◌, ◌*◌, ◌%◌, ◌<◌, ◌≤◌, List, length};
 ghost use Rattle.qoi.specs.Encoded.{max_file_len};
-ghost use Rattle.qoi.specs.inner.Sending.{IsNew, pixel_size, StaysIn, Between, GoesByPixels, FillsPiece, IsReady, WritesWhole, WritesImage};
-ghost use Rattle.qoi.specs.inner.Coder.{kept_bytes, CoderEnds, SPARE, FULL_ROOM};
+ghost use Rattle.qoi.specs.inner.Sending.{IsNew, EndsOpaque, pixel_size, StaysIn, Between, GoesByPixels, FillsPiece, IsReady, WritesWhole, WritesImage};
+ghost use Rattle.qoi.specs.inner.BlockLoop.{GoesByBlocks};
+ghost use Rattle.qoi.specs.Styles.{style_in};
+ghost use Rattle.qoi.specs.inner.Coder.{kept_bytes, pixels_in, CoderEnds, SPARE, FULL_ROOM};
 ghost use Rattle.qoi.specs.Raw.{pixels_of};
 
 use crate::encode::Encoder;
@@ -51,6 +53,51 @@ impl Pending {
     }
 }
 
+// Fills a piece with the opening of these pixels, a block or more: the repeats that wait, those at
+// the front and the fresh pixel after them. It isn't inlined: in one function with it the loop over
+// blocks would be slower. Nor is it lent parts of what is pending, which would be stored for it.
+#[inline(never)]
+fn fill_with_opening<'a, 'p, const N: usize, const ROOM: usize>(
+    pending: &mut Pending,
+    piece: OpenPiece<'p, ROOM>,
+    raw: Pixels<'a, N>,
+) -> (Piece<'p, ROOM>, &'a [u8])
+    requires channels { pixel_size pending.old ≡ N }
+    requires opaque { EndsOpaque pending.old }
+    requires block { 16 ≤ length (pixels_in raw) }
+    ensures { FillsPiece pending.old piece.entry raw.entry.bytes.now pending.new result }
+{
+    let front = raw.front_of(raw, pending.style);
+    write_opening(&mut pending.last, &mut pending.table, piece, front)
+}
+
+// Fills a piece by blocks of these pixels, which go by blocks in this style (`style_in`). It isn't
+// inlined: where the loops, with `ALL_RGBA` and without, are one function, they are slower.
+#[inline(never)]
+fn fill_with_blocks<
+    'a,
+    'p,
+    const N: usize,
+    const STYLE: u8,
+    const ROOM: usize,
+    const ALL_RGBA: bool,
+>(
+    pending: &mut Pending,
+    piece: OpenPiece<'p, ROOM>,
+    raw: Pixels<'a, N>,
+) -> (Piece<'p, ROOM>, &'a [u8])
+    requires channels { pixel_size pending.old ≡ N }
+    requires opaque { EndsOpaque pending.old }
+    requires style { pending.old.style ≡ style_in STYLE pending.old.style }
+    requires block { 16 ≤ length (pixels_in raw) }
+    requires goes { GoesByBlocks (style_in STYLE pending.old.style) pending.old.last
+        (length (pixels_in raw)) (pixels_in raw) }
+    ensures { FillsPiece pending.old piece.entry raw.entry.bytes.now pending.new result }
+{
+    let front = raw.front_of(raw, pending.style);
+    write_blocks::<N, STYLE, ROOM, ALL_RGBA>(&mut pending.last, &mut pending.table, piece, front)
+}
+
 // `fill_piece` in `N` channels. A copy of the last pixel would wait until its parts, just stored,
 // are in the cache.
 #[inline(always)]
@@ -64,24 +111,22 @@ fn fill_in_channels<'a, 'p, const N: usize, const ROOM: usize>(
     requires block { 16 * N ≤ length «data».now }
     ensures { FillsPiece pending.old piece.entry «data».entry.now pending.new result }
 {
-    let table = &mut pending.table;
-    let last = &mut pending.last;
     let raw = Pixels::<N>::new(data);
     let front = raw.front_of(raw, pending.style);
-    if !goes_by_blocks(front.style, *last, front.raw) {
-        return write_opening(last, table, piece, front);
+    if !goes_by_blocks(pending.style, pending.last, front.raw) {
+        return fill_with_opening(pending, piece, front.raw);
     }
-    match front.style {
+    match pending.style {
         Reference => {}
         Places | Tight => {
-            return write_blocks::<N, 1, ROOM, false>(last, table, piece, front);
+            return fill_with_blocks::<N, 1, ROOM, false>(pending, piece, front.raw);
         }
     }
     // A file in `TINY_ROOM` has too few pixels.
-    if ROOM != TINY_ROOM && begin_with_rgba(table, last.px, front.raw) {
-        return write_blocks::<N, 0, ROOM, true>(last, table, piece, front);
+    if ROOM != TINY_ROOM && begin_with_rgba(&pending.table, pending.last.px, front.raw) {
+        return fill_with_blocks::<N, 0, ROOM, true>(pending, piece, front.raw);
     }
-    write_blocks::<N, 0, ROOM, false>(last, table, piece, front)
+    fill_with_blocks::<N, 0, ROOM, false>(pending, piece, front.raw)
 }
 
 // Writes some whole pixels, a block or more, into the piece: blocks, until it is full or fewer
