@@ -8,12 +8,11 @@ ghost use Rattle.qoi.specs.Reading.{IsCutAhead, IsWrongAhead, SaysWhy};
 ghost use Rattle.qoi.specs.Raw.{capped_byte_count, image_byte_count};
 ghost use Rattle.qoi.specs.Sent.{IsFileFor};
 
-mod blocks;
 mod buffered;
 mod chunks;
 mod deltas;
 mod fast;
-mod full_rows;
+mod full_series;
 mod hashed;
 mod in_place;
 mod one_chunk;
@@ -23,6 +22,7 @@ mod reached;
 mod reader;
 mod slice;
 mod stream;
+mod stretches;
 mod table;
 
 pub use crate::decode::pixel_reader::PixelReader;

@@ -23,8 +23,8 @@ mod sparse;
 mod table;
 
 use crate::consts::{QOI_HEADER_SIZE, QOI_PADDING_SIZE};
-use crate::encode::chunks::{FEW_BYTES, encode_few, encode_file};
-use crate::encode::piece::{FEW_ROOM, FULL_ROOM, SMALL_ROOM, SPARE, TINY_ROOM};
+use crate::encode::chunks::{LEAST_BLOCK, encode_file, encode_in_one_piece};
+use crate::encode::piece::{FULL_ROOM, LEAST_ROOM, SMALL_ROOM, SPARE, TINY_ROOM};
 pub use crate::encode::pixel_writer::PixelWriter;
 use crate::error::{Error, Result};
 use crate::header::Header;
@@ -202,9 +202,9 @@ impl<'a> Encoder<'a> {
     }
 
     /// This encoder with another style: other chunks may be written. In style `Places` the file is
-    /// as long as in `Reference`. In style `Tight` no other chunks of the image make a shorter file,
-    /// but the Rust crate may decode it to other pixels: choose `Tight` only if all decoders of the
-    /// file are known to follow QOI 1.0.
+    /// as long as in `Reference`. In style `Tight` no other chunks of the image make a shorter
+    /// file, but the Rust crate may decode it to other pixels: choose `Tight` only if all decoders
+    /// of the file are known to follow QOI 1.0.
     pub fn with_style(mut self, style: Style) -> Encoder<'a>
         ensures { result ≡ record self.entry { style = style } }
     {
@@ -240,15 +240,15 @@ impl<'a> Encoder<'a> {
         self.header.encode_max_len()
     }
 
-    // Writes the file of the image to memory, and returns how many bytes it has: through a piece with
-    // little room, if the image has no block, or fewer raw bytes than a full piece.
+    // Writes the file of the image to memory, and returns how many bytes it has: through a piece
+    // with little room, if the image has no block, or fewer raw bytes than a full piece.
     #[inline(always)]
     fn write_to_memory<W: Writer>(&self, writer: &mut W) -> Result<usize>
         requires room { max_file_len self.now.header ≤ W.room writer.old }
         ensures { WritesImage W.wrote W.IsFault self.now writer.old writer.new result }
     {
-        if self.data.len() < FEW_BYTES {
-            return encode_few::<W, FEW_ROOM>(writer, self);
+        if self.data.len() < LEAST_BLOCK {
+            return encode_in_one_piece::<W, LEAST_ROOM>(writer, self);
         }
         if self.data.len() < FULL_ROOM - SPARE {
             return encode_file::<W, SMALL_ROOM>(writer, self);
@@ -282,11 +282,11 @@ impl<'a> Encoder<'a> {
         }
         let mut writer = BytesMut::new(buf);
         // Asked here first: each call that passes a `Result` on copies the room of an error.
-        if self.data.len() < FEW_BYTES {
-            return encode_few::<_, FEW_ROOM>(&mut writer, self);
+        if self.data.len() < LEAST_BLOCK {
+            return encode_in_one_piece::<_, LEAST_ROOM>(&mut writer, self);
         }
         if required <= TINY_ROOM - SPARE {
-            return encode_few::<_, TINY_ROOM>(&mut writer, self);
+            return encode_in_one_piece::<_, TINY_ROOM>(&mut writer, self);
         }
         self.write_to_memory(&mut writer)
     }
@@ -325,8 +325,8 @@ impl<'a> Encoder<'a> {
             × SendsPart self.now (W.contents writer.old) (W.contents writer.new)) }
     {
         let mut writer = GenericWriter::new(writer);
-        if self.data.len() < FEW_BYTES {
-            return encode_few::<_, FEW_ROOM>(&mut writer, self);
+        if self.data.len() < LEAST_BLOCK {
+            return encode_in_one_piece::<_, LEAST_ROOM>(&mut writer, self);
         }
         encode_file::<_, FULL_ROOM>(&mut writer, self)
     }

@@ -2,10 +2,10 @@
 pub mod BlockStep
 pub mod BlockWritten
 pub mod FourFours
-pub mod FullBlock
 pub mod LaneBytes
 pub mod LastCount
 pub mod PackedBlock
 pub mod ReadBlock
+pub mod RgbaBlock
 pub mod SpelledBlock
 pub mod StyledBytes

@@ -26,9 +26,9 @@ kept_bytes s = take s.end s.bytes.now
 
 -- the pixels that a coder puts at their index positions: the fresh ones, and in style Tight all of
 -- them
-abbrev pub held_in : Style → Past → Past
-held_in Tight past = past
-held_in style past = fresh past
+abbrev pub put_in : Style → Past → Past
+put_in Tight past = past
+put_in style past = fresh past
 
 -- the chunk of the single repeat that is left of a group of n, after runs of 62 and before a fresh
 -- pixel: from the index position of the repeated pixel, whether a fresh pixel came, and whether the
@@ -60,7 +60,7 @@ pub record Ahead (style : Style) (ahead : List ℕ) (past : Past) (before : Opti
 -- pixels that the style puts at their positions, that pixel, whether a fresh one came, and in style
 -- Places whether the chunk names the last pixel's position.
 pub record CoderAfter (style : Style) (past : Past) (before : Option Chunk) (table : List RgbaPixel) (last : LastPixel) : Type 0 where
-  pub table_is : Holds table (held_in style past)
+  pub table_is : Holds table (put_in style past)
   pub last_is : last.px ≡ previous past
   pub begun_is : last.begun ≡ some_fresh past
   pub placed_is : style ≡ Places → last.placed ≡ names before (hash (previous past))

@@ -110,11 +110,11 @@ pub record HasAhead {N F : ℕ} (input room : ℕ) (bytes out : List ℕ) (now :
   pub input_is : now.taken + input ≤ length bytes
   pub room_is : now.at + room ≤ length out
 
--- a loop over rows of so many short chunks and a full one may begin, and so many bytes stand ahead
-pub record CanLoop {N F : ℕ} (row input : ℕ) (bytes out : List ℕ) (now : Progress N F) : Type 0 where
-  pub row_is : (row ≡ 1) ⊎ (row ≡ 8)
+-- a loop that tests room for so many short chunks and a full one at once may begin, and so many bytes stand ahead
+pub record CanLoop {N F : ℕ} (at_once input : ℕ) (bytes out : List ℕ) (now : Progress N F) : Type 0 where
+  pub at_once_is : (at_once ≡ 1) ⊎ (at_once ≡ 8)
   pub input_is : INPUT_ROOM ≤ length bytes
-  pub room_is : 16 * row + 16 ≤ length out
+  pub room_is : 16 * at_once + 16 ≤ length out
   pub ahead : HasAhead input 0 bytes out now
 
 -- the first byte of an RGB or of an RGBA chunk
@@ -127,7 +127,7 @@ pub record IsAdvance (channels b size : ℕ) : Type 0 where
   pub run : run_tag ≤ b → b < rgb_tag → size ≡ channels * (b - (run_tag - 1))
   pub full : rgb_tag ≤ b → size ≡ channels
 
--- in a row of RGB chunks the pixel has the alpha of the one before the row
+-- in a series of RGB chunks the pixel has the alpha of the one before the series
 abbrev pub KeepsAlpha : ℕ → ℕ → ℕ → Type 0
 KeepsAlpha tag before now = tag ≡ rgb_tag → (pixel_of_lanes now).a ≡ (pixel_of_lanes before).a
 

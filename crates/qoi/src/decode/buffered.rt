@@ -6,12 +6,13 @@ ghost use Rattle.qoi.specs.inner.Chunks.{TakesMore, TakesChunks, RefusesFilling}
 ghost use Rattle.qoi.specs.inner.Filling.{IsFillable, filling};
 
 use crate::decode::chunks::Chunks;
-use crate::decode::fast::{OUTPUT_ROOM, Progress};
+use crate::decode::fast::OUTPUT_ROOM;
 use crate::decode::in_place::take_in_place;
 use crate::decode::output::RUN_ROOM;
 use crate::decode::reached::Reached;
 use crate::decode::reader::Buffered;
 use crate::decode::stream::{next_chunk, stream_marker};
+use crate::decode::stretches::fast_chunks;
 use crate::decode::table::TermTable;
 use crate::error::Result;
 use std::io;
@@ -39,7 +40,7 @@ fn chunks_in_buffer<R: BufRead, const N: usize, const F: usize>(
         return Ok(from);
     }
     let bytes = reader.fill_buf()?;
-    let now = Progress::<N, F>::fast_chunks::<false>(table, from, bytes, out);
+    let now = fast_chunks::<N, F, false>(table, from, bytes, out);
     reader.consume(now.taken);
     Ok(now.reached)
 }

@@ -1,6 +1,6 @@
 //! The loops over chunks in memory while input and output have room ahead: for eight short ones and
 //! a full one, which is tested once for all nine or, near the end of an output that goes on
-//! elsewhere, for one of each. `fast_chunks` and `chunks_ahead` of `blocks` enter them.
+//! elsewhere, for one of each. `fast_chunks` and `chunks_ahead` of `stretches` enter them.
 ghost use Rattle.std.specs.Prelude.{◌≡◌, ◌⊎◌, ◌↔◌, IsTrue, ◌+◌, ◌-◌, ◌*◌, ◌/◌, ◌<◌, ◌≤◌, ◌^◌, length};
 ghost use Rattle.qoi.specs.Qoi.{run_tag, rgb_tag};
 ghost use Rattle.qoi.specs.Raw.{IsChannels};
@@ -19,9 +19,9 @@ pub(super) const INPUT_ROOM: usize = 22;
 /// Bytes of room for the vectors of eight short chunks and of a full one.
 pub(super) const OUTPUT_ROOM: usize = 144;
 
-/// An output of fewer bytes that isn't the end of an image has room for few chunks: in memory, to
-/// enter the fast loop for them would take longer than to decode them with every test.
-pub(super) const FEW: usize = 528;
+/// An output of fewer bytes that isn't the end of an image is short: in memory, to enter the fast
+/// loop for its chunks would take longer than to decode them with every test.
+pub(super) const SHORT_OUTPUT: usize = 528;
 
 /// What the loop has between two chunks, in `N` channels of output, of a file of `F` channels: the
 /// last pixel, how many bytes are taken, where the output stopped, and the byte that comes next.
@@ -43,8 +43,8 @@ fn is_short<const N: usize>(b1: u8) -> bool
     b1 <= (QOI_OP_RUN - 1) + (16 / N) as u8
 }
 
-// Whether a run with this first byte has fewer bytes of pixels than there is room for. If the vectors
-// of any run have room, `long_run` asks no more.
+// Whether a run with this first byte has fewer bytes of pixels than there is room for. If the
+// vectors of any run have room, `long_run` asks no more.
 #[inline(always)]
 #[tactic(auto, using(crate::proofs::decoding::FastSteps::run_below))]
 fn leaves_room<const N: usize>(b1: u8, room: usize) -> bool
@@ -148,21 +148,21 @@ impl<const N: usize, const F: usize> Progress<N, F> {
         three.short_chunk::<3>(table, bytes, out).taken_further(4)
     }
 
-    // Decodes short chunks that follow each other, `ROW` at most: one or eight.
+    // Decodes short chunks that follow each other, `AT_ONCE` at most: one or eight.
     #[inline(always)]
-    fn short_row<const ROW: usize>(
+    fn short_series<const AT_ONCE: usize>(
         self,
         table: &mut TermTable,
         bytes: &[u8],
         out: &mut [u8],
     ) -> Self
-        requires row { (ROW ≡ 1) ⊎ (ROW ≡ 8) }
-        requires ahead { HasAhead 17 (16 * ROW) bytes.now out.old self }
-        ensures step { FastStep 0 16 (16 * ROW) bytes.now
+        requires at_once { (AT_ONCE ≡ 1) ⊎ (AT_ONCE ≡ 8) }
+        requires ahead { HasAhead 17 (16 * AT_ONCE) bytes.now out.old self }
+        ensures step { FastStep 0 16 (16 * AT_ONCE) bytes.now
             self.entry table.old out.old result table.new out.new }
         ensures some { result.next ≤ run_tag - 1 + 16 / N → self.entry.taken < result.taken }
     {
-        if ROW == 1 {
+        if AT_ONCE == 1 {
             return self.short_chunks::<1>(table, bytes, out);
         }
         let four = self.short_chunks::<4>(table, bytes, out);
@@ -172,9 +172,9 @@ impl<const N: usize, const F: usize> Progress<N, F> {
         four.short_chunks::<4>(table, bytes, out)
     }
 
-    // Decodes an RGB or RGBA chunk, without a jump between the two. The byte that comes next is one of
-    // two, which are loaded before it is known which. Not side by side: the compiler would load one
-    // byte, whose address waits.
+    // Decodes an RGB or RGBA chunk, without a jump between the two. The byte that comes next is one
+    // of two, which are loaded before it is known which. Not side by side: the compiler would load
+    // one byte, whose address waits.
     #[inline(always)]
     fn full_chunk(self, table: &mut TermTable, bytes: &[u8], out: &mut [u8]) -> Self
         requires ahead { HasAhead 6 16 bytes.now out.old self }
@@ -222,23 +222,23 @@ impl<const N: usize, const F: usize> Progress<N, F> {
         }
     }
 
-    /// Decodes chunks while input and output have room ahead for `ROW` short ones and a full one, up to
-    /// a run that has none.
+    /// Decodes chunks while input and output have room ahead for `AT_ONCE` short ones and a full
+    /// one, up to a run that has none.
     #[inline(always)]
-    pub(super) fn chunks_until<const ROW: usize>(
+    pub(super) fn chunks_until<const AT_ONCE: usize>(
         self,
         table: &mut TermTable,
         bytes: &[u8],
         out: &mut [u8],
     ) -> Self
-        requires { CanLoop ROW 1 bytes.now out.old self }
+        requires { CanLoop AT_ONCE 1 bytes.now out.old self }
         ensures { FastChunks bytes.now self.entry table.old out.old result table.new out.new }
     {
         let mut now = self.by_fields();
         let near = bytes.len() - INPUT_ROOM;
-        let top = out.len() - (VECTOR * ROW + VECTOR);
+        let top = out.len() - (VECTOR * AT_ONCE + VECTOR);
         while now.taken <= near && now.at <= top {
-            now = now.short_row::<ROW>(table, bytes, out);
+            now = now.short_series::<AT_ONCE>(table, bytes, out);
             if is_short::<N>(now.next) {
                 continue;
             }

@@ -1,5 +1,5 @@
-//! A piece of an image that is decoded in place: by the fast loop (`chunks_ahead` of `blocks`), near
-//! its end with room for one short chunk and a full one, up to a run that goes on past it.
+//! A piece of an image that is decoded in place: by the fast loop (`chunks_ahead` of `stretches`),
+//! near its end with room for one short chunk and a full one, up to a run that goes on past it.
 ghost use Rattle.std.specs.Prelude.{◌≡◌, ◌↔◌, IsTrue, false, ◌-◌, ◌*◌, ◌<◌, ◌≤◌, length, drop, Some};
 ghost use Rattle.qoi.specs.Qoi.{run_tag, rgb_tag};
 ghost use Rattle.qoi.specs.Raw.{IsChannels};
@@ -8,9 +8,10 @@ ghost use Rattle.qoi.specs.pieces.Unread.{TakesInPlace, IsInPlace};
 
 use crate::consts::{QOI_OP_RGB, QOI_OP_RUN};
 use crate::decode::deltas::advance;
-use crate::decode::fast::{INPUT_ROOM, OUTPUT_ROOM, Progress};
+use crate::decode::fast::{INPUT_ROOM, OUTPUT_ROOM};
 use crate::decode::output::store_exactly;
 use crate::decode::reached::{Decoded, Reached};
+use crate::decode::stretches::chunks_ahead;
 use crate::decode::table::TermTable;
 
 // Whether a chunk with this first byte is a run with at least so many bytes of pixels.
@@ -80,12 +81,12 @@ pub(super) fn take_in_place<const N: usize, const F: usize>(
     if bytes.len() < INPUT_ROOM || out.len() < OUTPUT_ROOM {
         return (none, 0);
     }
-    let front = Progress::<N, F>::chunks_ahead::<8>(table, none, bytes, out);
+    let front = chunks_ahead::<N, F, 8>(table, none, bytes, out);
     if is_run_to_end::<N>(bytes[front.taken], out.len() - front.reached.at) {
         // Not joined with the other way: what the loops return would be copied, and the copy
         // waits for the stores before it.
         return last_run::<N, F>(table, front, bytes, out);
     }
-    let near = Progress::<N, F>::chunks_ahead::<1>(table, front, bytes, out);
+    let near = chunks_ahead::<N, F, 1>(table, front, bytes, out);
     last_run::<N, F>(table, near, bytes, out)
 }

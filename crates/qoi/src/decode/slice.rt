@@ -8,13 +8,13 @@ ghost use Rattle.qoi.specs.inner.Filling.{IsFillable, filling};
 
 use crate::consts::{QOI_PADDING, QOI_PADDING_SIZE};
 use crate::decode::chunks::{Chunks, image_to_buf};
-use crate::decode::fast::Progress;
 use crate::decode::hashed::Hashed;
 use crate::decode::in_place::take_in_place;
 use crate::decode::one_chunk::decode_chunk;
 use crate::decode::output::RUN_ROOM;
 use crate::decode::reached::Reached;
 use crate::decode::reader::Bytes;
+use crate::decode::stretches::fast_chunks;
 use crate::decode::table::{SizedTerms, SmallTermTable, TermTable};
 use crate::error::{Error, Result};
 use std::simd::prelude::*;
@@ -32,8 +32,8 @@ struct Left<'a> {
 
 // Decodes chunks one by one, with every test, after what others reached: if `RUN_FITS`, where the
 // image goes on behind `out`, as long as any run's vectors have room there, else until it is full.
-// `None` if fewer than eight bytes are left before that: the file is cut, since its end marker alone
-// has eight.
+// `None` if fewer than eight bytes are left before that: the file is cut, since its end marker
+// alone has eight.
 #[inline(never)]
 fn careful_chunks<'a, const N: usize, const F: usize, const RUN_FITS: bool, const SIZE: usize>(
     table: &mut SizedTerms<SIZE>,
@@ -64,7 +64,7 @@ fn careful_chunks<'a, const N: usize, const F: usize, const RUN_FITS: bool, cons
     Some(Left { reached: now, rest })
 }
 
-// What `careful_chunks` decodes: first by `fast_chunks` of `blocks`, then by itself.
+// What `careful_chunks` decodes: first by `fast_chunks` of `stretches`, then by itself.
 #[inline(always)]
 fn slice_chunks<'a, const N: usize, const F: usize, const RUN_FITS: bool>(
     table: &mut TermTable,
@@ -80,7 +80,7 @@ fn slice_chunks<'a, const N: usize, const F: usize, const RUN_FITS: bool>(
         (Some «data».entry.now) (Some «data».entry.now)
         (filling table.old from out.old) Error.UnexpectedBufferEnd) }
 {
-    let now = Progress::<N, F>::fast_chunks::<RUN_FITS>(table, from, data, out);
+    let now = fast_chunks::<N, F, RUN_FITS>(table, from, data, out);
     let (_, rest) = data.split_at(now.taken);
     careful_chunks::<N, F, RUN_FITS, _>(table, now.reached, rest, out)
 }

@@ -24,10 +24,10 @@ mod storing;
 
 use crate::encode::block::lanes::{all_set, unset_bits, where_is};
 use crate::encode::block::planes::{Planes, Words, blanks, make_planes};
-use crate::encode::block::positions::{index_positions, put_block, read_places, store_places};
+use crate::encode::block::positions::{index_positions, put_block, read_indices, store_indices};
 use crate::encode::block::reading::first_sixteen;
 use crate::encode::block::single_repeats::name_single;
-use crate::encode::block::spelling::{Spelled, are_full, spell_block, spell_full};
+use crate::encode::block::spelling::{Spelled, are_all_rgba, spell_block, spell_rgba};
 use crate::encode::block::steps::{Changes, find_changes};
 use crate::encode::block::storing::store_sixteen;
 use crate::encode::carry::Carry;
@@ -39,8 +39,8 @@ use crate::packed::Packed;
 use crate::types::Style::{self, Places, Reference, Tight};
 use std::simd::prelude::*;
 
-/// Sixteen pixels, packed and in planes, the changes from the pixels before them, and the style that
-/// the loop is told.
+/// Sixteen pixels, packed and in planes, the changes from the pixels before them, and the style
+/// that the loop is told.
 #[derive(Clone, Copy)]
 pub(super) struct Block {
     pub(super) words: Words,
@@ -116,28 +116,28 @@ impl Block {
         table.at(0).is_same(Packed::blank()) & all_set(blanks(self.planes) | elsewhere)
     }
 
-    // The block's chunks. `stands` marks the pixels that stand at their index positions, `places`.
+    // The block's chunks. `stands` marks the pixels that stand at their index positions, `indices`.
     #[inline(always)]
-    fn spell<const N: usize, const STYLE: u8, const FULL: bool>(
+    fn spell<const N: usize, const STYLE: u8, const ALL_RGBA: bool>(
         self,
         stands: u8x16,
-        places: u8x16,
+        indices: u8x16,
         carry: Carry<N>,
     ) -> Spelled
         ensures { (s : State)
             → AreChanges (lanes_of s.held s.last (block_pixels self.words)) self.changes
             → s.carry ≡ carry.entry.count
             → (style_in STYLE self.style ≡ Places → s.placed ≡ carry.entry.placed)
-            → IsBlock s (block_pixels self.words) self.planes.r stands places
+            → IsBlock s (block_pixels self.words) self.planes.r stands indices
             → HasSpelled (style_in STYLE self.style) s (block_pixels self.words) result }
     {
-        if FULL && are_full(self.changes.steps.a, stands) {
-            return spell_full(self.changes.rep, self.planes.r);
+        if ALL_RGBA && are_all_rgba(self.changes.steps.a, stands) {
+            return spell_rgba(self.changes.rep, self.planes.r);
         }
-        let x = spell_block(self.changes, self.planes.r, stands, places, carry.count);
+        let x = spell_block(self.changes, self.planes.r, stands, indices, carry.count);
         match style_in::<STYLE>(self.style) {
             Reference | Tight => x,
-            Places => name_single(x, stands, places, carry.placed),
+            Places => name_single(x, stands, indices, carry.placed),
         }
     }
 
@@ -151,7 +151,8 @@ impl Block {
         ensures placed { (stood : List Bool) → style ≡ Places → stands ≡ map mask stood
             → result.placed ≡ slice_index_or stood (15 - result.count) false }
     {
-        // If the block doesn't repeat whole, at most fifteen are left: the remainder changes nothing.
+        // If the block doesn't repeat whole, at most fifteen are left: the remainder changes
+        // nothing.
         let count = x.count.to_array()[15] % 16;
         let placed = match style {
             Reference | Tight => false,
@@ -169,12 +170,18 @@ impl Block {
 /// what is carried then. Each loop that calls it has a function of its own, which the compiler
 /// inlines there.
 ///
-/// If `FULL`, an RGBA chunk is expected to give each pixel, and index positions are taken from the
-/// vector one by one. That takes longer than to read them back from memory, but then the table's
-/// stores keep pace with its reads: where a read runs ahead of a store to the same position, the
-/// processor does both and all after them again.
+/// If `ALL_RGBA`, an RGBA chunk is expected to give each pixel, and index positions are taken from
+/// the vector one by one. That takes longer than to read them back from memory, but then the
+/// table's stores keep pace with its reads: where a read runs ahead of a store to the same
+/// position, the processor does both and all after them again.
 #[inline]
-pub(super) fn write_block<'p, const N: usize, const STYLE: u8, const ROOM: usize, const FULL: bool>(
+pub(super) fn write_in_lanes<
+    'p,
+    const N: usize,
+    const STYLE: u8,
+    const ROOM: usize,
+    const ALL_RGBA: bool,
+>(
     table: &mut PixelTable,
     piece: OpenPiece<'p, ROOM>,
     block: Block,
@@ -191,12 +198,16 @@ pub(super) fn write_block<'p, const N: usize, const STYLE: u8, const ROOM: usize
 {
     let style = style_in::<STYLE>(block.style);
     let Piece { bytes, end } = piece.piece;
-    let places = index_positions(block.planes);
-    store_places::<ROOM, FULL>(places, bytes);
+    let indices = index_positions(block.planes);
+    store_indices::<ROOM, ALL_RGBA>(indices, bytes);
     carry.store_run(style, bytes, end);
-    let lanes = places.to_array();
-    let stands = put_block(table, read_places::<ROOM, FULL>(&lanes, bytes), block.words);
-    let x = block.spell::<N, STYLE, FULL>(stands, places, carry);
+    let lanes = indices.to_array();
+    let stands = put_block(
+        table,
+        read_indices::<ROOM, ALL_RGBA>(&lanes, bytes),
+        block.words,
+    );
+    let x = block.spell::<N, STYLE, ALL_RGBA>(stands, indices, carry);
     let start = carry.run_end(end, x.rep.to_array()[0]);
     let end = store_sixteen::<N>(bytes, start, x, block);
     (block.carry(style, x, stands), Piece { bytes, end })

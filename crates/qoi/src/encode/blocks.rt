@@ -9,19 +9,20 @@ ghost use Rattle.qoi.specs.inner.Coder.{pixels_in, WritesSome};
 
 use crate::consts::QOI_RUN_MAX;
 use crate::encode::block::planes::Planes;
-use crate::encode::block::{Block, write_block};
+use crate::encode::block::{Block, write_in_lanes};
 use crate::encode::carry::{Carry, FRONT_CARRIED};
 use crate::encode::coder::{Coder, LastPixel, style_in};
 use crate::encode::piece::{OpenPiece, Piece, REPEATS_AT_ONCE};
 use crate::encode::pixels::{FrontBlock, PixelOf, Pixels};
 use crate::encode::runs::repeats_of;
-use crate::encode::sparse::{goes_by_marks, write_marked};
+use crate::encode::sparse::{goes_by_marks, write_marked_pixels};
 use crate::encode::table::PixelTable;
 use crate::packed::Packed;
 use crate::types::Style::{self, Places, Reference, Tight};
 
-/// Whether the front goes by blocks: once a fresh pixel came or, except in style `Tight`, if no repeats
-/// wait and the next pixel is fresh; but not if over `FRONT_CARRIED` repeats wait and another follows.
+/// Whether the front goes by blocks: once a fresh pixel came or, except in style `Tight`, if no
+/// repeats wait and the next pixel is fresh; but not if over `FRONT_CARRIED` repeats wait and
+/// another follows.
 #[inline(always)]
 pub(super) fn goes_by_blocks<const N: usize>(style: Style, last: LastPixel, raw: Pixels<N>) -> bool
     requires some { 16 ≤ length (pixels_in raw) }
@@ -29,8 +30,8 @@ pub(super) fn goes_by_blocks<const N: usize>(style: Style, last: LastPixel, raw:
     ensures { IsTrue result
         → GoesByBlocks style last (length (pixels_in raw.entry)) (pixels_in raw.entry) }
 {
-    // In `Tight`, `write_front` may make a coder even of the first block's carry (`coder_after`), as
-    // after a fresh pixel.
+    // In `Tight`, `write_front_block` may make a coder even of the first block's carry
+    // (`coder_after`), as after a fresh pixel.
     let may_open = match style {
         Reference | Places => last.repeats == 0,
         Tight => false,
@@ -41,7 +42,8 @@ pub(super) fn goes_by_blocks<const N: usize>(style: Style, last: LastPixel, raw:
     (last.begun | may_open) && !raw.begin_with(last.px)
 }
 
-// Whether an RGBA chunk gives this pixel after the one before it: another alpha, and no index position.
+// Whether an RGBA chunk gives this pixel after the one before it: another alpha, and no index
+// position.
 #[inline(always)]
 fn is_rgba(table: &PixelTable, before: Packed, px: Packed) -> bool {
     px.a() != before.a() && !table.at(px.hash_index()).is_same(px)
@@ -50,10 +52,14 @@ fn is_rgba(table: &PixelTable, before: Packed, px: Packed) -> bool {
 // With fewer raw bytes, to ask whether they go by a loop of their own takes longer than it brings.
 const MANY_BYTES: usize = 1024;
 
-/// Whether RGBA chunks give the first three pixels, and so may give most of those that follow, if these
-/// are many.
+/// Whether RGBA chunks give the first three pixels, and so may give most of those that follow, if
+/// these are many.
 #[inline(always)]
-pub(super) fn begin_full<const N: usize>(table: &PixelTable, last: Packed, raw: Pixels<N>) -> bool
+pub(super) fn begin_with_rgba<const N: usize>(
+    table: &PixelTable,
+    last: Packed,
+    raw: Pixels<N>,
+) -> bool
     requires { 3 ≤ length (pixels_in raw) }
 {
     if N == 3 || raw.bytes.len() < MANY_BYTES {
@@ -64,8 +70,8 @@ pub(super) fn begin_full<const N: usize>(table: &PixelTable, last: Packed, raw: 
     is_rgba(table, last, one) && is_rgba(table, one, two) && is_rgba(table, two, third.first().px)
 }
 
-// What is carried after the coder's last pixel. `begun` isn't: a fresh pixel came, or the block opens
-// with one (`goes_by_blocks`).
+// What is carried after the coder's last pixel. `begun` isn't: a fresh pixel came, or the block
+// opens with one (`goes_by_blocks`).
 #[inline(always)]
 fn carried<const N: usize>(coder: &Coder<N>) -> Carry<N>
     ensures { IsCarried coder.now.last result }
@@ -123,7 +129,14 @@ fn write_full_runs<'a, 'p, const N: usize, const ROOM: usize>(
 // the fresh pixel after them, if in style `Tight` a pixel may be given by another index position
 // than its own. Returns the rest, and what is carried.
 #[inline(always)]
-fn write_front<'a, 'p, const N: usize, const STYLE: u8, const ROOM: usize, const FULL: bool>(
+fn write_front_block<
+    'a,
+    'p,
+    const N: usize,
+    const STYLE: u8,
+    const ROOM: usize,
+    const ALL_RGBA: bool,
+>(
     table: &mut PixelTable,
     piece: OpenPiece<'p, ROOM>,
     front: FrontBlock<'a, N>,
@@ -142,34 +155,33 @@ fn write_front<'a, 'p, const N: usize, const STYLE: u8, const ROOM: usize, const
     if goes_by_marks(marks, front, carry) {
         let mut piece = piece.piece;
         let mut coder = coder_after::<N>(style, carry);
-        let rest = write_marked(&mut coder, table, &mut piece, front, marks);
+        let rest = write_marked_pixels(&mut coder, table, &mut piece, front, marks);
         return (rest, carried(&coder), piece);
     }
     if block.may_miss_blank(style, table) {
         let mut piece = piece.piece;
         let mut coder = coder_after::<N>(style, carry);
-        let rest = coder.write_next(table, &mut piece, front.raw);
+        let rest = coder.write_next_group(table, &mut piece, front.raw);
         return (rest, carried(&coder), piece);
     }
-    let (after, piece) = write_block::<N, STYLE, ROOM, FULL>(table, piece, block, carry);
+    let (after, piece) = write_in_lanes::<N, STYLE, ROOM, ALL_RGBA>(table, piece, block, carry);
     (front.raw.skip(16), after, piece)
 }
 
-/// Writes by blocks until the piece is full or fewer pixels than a block has are left, whatever pixels
-/// come meanwhile. Returns the piece, and the rest.
+/// Writes by blocks until the piece is full or fewer pixels than a block has are left, whatever
+/// pixels come meanwhile. Returns the piece, and the rest.
 ///
-/// `Reference` has a loop of its own, and another if `FULL`: where an RGBA chunk is expected to give each
-/// pixel (`begin_full`). The other styles share one, which is told the style. The piece is a value, so
-/// that the compiler keeps its fields in registers. It isn't inlined: where both loops, with `FULL` and
-/// without, are one function, they are slower.
-#[inline(never)]
-pub(super) fn write_by_blocks<
+/// `Reference` has a loop of its own, and another if `ALL_RGBA`: where an RGBA chunk is expected to
+/// give each pixel (`begin_with_rgba`). The other styles share one, which is told the style. The
+/// piece is a value, so that the compiler keeps its fields in registers.
+#[inline(always)]
+pub(super) fn write_blocks<
     'a,
     'p,
     const N: usize,
     const STYLE: u8,
     const ROOM: usize,
-    const FULL: bool,
+    const ALL_RGBA: bool,
 >(
     last: &mut LastPixel,
     table: &mut PixelTable,
@@ -188,7 +200,7 @@ pub(super) fn write_by_blocks<
     let mut piece = piece.piece;
     let mut rest = raw;
     while !piece.is_full() && rest.has_block() {
-        (rest, carry, piece) = write_front::<N, STYLE, ROOM, FULL>(
+        (rest, carry, piece) = write_front_block::<N, STYLE, ROOM, ALL_RGBA>(
             table,
             piece.open(),
             rest.front_of(raw, front.style),
@@ -199,11 +211,10 @@ pub(super) fn write_by_blocks<
     (piece, rest.bytes)
 }
 
-/// Writes the repeats that wait, those at the front and the fresh pixel after them, by `write_next`.
-/// Returns the piece, and the rest. It isn't inlined: in one function with it the loop over blocks would
-/// be slower.
-#[inline(never)]
-pub(super) fn write_apart<'a, 'p, const N: usize, const ROOM: usize>(
+/// Writes the repeats that wait, those at the front and the fresh pixel after them, by
+/// `write_next_group`. Returns the piece, and the rest.
+#[inline(always)]
+pub(super) fn write_opening<'a, 'p, const N: usize, const ROOM: usize>(
     last: &mut LastPixel,
     table: &mut PixelTable,
     piece: OpenPiece<'p, ROOM>,
@@ -215,7 +226,7 @@ pub(super) fn write_apart<'a, 'p, const N: usize, const ROOM: usize>(
 {
     let mut piece = piece.piece;
     let mut coder = Coder::<N>::new(front.style, *last);
-    let rest = coder.write_next(table, &mut piece, front.raw);
+    let rest = coder.write_next_group(table, &mut piece, front.raw);
     *last = coder.last;
     (piece, rest.bytes)
 }

@@ -1,15 +1,17 @@
-//! The chunks of an image, through a piece to a writer (QOI specification 1.0, "Data"): all at once,
-//! or those of some raw bytes.
+//! The chunks of an image, through a piece to a writer (QOI specification 1.0, "Data"): all at
+//! once, or those of some raw bytes.
 ghost use Rattle.std.specs.Prelude.{◌≡◌, ℕ, ◌-◌, ◌*◌, ◌%◌, ◌<◌, ◌≤◌, List, length};
 ghost use Rattle.qoi.specs.Encoded.{max_file_len};
-ghost use Rattle.qoi.specs.inner.Sending.{IsNew, pixel_size, StaysIn, Between, GoesByPixels, FillsPiece, IsReady, WritesWhole, WritesImage};
-ghost use Rattle.qoi.specs.inner.Coder.{kept_bytes, CoderEnds, SPARE, FULL_ROOM};
+ghost use Rattle.qoi.specs.inner.Sending.{IsNew, EndsOpaque, pixel_size, StaysIn, Between, GoesByPixels, FillsPiece, IsReady, WritesWhole, WritesImage};
+ghost use Rattle.qoi.specs.inner.BlockLoop.{GoesByBlocks};
+ghost use Rattle.qoi.specs.Styles.{style_in};
+ghost use Rattle.qoi.specs.inner.Coder.{kept_bytes, pixels_in, CoderEnds, SPARE, FULL_ROOM};
 ghost use Rattle.qoi.specs.Raw.{pixels_of};
 
 use crate::encode::Encoder;
-use crate::encode::blocks::{begin_full, goes_by_blocks, write_apart, write_by_blocks};
+use crate::encode::blocks::{begin_with_rgba, goes_by_blocks, write_blocks, write_opening};
 use crate::encode::coder::{Coder, LastPixel};
-use crate::encode::piece::{FEW_ROOM, OpenPiece, Piece, TINY_ROOM};
+use crate::encode::piece::{LEAST_ROOM, OpenPiece, Piece, TINY_ROOM};
 use crate::encode::pixels::Pixels;
 use crate::encode::table::PixelTable;
 use crate::error::Result;
@@ -51,8 +53,53 @@ impl Pending {
     }
 }
 
-// `fill_piece` in `N` channels. A copy of the last pixel would wait until its parts, just stored, are in
-// the cache.
+// Fills a piece with the opening of these pixels, a block or more: the repeats that wait, those at
+// the front and the fresh pixel after them. It isn't inlined: in one function with it the loop over
+// blocks would be slower. Nor is it lent parts of what is pending, which would be stored for it.
+#[inline(never)]
+fn fill_with_opening<'a, 'p, const N: usize, const ROOM: usize>(
+    pending: &mut Pending,
+    piece: OpenPiece<'p, ROOM>,
+    raw: Pixels<'a, N>,
+) -> (Piece<'p, ROOM>, &'a [u8])
+    requires channels { pixel_size pending.old ≡ N }
+    requires opaque { EndsOpaque pending.old }
+    requires block { 16 ≤ length (pixels_in raw) }
+    ensures { FillsPiece pending.old piece.entry raw.entry.bytes.now pending.new result }
+{
+    let front = raw.front_of(raw, pending.style);
+    write_opening(&mut pending.last, &mut pending.table, piece, front)
+}
+
+// Fills a piece by blocks of these pixels, which go by blocks in this style (`style_in`). It isn't
+// inlined: where the loops, with `ALL_RGBA` and without, are one function, they are slower.
+#[inline(never)]
+fn fill_with_blocks<
+    'a,
+    'p,
+    const N: usize,
+    const STYLE: u8,
+    const ROOM: usize,
+    const ALL_RGBA: bool,
+>(
+    pending: &mut Pending,
+    piece: OpenPiece<'p, ROOM>,
+    raw: Pixels<'a, N>,
+) -> (Piece<'p, ROOM>, &'a [u8])
+    requires channels { pixel_size pending.old ≡ N }
+    requires opaque { EndsOpaque pending.old }
+    requires style { pending.old.style ≡ style_in STYLE pending.old.style }
+    requires block { 16 ≤ length (pixels_in raw) }
+    requires goes { GoesByBlocks (style_in STYLE pending.old.style) pending.old.last
+        (length (pixels_in raw)) (pixels_in raw) }
+    ensures { FillsPiece pending.old piece.entry raw.entry.bytes.now pending.new result }
+{
+    let front = raw.front_of(raw, pending.style);
+    write_blocks::<N, STYLE, ROOM, ALL_RGBA>(&mut pending.last, &mut pending.table, piece, front)
+}
+
+// `fill_piece` in `N` channels. A copy of the last pixel would wait until its parts, just stored,
+// are in the cache.
 #[inline(always)]
 fn fill_in_channels<'a, 'p, const N: usize, const ROOM: usize>(
     pending: &mut Pending,
@@ -64,29 +111,27 @@ fn fill_in_channels<'a, 'p, const N: usize, const ROOM: usize>(
     requires block { 16 * N ≤ length «data».now }
     ensures { FillsPiece pending.old piece.entry «data».entry.now pending.new result }
 {
-    let table = &mut pending.table;
-    let last = &mut pending.last;
     let raw = Pixels::<N>::new(data);
     let front = raw.front_of(raw, pending.style);
-    if !goes_by_blocks(front.style, *last, front.raw) {
-        return write_apart(last, table, piece, front);
+    if !goes_by_blocks(pending.style, pending.last, front.raw) {
+        return fill_with_opening(pending, piece, front.raw);
     }
-    match front.style {
+    match pending.style {
         Reference => {}
         Places | Tight => {
-            return write_by_blocks::<N, 1, ROOM, false>(last, table, piece, front);
+            return fill_with_blocks::<N, 1, ROOM, false>(pending, piece, front.raw);
         }
     }
     // A file in `TINY_ROOM` has too few pixels.
-    if ROOM != TINY_ROOM && begin_full(table, last.px, front.raw) {
-        return write_by_blocks::<N, 0, ROOM, true>(last, table, piece, front);
+    if ROOM != TINY_ROOM && begin_with_rgba(&pending.table, pending.last.px, front.raw) {
+        return fill_with_blocks::<N, 0, ROOM, true>(pending, piece, front.raw);
     }
-    write_by_blocks::<N, 0, ROOM, false>(last, table, piece, front)
+    fill_with_blocks::<N, 0, ROOM, false>(pending, piece, front.raw)
 }
 
-// Writes some whole pixels, a block or more, into the piece: blocks, until it is full or fewer pixels
-// than a block has are left; or the repeats and the fresh pixel at the front. Returns the piece, and the
-// rest. Which way is asked only here, so mostly once a piece.
+// Writes some whole pixels, a block or more, into the piece: blocks, until it is full or fewer
+// pixels than a block has are left; or the repeats and the fresh pixel at the front. Returns the
+// piece, and the rest. Which way is asked only here, so mostly once a piece.
 #[inline(always)]
 fn fill_piece<'a, 'p, const ROOM: usize>(
     pending: &mut Pending,
@@ -129,9 +174,9 @@ pub(super) fn write_pixels<'a, 'p, W: Writer, const ROOM: usize>(
     Ok((rest, piece))
 }
 
-// `write_left` in `N` channels.
+// `write_last_pixels` in `N` channels.
 #[inline(always)]
-fn write_rest<const N: usize, const ROOM: usize>(
+fn write_last_in_channels<const N: usize, const ROOM: usize>(
     mut coder: Coder<N>,
     table: &mut PixelTable,
     piece: &mut Piece<ROOM>,
@@ -143,17 +188,17 @@ fn write_rest<const N: usize, const ROOM: usize>(
     ensures { CoderEnds coder.entry table.old piece.old (pixels_of N left.now) piece.new }
 {
     let rest = Pixels::<N>::new(left);
-    if rest.is_empty() || ROOM == FEW_ROOM {
-        // As `Coder::write_few`, but inlined: it is little, or most of what is done.
-        coder.write_each(table, piece, rest);
+    if rest.is_empty() || ROOM == LEAST_ROOM {
+        // As `Coder::write_one_by_one_shared`, but inlined: it is little, or most of what is done.
+        coder.write_one_by_one(table, piece, rest);
     } else {
-        coder.write_few(table, piece, rest);
+        coder.write_one_by_one_shared(table, piece, rest);
     }
 }
 
 /// Writes the repeats that wait and an image's last pixels, fewer than a block has, into the piece.
 #[inline(always)]
-pub(super) fn write_left<const ROOM: usize>(
+pub(super) fn write_last_pixels<const ROOM: usize>(
     pending: &mut Pending,
     piece: &mut Piece<ROOM>,
     left: &[u8],
@@ -167,13 +212,13 @@ pub(super) fn write_left<const ROOM: usize>(
     let (style, last) = (pending.style, pending.last);
     let table = &mut pending.table;
     match pending.channels {
-        Rgb => write_rest::<3, ROOM>(Coder::new(style, last), table, piece, left),
-        Rgba => write_rest::<4, ROOM>(Coder::new(style, last), table, piece, left),
+        Rgb => write_last_in_channels::<3, ROOM>(Coder::new(style, last), table, piece, left),
+        Rgba => write_last_in_channels::<4, ROOM>(Coder::new(style, last), table, piece, left),
     }
 }
 
-/// Writes the file of an image, and returns how many bytes it has. They go through a piece with this
-/// room, which the writer is sent each time it is full.
+/// Writes the file of an image, and returns how many bytes it has. They go through a piece with
+/// this room, which the writer is sent each time it is full.
 pub(super) fn encode_file<W: Writer, const ROOM: usize>(
     writer: &mut W,
     encoder: &Encoder,
@@ -190,7 +235,7 @@ pub(super) fn encode_file<W: Writer, const ROOM: usize>(
     match write_pixels(writer, &mut pending, piece, encoder.data) {
         Ok((left, piece)) => {
             let mut piece = piece.piece;
-            write_left(&mut pending, &mut piece, left);
+            write_last_pixels(&mut pending, &mut piece, left);
             piece.finish(writer)?;
             Ok(room - writer.capacity())
         }
@@ -198,19 +243,19 @@ pub(super) fn encode_file<W: Writer, const ROOM: usize>(
     }
 }
 
-/// An image of fewer raw bytes has no block: fewer than sixteen pixels, of three channels or four.
-pub(super) const FEW_BYTES: usize = 48;
+/// The least block, sixteen pixels of three channels: an image of fewer raw bytes has none.
+pub(super) const LEAST_BLOCK: usize = 48;
 
 /// Writes the file of an image through one piece, which can hold all of it, and returns how many
-/// bytes it has. In `FEW_ROOM` images are below `FEW_BYTES`. It isn't in `encode_file`, which would
-/// clear its room too, and has no `Result` but the one returned: each takes a dozen stores.
-pub(super) fn encode_few<W: Writer, const ROOM: usize>(
+/// bytes it has. In `LEAST_ROOM` images are below `LEAST_BLOCK`. It isn't in `encode_file`, which
+/// would clear its room too, and has no `Result` but the one returned: each takes a dozen stores.
+pub(super) fn encode_in_one_piece<W: Writer, const ROOM: usize>(
     writer: &mut W,
     encoder: &Encoder,
 ) -> Result<usize>
-    requires piece { (FEW_ROOM ≤ ROOM) × (ROOM ≤ FULL_ROOM) }
-    requires few { ROOM ≡ FEW_ROOM → length encoder.now.raw < FEW_BYTES }
-    requires fits { FEW_ROOM < ROOM → max_file_len encoder.now.header ≤ ROOM - SPARE }
+    requires piece { (LEAST_ROOM ≤ ROOM) × (ROOM ≤ FULL_ROOM) }
+    requires few { ROOM ≡ LEAST_ROOM → length encoder.now.raw < LEAST_BLOCK }
+    requires fits { LEAST_ROOM < ROOM → max_file_len encoder.now.header ≤ ROOM - SPARE }
     requires room { max_file_len encoder.now.header ≤ W.room writer.old }
     ensures { WritesImage W.wrote W.IsFault encoder.now writer.old writer.new result }
 {
@@ -219,12 +264,14 @@ pub(super) fn encode_few<W: Writer, const ROOM: usize>(
     let mut pending = Pending::new(encoder.header.channels, encoder.style);
     let block = pending.block_size();
     let mut left = encoder.data;
-    // In `FEW_ROOM` the compiler needn't see that there is no block.
-    while ROOM != FEW_ROOM && left.len() >= block {
+    // In `LEAST_ROOM` the compiler needn't see that there is no block.
+    while ROOM != LEAST_ROOM && left.len() >= block {
         (piece, left) = fill_piece(&mut pending, piece.open(), left);
     }
-    write_left(&mut pending, &mut piece, left);
-    let end = piece.store_marker();
-    writer.write_many(piece.front(end))?;
+    // A copy, since this one is lent: so in the loop the piece stays in registers.
+    let mut last_piece = piece;
+    write_last_pixels(&mut pending, &mut last_piece, left);
+    let end = last_piece.store_marker();
+    writer.write_many(last_piece.front(end))?;
     Ok(end)
 }

@@ -28,10 +28,10 @@ pub(super) fn style_in<const STYLE: u8>(told: Style) -> Style
 }
 
 /// The last pixel that was written or repeated, `px`; `repeats`, how many repeats of it came that
-/// aren't written yet: fewer than a full run has; `begun`, whether a fresh pixel came, one that differs
-/// from the pixel before it; and `placed`, in style `Places` whether the chunk before those repeats
-/// names `px`'s index position. The count stands first: else the zeros of the start are stored in
-/// other widths than they are read in, which is slower.
+/// aren't written yet: fewer than a full run has; `begun`, whether a fresh pixel came, one that
+/// differs from the pixel before it; and `placed`, in style `Places` whether the chunk before those
+/// repeats names `px`'s index position. The count stands first: else the zeros of the start are
+/// stored in other widths than they are read in, which is slower.
 #[derive(Clone, Copy)]
 pub(super) struct LastPixel {
     pub(super) repeats: usize,
@@ -71,7 +71,7 @@ pub(super) struct Coder<const N: usize> {
 }
 
 impl<const N: usize> Coder<N> {
-    ghost use Rattle.qoi.specs.inner.Coder.{held_in, last_chunk, pixels_in, kept_bytes, CoderAfter, single_chunk, CoderBetween, CoderPasses, CoderEnds, SPARE, RUNS_AT_ONCE};
+    ghost use Rattle.qoi.specs.inner.Coder.{put_in, last_chunk, pixels_in, kept_bytes, CoderAfter, single_chunk, CoderBetween, CoderPasses, CoderEnds, SPARE, RUNS_AT_ONCE};
     ghost use Rattle.qoi.specs.inner.block.Storing.{chunk_of};
 
     /// The coder in this style, after this pixel.
@@ -130,9 +130,9 @@ impl<const N: usize> Coder<N> {
     fn chunk_if_absent(&self, table: &PixelTable, px: Packed, spelled: (u32, u32)) -> (u32, u32)
         ensures few { spelled.1 ≤ N + 1 → result.1 ≤ N + 1 }
         ensures choice { (past : Past) (alpha : ℕ) (c : Chunk)
-            → Holds table.now (held_in self.now.style past)
+            → Holds table.now (put_in self.now.style past)
             → IsChunk c → chunk_of spelled.1 spelled.0 alpha ≡ bytes_of c → IsFirst past px c
-            → seen (held_in self.now.style past) (hash px) ≢ px
+            → seen (put_in self.now.style past) (hash px) ≢ px
             → (d : Chunk) × IsChunk d × (chunk_of result.1 result.0 alpha ≡ bytes_of d)
             × choice_in self.now.style past px d }
     {
@@ -140,8 +140,8 @@ impl<const N: usize> Coder<N> {
             Reference | Places => spelled,
             Tight => {
                 if px.is_same(Packed::blank()) {
-                    if let Some(place) = table.first_blank() {
-                        return (u32::from(place), 1);
+                    if let Some(index) = table.first_blank() {
+                        return (u32::from(index), 1);
                     }
                 }
                 spelled
@@ -152,7 +152,7 @@ impl<const N: usize> Coder<N> {
     // Writes the fresh pixel `next`: by its index position if it stands there, else as
     // `chunk_if_absent` has it. Then puts it at its position, and it is the last pixel.
     #[inline(always)]
-    fn write_pixel<const ROOM: usize>(
+    fn write_fresh_pixel<const ROOM: usize>(
         &mut self,
         table: &mut PixelTable,
         piece: &mut Piece<ROOM>,
@@ -171,8 +171,8 @@ impl<const N: usize> Coder<N> {
             table.new self.new.last (kept_bytes piece.new) }
     {
         let px = next.px;
-        let place = px.hash_index();
-        let stands = table.at(place).is_same(px);
+        let index = px.hash_index();
+        let stands = table.at(index).is_same(px);
         let before = self.last.px;
         self.last = LastPixel {
             px,
@@ -186,8 +186,8 @@ impl<const N: usize> Coder<N> {
         };
         let spelled = spell_pixel::<N>(before, px);
         let (number, size) = self.chunk_if_absent(table, px, spelled);
-        table.put(place, px);
-        let number = pick(stands, u32::from(place), number);
+        table.put(index, px);
+        let number = pick(stands, u32::from(index), number);
         piece.append_chunk::<N>(px.number(), number, pick(stands, 1, size));
     }
 
@@ -235,8 +235,8 @@ impl<const N: usize> Coder<N> {
         ahead
     }
 
-    /// Writes the repeats that came before these pixels and the first `ahead`, which repeat, too, as
-    /// one run, and the fresh pixel after them. Returns the rest.
+    /// Writes the repeats that came before these pixels and the first `ahead`, which repeat, too,
+    /// as one run, and the fresh pixel after them. Returns the rest.
     #[inline(always)]
     pub(super) fn write_short_group<'a, const ROOM: usize>(
         &mut self,
@@ -262,14 +262,14 @@ impl<const N: usize> Coder<N> {
         piece.append_run(count, self.single_repeat_byte(count));
         self.update_after_repeats(table, count, 0);
         let after = raw.skip(ahead);
-        self.write_pixel(table, piece, after.first());
+        self.write_fresh_pixel(table, piece, after.first());
         after.skip(1)
     }
 
     /// Writes the repeats that came before these pixels, those at their front, and the fresh pixel
     /// after them; but if none is left or over 992 repeat, only full runs. Returns the rest.
     #[inline(always)]
-    pub(super) fn write_next<'a, const ROOM: usize>(
+    pub(super) fn write_next_group<'a, const ROOM: usize>(
         &mut self,
         table: &mut PixelTable,
         piece: &mut Piece<ROOM>,
@@ -292,13 +292,14 @@ impl<const N: usize> Coder<N> {
         if after.is_empty() || after.begin_with(self.last.px) {
             return after;
         }
-        self.write_pixel(table, piece, after.first());
+        self.write_fresh_pixel(table, piece, after.first());
         after.skip(1)
     }
 
-    /// `write_each` as a function of its own, which all images of these channels and this room share.
+    /// `write_one_by_one` as a function of its own, which all images of these channels and this
+    /// room share.
     #[inline(never)]
-    pub(super) fn write_few<const ROOM: usize>(
+    pub(super) fn write_one_by_one_shared<const ROOM: usize>(
         &mut self,
         table: &mut PixelTable,
         piece: &mut Piece<ROOM>,
@@ -308,13 +309,13 @@ impl<const N: usize> Coder<N> {
         requires not_full { piece.old.end < ROOM - SPARE }
         ensures { CoderEnds self.old table.old piece.old (pixels_in raw.entry) piece.new }
     {
-        self.write_each(table, piece, raw);
+        self.write_one_by_one(table, piece, raw);
     }
 
     /// Writes the repeats that came before, and an image's last pixels, fewer than a block has, one
     /// by one.
     #[inline(always)]
-    pub(super) fn write_each<const ROOM: usize>(
+    pub(super) fn write_one_by_one<const ROOM: usize>(
         &mut self,
         table: &mut PixelTable,
         piece: &mut Piece<ROOM>,
@@ -326,7 +327,7 @@ impl<const N: usize> Coder<N> {
     {
         let mut rest = raw;
         while !rest.is_empty() {
-            rest = self.write_next(table, piece, rest);
+            rest = self.write_next_group(table, piece, rest);
         }
         // No fresh pixel follows, so that a single one is a run in each style.
         piece.append_run(self.last.repeats, QOI_OP_RUN);

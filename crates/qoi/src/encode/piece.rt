@@ -31,8 +31,8 @@ pub(super) const SMALL_ROOM: usize = 512 + SPARE;
 /// The room of a piece of 128 bytes, which hold the whole file of a tiny image.
 pub(super) const TINY_ROOM: usize = 128 + SPARE;
 
-/// The room for the file of an image below `FEW_BYTES` raw bytes: header, chunks and end marker.
-pub(super) const FEW_ROOM: usize = 16 + SPARE;
+/// The room for the file of an image below `LEAST_BLOCK` raw bytes: header, chunks and end marker.
+pub(super) const LEAST_ROOM: usize = 16 + SPARE;
 
 /// The most runs that are kept at a time, stored at once as a vector.
 pub(super) const RUNS_AT_ONCE: usize = 16;

@@ -10,14 +10,14 @@ ghost use Rattle.qoi.specs.EncoderState.{EncoderState};
 ghost use Rattle.qoi.specs.inner.Sending.{pixel_size, EndsOpaque};
 ghost use Rattle.qoi.specs.pieces.PixelWriter.{WriterState, HasTaken, HasFailed, RefusesRaw, SendsSome, and_raw, raw_left};
 
-mod kept;
 mod sending;
+mod workspace;
 
 use crate::consts::QOI_HEADER_SIZE;
 use crate::encode::chunks::Pending;
 use crate::encode::piece::FULL_ROOM;
-use crate::encode::pixel_writer::kept::{Held, Kept};
-use crate::encode::pixel_writer::sending::{send_bytes, take_raw, write_held};
+use crate::encode::pixel_writer::sending::{send_bytes, take_raw, write_end};
+use crate::encode::pixel_writer::workspace::{Held, Workspace};
 use crate::error::{Error, Result};
 use crate::header::Header;
 use crate::types::Style;
@@ -47,7 +47,7 @@ pub struct PixelWriter<W> {
     header: Header,
     left: usize,
     failed: bool,
-    kept: Box<Kept>,
+    workspace: Box<Workspace>,
 }
 
 impl<W> Model for PixelWriter<W> {
@@ -56,16 +56,16 @@ impl<W> Model for PixelWriter<W> {
     ghost view = { λ p. record {
       writer = p.writer;
       header = p.header;
-      style = p.kept.value.pending.style;
+      style = p.workspace.value.pending.style;
       left = p.left;
       failed = p.failed;
-      held = p.kept.value.held;
-      pending = p.kept.value.pending;
+      held = p.workspace.value.held;
+      pending = p.workspace.value.pending;
     } };
 
     ghost invariant = { λ p. IsValid p.header × (p.left ≤ image_byte_count p.header)
-        × (p.failed ≡ false → EndsOpaque p.kept.value.pending
-        × ((length p.kept.value.held + p.left) % pixel_size p.kept.value.pending ≡ 0)) };
+        × (p.failed ≡ false → EndsOpaque p.workspace.value.pending
+        × ((length p.workspace.value.held + p.left) % pixel_size p.workspace.value.pending ≡ 0)) };
 }
 
 impl<W: Write + Drop> PixelWriter<W> {
@@ -87,19 +87,19 @@ impl<W: Write + Drop> PixelWriter<W> {
             header.channels,
             header.colorspace,
         )?;
-        let kept = Kept {
+        let workspace = Workspace {
             pending: Pending::new(header.channels, style),
             held: Held::new(),
             piece_bytes: [0; FULL_ROOM],
         };
-        let kept = Box::new(alloc, kept)?;
+        let workspace = Box::new(alloc, workspace)?;
         send_bytes(&mut writer, &header.encode()[..QOI_HEADER_SIZE])?;
         Ok(PixelWriter {
             writer,
             header,
             left: header.n_bytes(),
             failed: false,
-            kept,
+            workspace,
         })
     }
 
@@ -120,7 +120,7 @@ impl<W: Write + Drop> PixelWriter<W> {
             → HasTaken W.contents e before self.now ⊎ HasFailed W.contents e before self.now
             → result ≡ e.style }
     {
-        self.kept.pending.style
+        self.workspace.pending.style
     }
 
     /// How many raw bytes of the image haven't come yet.
@@ -140,9 +140,9 @@ impl<W: Write + Drop> PixelWriter<W> {
     /// Repeats whose run may go on aren't sent yet. It doesn't flush.
     ///
     /// `InvalidImageLength`, with the number of all bytes that came, if there are more than the
-    /// image has; then none of them is taken, and nothing is sent. `IoError` if the writer reports a
-    /// fault or takes no byte; then a beginning of the file was sent, `left` is as before, and each
-    /// further `write`, and `finish`, sends nothing and refuses with an `IoError`.
+    /// image has; then none of them is taken, and nothing is sent. `IoError` if the writer reports
+    /// a fault or takes no byte; then a beginning of the file was sent, `left` is as before, and
+    /// each further `write`, and `finish`, sends nothing and refuses with an `IoError`.
     #[tactic(auto, unfolding(crate::specs::pieces::PixelWriter::HasTaken))]
     pub fn write(&mut self, raw: &[u8]) -> Result<()>
         // A success: these raw bytes came, too.
@@ -175,11 +175,11 @@ impl<W: Write + Drop> PixelWriter<W> {
         }
         // It stays set if a fault ends the call.
         self.failed = true;
-        let kept = &mut *self.kept;
-        if kept.held.takes(raw.len()) {
-            kept.held.push(raw);
+        let workspace = &mut *self.workspace;
+        if workspace.held.takes(raw.len()) {
+            workspace.held.push(raw);
         } else {
-            take_raw(&mut self.writer, kept, raw)?;
+            take_raw(&mut self.writer, workspace, raw)?;
         }
         self.failed = false;
         self.left -= raw.len();
@@ -232,8 +232,8 @@ impl<W: Write + Drop> PixelWriter<W> {
         Ok(pixels.writer)
     }
 
-    // Sends the rest of the file. It is apart from `finish`, whose contract can't say what became of
-    // a writer that is dropped.
+    // Sends the rest of the file. It is apart from `finish`, whose contract can't say what became
+    // of a writer that is dropped.
     #[tactic(auto, unfolding(crate::specs::pieces::PixelWriter::HasTaken))]
     fn send_rest(&mut self) -> Result<()>
         ensures sent { (e : EncoderState) (before : Option (List ℕ))
@@ -262,8 +262,8 @@ impl<W: Write + Drop> PixelWriter<W> {
         }
         // It stays set: no call follows.
         self.failed = true;
-        let kept = &mut *self.kept;
-        write_held(&mut self.writer, kept)
+        let workspace = &mut *self.workspace;
+        write_end(&mut self.writer, workspace)
     }
 
     /// The writer as it stands: with a beginning of the file behind what it had.

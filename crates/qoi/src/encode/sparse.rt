@@ -13,7 +13,7 @@ use crate::encode::table::PixelTable;
 
 // Whether at most two bits are set: each step drops the lowest.
 #[inline(always)]
-fn are_few(marks: u64) -> bool {
+fn are_two_at_most(marks: u64) -> bool {
     let others = marks & marks.wrapping_sub(1);
     others & others.wrapping_sub(1) == 0
 }
@@ -31,17 +31,17 @@ pub(super) fn goes_by_marks<const N: usize>(
     ensures later { IsTrue result
         → length (pixels_in front.entry.raw) < length (pixels_in front.entry.whole) }
 {
-    if N == 3 || !are_few(marks) {
+    if N == 3 || !are_two_at_most(marks) {
         return false;
     }
     let joins = (usize::from(carry.count) <= FRONT_CARRIED) | (marks % 2 == 1);
     joins && front.raw.bytes.len() < front.whole.bytes.len()
 }
 
-/// Writes the repeats that came before a block and its pixels, of which `marks` has a bit for each fresh
-/// one, but for the repeats at its end. Returns the pixels after the block.
+/// Writes the repeats that came before a block and its pixels, of which `marks` has a bit for each
+/// fresh one, but for the repeats at its end. Returns the pixels after the block.
 #[inline(always)]
-pub(super) fn write_marked<'a, const N: usize, const ROOM: usize>(
+pub(super) fn write_marked_pixels<'a, const N: usize, const ROOM: usize>(
     coder: &mut Coder<N>,
     table: &mut PixelTable,
     piece: &mut Piece<ROOM>,

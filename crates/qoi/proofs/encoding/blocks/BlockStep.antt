@@ -50,7 +50,7 @@ spelled_anew style s p ps x e h = record {
   second_is = h.second_is;
   size_is = h.size_is;
   count_is = h.count_is ∙ counts_anew s.carry (pixel_eq p s.last) (map is_rep (lanes_of (p ∷ s.held) p ps)) e;
-  full_is = h.full_is;
+  rgba_is = h.rgba_is;
 }
 
 -- The repeats before the block are written, if a fresh pixel follows them: the state from which its

@@ -8,7 +8,7 @@ use Rattle.qoi.specs.Qoi.{Chunk, Place, Run, RgbaPixel, IsPixel, Past, previous,
 use Rattle.qoi.specs.Runs.{runs_by}
 use Rattle.qoi.specs.Written.{fresh, IsFirst}
 use Rattle.qoi.specs.Styles.{Style, Reference, Places, Tight, some_fresh, names, choice_in}
-use Rattle.qoi.specs.inner.Coder.{held_in, single_chunk, last_chunk, Ahead}
+use Rattle.qoi.specs.inner.Coder.{put_in, single_chunk, last_chunk, Ahead}
 use Rattle.qoi.proofs.format.SamePixels.{pixel_eq-true, pixel_eq-from, pixel_eq-ne, hash_below, cases_pixel}
 use Rattle.qoi.proofs.format.SeenTable.{seen_copies, put_again}
 use Rattle.qoi.proofs.encoding.lists.NotedPixels.{fresh_repeat, fresh_more, seen_same}
@@ -43,7 +43,7 @@ pub record Carrying (begun : Bool) (style : Style) (ahead : List ℕ) (s : State
   pub last_is : previous past ≡ s.last
   pub begun_is : some_fresh past ≡ begun
   pub opens : begun ≡ false → (s.carry ≡ 0) × (slice_get rest 0 ≢ Some s.last)
-  pub held_is : (i : ℕ) → seen s.held i ≡ seen (held_in style past) i
+  pub held_is : (i : ℕ) → seen s.held i ≡ seen (put_in style past) i
   pub placed_is : s.placed ≡ names before (hash s.last)
 
 -- A group of fewer than 62 repeats is written, before a fresh pixel.
@@ -84,7 +84,7 @@ fresh_first (p ∷ past) b = go (fresh_first past) (cases_pixel p (previous past
     go before (inr n) = ap (λ x. seen x (hash p)) (fresh_more past p n) ∙ seen_same (fresh past) p (hash p) refl
 
 -- so in each style the last pixel stands at its position
-stands_there : (style : Style) (past : Past) → some_fresh past ≡ true → seen (held_in style past) (hash (previous past)) ≡ previous past
+stands_there : (style : Style) (past : Past) → some_fresh past ≡ true → seen (put_in style past) (hash (previous past)) ≡ previous past
 stands_there Tight past b = seen_last past b
 stands_there style past b = fresh_first past b
 
@@ -94,7 +94,7 @@ still_begun n past b = ap (list_any (λ p. true)) (fresh_repeats n past) ∙ b
 
 -- repeats change nothing that is seen
 pub repeats_held : (style : Style) (n : ℕ) (past : Past) → some_fresh past ≡ true → (i : ℕ)
-    → seen (held_in style (replicate n (previous past) ++ past)) i ≡ seen (held_in style past) i
+    → seen (put_in style (replicate n (previous past) ++ past)) i ≡ seen (put_in style past) i
 repeats_held Reference n past b i = ap (λ x. seen x i) (fresh_repeats n past)
 repeats_held Places n past b i = ap (λ x. seen x i) (fresh_repeats n past)
 repeats_held Tight zero past b i = refl
@@ -110,7 +110,7 @@ put_same p xs ys same i = ap (λ z. if hash p == i then p else z) (same i)
 
 -- how a fresh pixel that isn't at its position is given, if it isn't transparent black in style
 -- Tight
-chosen : (style : Style) (past : Past) (p : RgbaPixel) (c : Chunk) → IsFirst past p c → seen (held_in style past) (hash p) ≢ p → (style ≡ Tight → p ≢ blank)
+chosen : (style : Style) (past : Past) (p : RgbaPixel) (c : Chunk) → IsFirst past p c → seen (put_in style past) (hash p) ≢ p → (style ≡ Tight → p ≢ blank)
     → choice_in style past p c
 chosen Reference past p c first differs none = spelled_out Reference past p c (inl refl) first differs
 chosen Places past p c first differs none = spelled_out Places past p c (inr refl) first differs
@@ -169,7 +169,7 @@ module _ {begun : Bool} {style : Style} {ahead : List ℕ} (s : State) (p : Rgba
         last_is = refl;
         begun_is = fresh_begun c.past p differs;
         opens = λ no. absurd (true≢false no);
-        held_is = λ i. put_same p s.held (held_in style c.past) c.held_is i ∙ ap (λ x. seen x i) (sym (fresh_held_in style c.past p differs));
+        held_is = λ i. put_same p s.held (put_in style c.past) c.held_is i ∙ ap (λ x. seen x i) (sym (fresh_held_in style c.past p differs));
         placed_is = named;
       }
 

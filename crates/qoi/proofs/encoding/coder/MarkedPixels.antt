@@ -90,11 +90,6 @@ pub get_drop : (n : ℕ) (ps : List RgbaPixel) → slice_get (drop n ps) 0 ≡ s
 get_drop (suc n) (p ∷ ps) = get_drop n ps
 get_drop n ps = refl
 
--- the last of several copies
-last_copy : (n : ℕ) (q : RgbaPixel) (rest : List RgbaPixel) → slice_get (replicate (suc n) q ++ rest) n ≡ Some q
-last_copy zero q rest = refl
-last_copy (suc n) q rest = last_copy n q rest
-
 -- what stands among the first m
 get_take : (n m : ℕ) (ps : List RgbaPixel) → n < m → slice_get (take m ps) n ≡ slice_get ps n
 get_take n zero ps l = absurd (omega (arith, l))

@@ -31,9 +31,9 @@ sixteen_chunks ss words alphas =
     ++ (four_chunks ss words.three alphas 8 ++ four_chunks ss words.four alphas 12))
 
 -- the bytes of RGBA chunks that give these pixels
-abbrev pub full_bytes : List RgbaPixel → List ℕ
-full_bytes [] = []
-full_bytes (p ∷ ps) = 255 ∷ p.r ∷ p.g ∷ p.b ∷ p.a ∷ full_bytes ps
+abbrev pub rgba_bytes : List RgbaPixel → List ℕ
+rgba_bytes [] = []
+rgba_bytes (p ∷ ps) = 255 ∷ p.r ∷ p.g ∷ p.b ∷ p.a ∷ rgba_bytes ps
 
 -- four numbers whose lowest bytes are those of chunks, whatever their sizes
 pub record HoldChunks (ns numbers alphas : List ℕ) : Type 0 where

@@ -45,8 +45,8 @@ pub record AreChanges (ls : List Lane) (x : Changes) : Type 0 where
 -- isn't. `f` is the byte otherwise, and `q` is whether the pixel before the lane stands at its
 -- position.
 abbrev pub named_in : Style → Bool → Bool → ℕ → ℕ → ℕ → ℕ
-named_in Places rep q place n f = min f (bit_or place (255 - bit_and (bit_and (mask rep) (mask (n == 1))) (255 - mask q)))
-named_in style rep q place n f = f
+named_in Places rep q index n f = min f (bit_or index (255 - bit_and (bit_and (mask rep) (mask (n == 1))) (255 - mask q)))
+named_in style rep q index n f = f
 
 -- the first byte of a lane, by whether it is a repeat, the n-th of its group: that of a run
 abbrev pub first_in : Style → Bool → Bool → Lane → ℕ → ℕ
@@ -75,21 +75,21 @@ pub record IsMost (xs : List ℕ) (w k m : ℕ) : Type 0 where
   pub one_of : (m ≡ 0) ⊎ ((j : ℕ) × (j ≤ k) × (m ≡ slice_index xs j))
 
 -- the pixel has another alpha than the one before it, and doesn't stand at its index position
-abbrev pub is_full : Lane → Bool
-is_full l = not (same_alpha l || l.stands)
+abbrev pub is_rgba : Lane → Bool
+is_rgba l = not (same_alpha l || l.stands)
 
 -- so are all of these
-abbrev pub AreFull : List Lane → Type 0
-AreFull ls = IsTrue (list_all is_full ls)
+abbrev pub AreAllRgba : List Lane → Type 0
+AreAllRgba ls = IsTrue (list_all is_rgba ls)
 
 -- A block's pixels after the last one of the state: red of each, which of them stand at their index
 -- positions, and these positions.
-pub record IsBlock (s : State) (ps : List RgbaPixel) (red stands places : List ℕ) : Type 0 where
+pub record IsBlock (s : State) (ps : List RgbaPixel) (red stands indices : List ℕ) : Type 0 where
   pub sixteen : AreSixteen ps
   pub last_is : IsPixel s.last
   pub red_is : red ≡ map (λ (p : RgbaPixel). p.r) ps
   pub stands_are : stands ≡ map mask (stand_tests s.held ps)
-  pub places_are : places ≡ map hash ps
+  pub indices_are : indices ≡ map hash ps
 
 -- Which of a block's pixels repeat, first and second bytes in a style, sizes and counted repeats; and
 -- whether an RGBA chunk is known to give each.
@@ -99,7 +99,7 @@ pub record HasSpelled (style : Style) (s : State) (ps : List RgbaPixel) (x : Spe
   pub second_is : x.second ≡ map second_of (lanes_of s.held s.last ps)
   pub size_is : x.size ≡ sizes (lanes_of s.held s.last ps)
   pub count_is : x.count ≡ counts s.carry (map is_rep (lanes_of s.held s.last ps))
-  pub full_is : IsTrue x.full → AreFull (lanes_of s.held s.last ps)
+  pub rgba_is : IsTrue x.all_rgba → AreAllRgba (lanes_of s.held s.last ps)
 
 -- from whatever the table holds, no fresh pixel is transparent black that isn't at its position
 abbrev pub MissesNoBlank : List RgbaPixel → Planes → List RgbaPixel → Type 0

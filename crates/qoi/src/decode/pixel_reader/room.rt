@@ -37,9 +37,9 @@ pub(super) fn kept_room(size: usize, done: usize) -> usize
     }
 }
 
-/// Decodes chunks into the first `size` bytes of `out`, by the reader's `some_chunks`. The part of the
-/// array is taken here: where a part of a field is lent, no fact ties it to the field.
-pub(super) fn front_of_image<R: Chunks<N, F>, const N: usize, const F: usize>(
+/// Decodes chunks into the first `size` bytes of `out`, by the reader's `some_chunks`. The part of
+/// the array is taken here: where a part of a field is lent, no fact ties it to the field.
+pub(super) fn keep_front_of_image<R: Chunks<N, F>, const N: usize, const F: usize>(
     reader: &mut R,
     table: &mut TermTable,
     last: Hashed,
@@ -60,9 +60,9 @@ pub(super) fn front_of_image<R: Chunks<N, F>, const N: usize, const F: usize>(
     reader.some_chunks(table, Reached { last, at: 0 }, &mut out[..size])
 }
 
-/// Decodes the rest of an image into the first `size` bytes of `out`, and takes the end marker, by the
-/// reader's method of this name.
-pub(super) fn rest_of_image<R: Chunks<N, F>, const N: usize, const F: usize>(
+/// Decodes the rest of an image into the first `size` bytes of `out`, and takes the end marker, by
+/// the reader's method of this name.
+pub(super) fn keep_rest_of_image<R: Chunks<N, F>, const N: usize, const F: usize>(
     reader: &mut R,
     table: &mut TermTable,
     last: Hashed,

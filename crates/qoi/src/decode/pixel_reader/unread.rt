@@ -1,5 +1,5 @@
-//! What is unread of an image, and the loops that decode it piece by piece: what is decoded before a
-//! caller asks for it is kept.
+//! What is unread of an image, and the loops that decode it piece by piece: what is decoded before
+//! a caller asks for it is kept.
 ghost use Rattle.std.specs.Prelude.{◌≡◌, ℕ, ◌+◌, ◌-◌, ◌*◌, ◌%◌, ◌^◌, ◌<◌, ◌≤◌, List, [], length, min, Option, Some, IfOk, OnOk, IfSome, None};
 ghost use Rattle.qoi.specs.Raw.{IsChannels};
 ghost use Rattle.qoi.specs.declared.decode.output.TheConstants.{RUN_ROOM};
@@ -9,16 +9,16 @@ use crate::decode::chunks::Chunks;
 use crate::decode::hashed::Hashed;
 use crate::decode::output::{RUN_ROOM, store_run};
 use crate::decode::pixel_reader::room::{
-    DECODED_AHEAD, IN_PLACE, front_of_image, kept_room, rest_of_image,
+    DECODED_AHEAD, IN_PLACE, keep_front_of_image, keep_rest_of_image, kept_room,
 };
 use crate::decode::reached::Reached;
 use crate::decode::table::TermTable;
 use crate::error::Error;
 
-/// What is unread of an image: the decoded `bytes` from `from` to `to`, and `undecoded` raw bytes, of
-/// which the first `run` are copies of the last pixel, the rest of its run. While some are undecoded,
-/// table and last pixel are those behind all chunks so far. After a refusal its error stands in
-/// `fault`, until it is returned.
+/// What is unread of an image: the decoded `bytes` from `from` to `to`, and `undecoded` raw bytes,
+/// of which the first `run` are copies of the last pixel, the rest of its run. While some are
+/// undecoded, table and last pixel are those behind all chunks so far. After a refusal its error
+/// stands in `fault`, until it is returned.
 #[derive(Drop)]
 pub struct Unread {
     pub(super) table: TermTable,
@@ -173,9 +173,10 @@ impl Unread {
         self.give(out)
     }
 
-    // Gives the rest of a run and, if `out` isn't short and 256 bytes of the image follow it (so that
-    // any run ends in the image), the chunks behind the run that stand in memory (else `long_piece`
-    // may). Returns how many bytes, and keeps what has no room of a run; one may go on past the piece.
+    // Gives the rest of a run and, if `out` isn't short and 256 bytes of the image follow it (so
+    // that any run ends in the image), the chunks behind the run that stand in memory (else
+    // `long_piece` may). Returns how many bytes, and keeps what has no room of a run; one may go on
+    // past the piece.
     #[inline(always)]
     fn piece_front<R: Chunks<N, F>, const N: usize, const F: usize>(
         &mut self,
@@ -264,7 +265,7 @@ impl Unread {
     {
         self.from = 0;
         if DECODED_AHEAD < self.undecoded {
-            let front = front_of_image::<R, N, F>(
+            let front = keep_front_of_image::<R, N, F>(
                 reader,
                 &mut self.table,
                 self.last,
@@ -281,7 +282,7 @@ impl Unread {
             return Ok(());
         }
         let size = self.undecoded;
-        let rest = rest_of_image::<R, N, F>(
+        let rest = keep_rest_of_image::<R, N, F>(
             reader,
             &mut self.table,
             self.last,
@@ -296,8 +297,8 @@ impl Unread {
         Ok(())
     }
 
-    /// Decodes an image's next bytes, while none are kept. Returns how many are in `out`, maybe none;
-    /// what it lacks, and more, is kept.
+    /// Decodes an image's next bytes, while none are kept. Returns how many are in `out`, maybe
+    /// none; what it lacks, and more, is kept.
     pub(in crate::decode) fn decode_more<R: Chunks<N, F>, const N: usize, const F: usize>(
         &mut self,
         reader: &mut R,

@@ -124,13 +124,21 @@ pub(in crate::encode) fn make_planes<const N: usize>(w: Words) -> Planes
     }
 }
 
-/// The packed pixels of planes, the inverse of `make_planes`.
+/// Four vectors lane by lane: each lane's four bytes as a number, that of the first one lowest. Of
+/// the planes of pixels it would make the packed pixels.
 #[inline(always)]
-pub(in crate::encode) fn make_words(p: Planes) -> Words
-    ensures { (ps : List RgbaPixel) → AreSixteen ps → ArePlanes ps p → AreBlockWords ps result }
+pub(in crate::encode) fn join_lanes(
+    first: u8x16,
+    second: u8x16,
+    third: u8x16,
+    fourth: u8x16,
+) -> Words
+    ensures { (ps : List RgbaPixel) → AreSixteen ps
+        → ArePlanes ps (record { r = first; g = second; b = third; a = fourth })
+        → AreBlockWords ps result }
 {
-    let (x0, x1) = p.r.interleave(p.g);
-    let (y0, y1) = p.b.interleave(p.a);
+    let (x0, x1) = first.interleave(second);
+    let (y0, y1) = third.interleave(fourth);
     let n0: u8x16 = x0.shuffle(y0, [0, 1, 16, 17, 2, 3, 18, 19, 4, 5, 20, 21, 6, 7, 22, 23]);
     let n1: u8x16 = x0.shuffle(
         y0,

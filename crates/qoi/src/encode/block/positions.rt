@@ -25,35 +25,38 @@ pub(in crate::encode) fn index_positions(p: Planes) -> u8x16
 }
 
 /// Stores index positions in the last sixteen bytes of `out`, which has `ROOM` bytes, but not if
-/// `FULL`. To read a position from there is faster than to take it from the vector. The compiler
-/// would take it from the vector, but for the byte that is stored in between (`Carry::store_run`):
-/// for all it knows, that is one of these.
+/// `ALL_RGBA`. To read a position from there is faster than to take it from the vector. The
+/// compiler would take it from the vector, but for the byte that is stored in between
+/// (`Carry::store_run`): for all it knows, that is one of these.
 #[inline(always)]
-pub(in crate::encode) fn store_places<const ROOM: usize, const FULL: bool>(v: u8x16, out: &mut [u8])
+pub(in crate::encode) fn store_indices<const ROOM: usize, const ALL_RGBA: bool>(
+    v: u8x16,
+    out: &mut [u8],
+)
     requires size { length out.old ≡ ROOM }
     requires room { 16 ≤ ROOM }
     ensures same { length out.new ≡ length out.old }
     ensures front { take (ROOM - 16) out.new ≡ take (ROOM - 16) out.old }
-    ensures lanes { FULL ≡ false → drop (ROOM - 16) out.new ≡ v }
+    ensures lanes { ALL_RGBA ≡ false → drop (ROOM - 16) out.new ≡ v }
 {
-    if FULL {
+    if ALL_RGBA {
         return;
     }
     v.copy_to_slice(&mut out[ROOM - 16..]);
 }
 
-/// The index positions `lanes`, as `store_places` stored them in `out`, if it did.
+/// The index positions `lanes`, as `store_indices` stored them in `out`, if it did.
 #[inline(always)]
-pub(in crate::encode) fn read_places<'a, const ROOM: usize, const FULL: bool>(
+pub(in crate::encode) fn read_indices<'a, const ROOM: usize, const ALL_RGBA: bool>(
     lanes: &'a [u8; 16],
     out: &'a [u8],
 ) -> &'a [u8]
     requires size { length out.now ≡ ROOM }
     requires room { 16 ≤ ROOM }
-    requires stored { FULL ≡ false → drop (ROOM - 16) out.now ≡ lanes.now }
+    requires stored { ALL_RGBA ≡ false → drop (ROOM - 16) out.now ≡ lanes.now }
     ensures { result.now ≡ lanes.now }
 {
-    if FULL {
+    if ALL_RGBA {
         return lanes;
     }
     &out[ROOM - 16..]
@@ -83,19 +86,19 @@ fn one_of_four(a: u8x16, b: u8x16, c: u8x16, d: u8x16) -> u8x16
     low.shuffle(high, [0, 1, 2, 3, 4, 5, 6, 7, 8, 9, 10, 11, 12, 13, 14, 15])
 }
 
-/// Puts sixteen packed pixels at their index positions, `places`, one after the other. Returns which
-/// of them stood there already: 255 or 0.
+/// Puts sixteen packed pixels at their index positions, `indices`, one after the other. Returns
+/// which of them stood there already: 255 or 0.
 #[inline(always)]
-pub(in crate::encode) fn put_block(table: &mut PixelTable, places: &[u8], w: Words) -> u8x16
-    requires long { length places.now ≡ 16 }
-    requires below { (k : ℕ) → k < 16 → slice_index places.now k < 64 }
+pub(in crate::encode) fn put_block(table: &mut PixelTable, indices: &[u8], w: Words) -> u8x16
+    requires long { length indices.now ≡ 16 }
+    requires below { (k : ℕ) → k < 16 → slice_index indices.now k < 64 }
     ensures { (held : Past) (ps : List RgbaPixel) → Holds table.old held → AreSixteen ps
-        → AreBlockWords ps w → places.now ≡ map hash ps → HasPutBlock held ps result table.new }
+        → AreBlockWords ps w → indices.now ≡ map hash ps → HasPutBlock held ps result table.new }
 {
-    let one = table.swap_four(places, 0, w.one.to_array());
-    let two = table.swap_four(places, 4, w.two.to_array());
-    let three = table.swap_four(places, 8, w.three.to_array());
-    let four = table.swap_four(places, 12, w.four.to_array());
+    let one = table.swap_four(indices, 0, w.one.to_array());
+    let two = table.swap_four(indices, 4, w.two.to_array());
+    let three = table.swap_four(indices, 8, w.three.to_array());
+    let four = table.swap_four(indices, 12, w.four.to_array());
     one_of_four(
         equal(u32x4::from_array(one), w.one),
         equal(u32x4::from_array(two), w.two),

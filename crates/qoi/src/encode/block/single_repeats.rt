@@ -28,16 +28,16 @@ fn stood(placed: bool, stands: u8x16) -> u8x16
 pub(in crate::encode) fn name_single(
     x: Spelled,
     stands: u8x16,
-    places: u8x16,
+    indices: u8x16,
     placed: bool,
 ) -> Spelled
     ensures { (s : State) (ps : List RgbaPixel) → AreSixteen ps → s.placed ≡ placed
-        → stands ≡ map mask (stand_tests s.held ps) → places ≡ map hash ps
+        → stands ≡ map mask (stand_tests s.held ps) → indices ≡ map hash ps
         → HasSpelled Reference s ps x → HasSpelled Places s ps result }
 {
     let singles = x.rep & where_is(x.count, 1) & !stood(placed, stands);
     Spelled {
-        first: lesser(x.first, places | !singles),
+        first: lesser(x.first, indices | !singles),
         ..x
     }
 }

@@ -1,10 +1,11 @@
 //! The chunks of sixteen pixels, a lane for each: first and second bytes, and sizes (QOI
-//! specification 1.0, "Chunks"). A repeat has a run's byte, and size 0 unless a fresh pixel follows.
+//! specification 1.0, "Chunks"). A repeat has a run's byte, and size 0 unless a fresh pixel
+//! follows.
 ghost use Rattle.std.specs.Prelude.{◌≡◌, ◌<◌, ◌%◌, ℕ, slice_index, Bool, List, map, IsTrue};
 ghost use Rattle.qoi.specs.Qoi.{RgbaPixel, IsPixel, run_max, hash, bytes_of};
 ghost use Rattle.qoi.specs.WrittenList.{diff_of};
 ghost use Rattle.qoi.specs.Styles.{Style, Reference};
-ghost use Rattle.qoi.specs.inner.block.Vectors.{firsts_in, sizes, counts, AreFull, AreBy, AreMasks, ArePlanesBy, AreFits, AreChanges, IsBlock, HasSpelled};
+ghost use Rattle.qoi.specs.inner.block.Vectors.{firsts_in, sizes, counts, AreAllRgba, AreBy, AreMasks, ArePlanesBy, AreFits, AreChanges, IsBlock, HasSpelled};
 ghost use Rattle.qoi.specs.inner.block.Lanes.{Lane, mask, step_of, as_diff, as_luma, same_alpha, fits_luma, first_of, second_of, size_of, State, lanes_of, is_rep};
 ghost use Rattle.qoi.specs.inner.block.Planes.{AreSixteen};
 
@@ -23,8 +24,8 @@ pub(in crate::encode) struct Fits {
 }
 
 /// Of each of sixteen pixels: whether it repeats, 255 or 0; its chunk's first byte, the second one,
-/// if it has one, and its size; and how many repeats end with it. `full`, whether it is known that an
-/// RGBA chunk gives each.
+/// if it has one, and its size; and how many repeats end with it. `all_rgba`, whether it is known
+/// that an RGBA chunk gives each.
 #[derive(Clone, Copy)]
 pub(in crate::encode) struct Spelled {
     pub(in crate::encode) rep: u8x16,
@@ -32,7 +33,7 @@ pub(in crate::encode) struct Spelled {
     pub(in crate::encode) second: u8x16,
     pub(in crate::encode) size: u8x16,
     pub(in crate::encode) count: u8x16,
-    pub(in crate::encode) full: bool,
+    pub(in crate::encode) all_rgba: bool,
 }
 
 // Steps as a difference chunk has them: with 2 added.
@@ -92,14 +93,14 @@ fn diffs(steps: Planes) -> u8x16
 // The first byte of each fresh pixel's chunk: as numbers, index position, difference, luma, RGB and
 // RGBA stand in this order, so it is the least that applies.
 #[inline(always)]
-fn first_bytes(diff: Planes, luma: Planes, fits: Fits, places: u8x16, stands: u8x16) -> u8x16
+fn first_bytes(diff: Planes, luma: Planes, fits: Fits, indices: u8x16, stands: u8x16) -> u8x16
     ensures { (ls : List Lane) → ArePlanesBy ls as_diff diff → ArePlanesBy ls as_luma luma
-        → AreFits ls fits → AreBy ls (λ l. hash l.px) places
+        → AreFits ls fits → AreBy ls (λ l. hash l.px) indices
         → AreMasks ls (λ l. l.stands) stands → AreBy ls first_of result }
 {
     let rgb_or_rgba = u8x16::splat(0xff) + fits.same_alpha;
     let first = lesser((luma.g + u8x16::splat(0x80)) | !fits.luma, rgb_or_rgba);
-    lesser(lesser(first, diffs(diff) | !fits.diff), places | !stands)
+    lesser(lesser(first, diffs(diff) | !fits.diff), indices | !stands)
 }
 
 // The second byte: that of a luma, or red.
@@ -159,12 +160,12 @@ pub(in crate::encode) fn spell_block(
     changes: Changes,
     red: u8x16,
     stands: u8x16,
-    places: u8x16,
+    indices: u8x16,
     carry: u8,
 ) -> Spelled
     requires { carry < run_max }
     ensures { (s : State) (ps : List RgbaPixel) → s.carry ≡ carry
-        → AreChanges (lanes_of s.held s.last ps) changes → IsBlock s ps red stands places
+        → AreChanges (lanes_of s.held s.last ps) changes → IsBlock s ps red stands indices
         → HasSpelled Reference s ps result }
 {
     let rep = changes.rep;
@@ -172,7 +173,7 @@ pub(in crate::encode) fn spell_block(
     let as_diff = diff_steps(changes.steps);
     let as_luma = luma_steps(changes.steps);
     let fits = find_fits(as_diff, as_luma, same_alpha);
-    let first = first_bytes(as_diff, as_luma, fits, places, stands);
+    let first = first_bytes(as_diff, as_luma, fits, indices, stands);
     let count = count_repeats(rep, carry);
     Spelled {
         rep,
@@ -180,27 +181,27 @@ pub(in crate::encode) fn spell_block(
         second: second_bytes(as_luma, red, fits.luma),
         size: with_none(sizes_of(fits, stands), rep),
         count,
-        full: false,
+        all_rgba: false,
     }
 }
 
 /// Whether an RGBA chunk gives each pixel: its alpha changes, and it doesn't stand at its index
 /// position.
 #[inline(always)]
-pub(in crate::encode) fn are_full(alpha: u8x16, stands: u8x16) -> bool
+pub(in crate::encode) fn are_all_rgba(alpha: u8x16, stands: u8x16) -> bool
     ensures { (ls : List Lane) → AreBy ls (λ l. (step_of l).a) alpha
-        → AreMasks ls (λ l. l.stands) stands → IsTrue result → AreFull ls }
+        → AreMasks ls (λ l. l.stands) stands → IsTrue result → AreAllRgba ls }
 {
     all_set(!(where_is(alpha, 0) | stands))
 }
 
-/// Spells out sixteen such pixels. They are constants but for the red that is passed, and for `rep`,
-/// of which no lane is set.
+/// Spells out sixteen such pixels. They are constants but for the red that is passed, and for
+/// `rep`, of which no lane is set.
 #[inline(always)]
-pub(in crate::encode) fn spell_full(rep: u8x16, red: u8x16) -> Spelled
+pub(in crate::encode) fn spell_rgba(rep: u8x16, red: u8x16) -> Spelled
     ensures { (style : Style) (s : State) (ps : List RgbaPixel) → AreSixteen ps → IsPixel s.last
         → rep ≡ map (λ l. mask (is_rep l)) (lanes_of s.held s.last ps)
-        → red ≡ map (λ (p : RgbaPixel). p.r) ps → AreFull (lanes_of s.held s.last ps)
+        → red ≡ map (λ (p : RgbaPixel). p.r) ps → AreAllRgba (lanes_of s.held s.last ps)
         → HasSpelled style s ps result }
 {
     Spelled {
@@ -209,6 +210,6 @@ pub(in crate::encode) fn spell_full(rep: u8x16, red: u8x16) -> Spelled
         second: red,
         size: u8x16::splat(5),
         count: u8x16::splat(0),
-        full: true,
+        all_rgba: true,
     }
 }

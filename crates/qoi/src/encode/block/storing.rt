@@ -8,15 +8,15 @@ ghost use Rattle.qoi.specs.inner.block.Vectors.{HasSpelled};
 ghost use Rattle.qoi.specs.inner.block.Lanes.{State, block_bytes};
 
 mod each;
-mod full;
+mod rgba;
 mod shuffled;
 
 use crate::encode::block::Block;
 use crate::encode::block::lanes::{all_set, where_is};
-use crate::encode::block::planes::{Planes, make_words};
+use crate::encode::block::planes::join_lanes;
 use crate::encode::block::spelling::Spelled;
 use crate::encode::block::storing::each::store_each;
-use crate::encode::block::storing::full::store_full;
+use crate::encode::block::storing::rgba::store_rgba;
 use crate::encode::block::storing::shuffled::store_shuffled;
 use std::simd::prelude::*;
 
@@ -47,17 +47,12 @@ pub(in crate::encode) fn store_sixteen<const N: usize>(
         → ((k : ℕ) → slice_index x.size k ≤ N + 1)
         → take result out.new ≡ take at out.old ++ block_bytes style s (block_pixels block.words) }
 {
-    if x.full {
-        return store_full(out, at, block.words);
+    if x.all_rgba {
+        return store_rgba(out, at, block.words);
     }
     let p = block.planes;
     // A lane's four bytes: the first, the second (a luma's, or red), green and blue.
-    let words = make_words(Planes {
-        r: x.first,
-        g: x.second,
-        b: p.g,
-        a: p.b,
-    });
+    let words = join_lanes(x.first, x.second, p.g, p.b);
     if are_short::<N>(x.size) {
         store_shuffled(out, at, x.size, words)
     } else {

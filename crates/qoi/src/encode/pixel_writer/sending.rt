@@ -1,17 +1,17 @@
-//! The chunks of an image whose raw bytes come in several calls, through the encoder's `Piece`, which
-//! holds bytes of the file, to a writer (QOI specification 1.0, "Data").
+//! The chunks of an image whose raw bytes come in several calls, through the encoder's `Piece`,
+//! which holds bytes of the file, to a writer (QOI specification 1.0, "Data").
 ghost use Rattle.std.specs.Prelude.{◌≡◌, ◌⊎◌, ◌+◌, ◌*◌, ◌<◌, ◌≤◌, [], ◌++◌, length, IfOk, IfErr, OnOk};
 ghost use Rattle.qoi.specs.Errors.{IsIoError};
 ghost use Rattle.qoi.specs.Qoi.{pixels_max};
-ghost use Rattle.qoi.specs.declared.encode.pixel_writer.kept.TheConstants.{HELD_MOST};
+ghost use Rattle.qoi.specs.declared.encode.pixel_writer.workspace.TheConstants.{HELD_MOST};
 ghost use Rattle.qoi.specs.Writers.{AppendsBeginning};
 ghost use Rattle.std.specs.Io.KnownBytes.{Appends};
 ghost use Rattle.qoi.specs.inner.Sending.{appended, EndsOpaque, StaysIn, GoesByPixels, IsReady, WritesWhole, GoesOnOrBreaks, EndsWith};
 ghost use Rattle.qoi.specs.inner.Coder.{kept_bytes, FULL_ROOM};
 
-use crate::encode::chunks::{Pending, write_left, write_pixels};
+use crate::encode::chunks::{Pending, write_last_pixels, write_pixels};
 use crate::encode::piece::{FULL_ROOM, OpenPiece, Piece};
-use crate::encode::pixel_writer::kept::{Held, Kept};
+use crate::encode::pixel_writer::workspace::{Held, Workspace};
 use crate::error::Result;
 use crate::utils::copy_after;
 use crate::writers::{GenericWriter, Writer};
@@ -31,10 +31,10 @@ pub(super) fn send_bytes<W: Write>(writer: &mut W, bytes: &[u8]) -> Result<()>
 }
 
 // If raw bytes are held, writes them and as many of `raw` as their last block needs, else whole
-// pixels of `raw`. Holds the pixels that are left, fewer than a block has (even of whole blocks some
-// may be, since not all ways go by sixteen), and returns the rest.
+// pixels of `raw`. Holds the pixels that are left, fewer than a block has (even of whole blocks
+// some may be, since not all ways go by sixteen), and returns the rest.
 #[inline(always)]
-fn write_more<'a, 'p, W: Writer>(
+fn write_held_or_raw<'a, 'p, W: Writer>(
     writer: &mut W,
     pending: &mut Pending,
     held: &mut Held,
@@ -71,36 +71,46 @@ fn write_more<'a, 'p, W: Writer>(
 
 /// Encodes what was held, then raw bytes until `Held` takes the rest, and sends the piece.
 #[inline(never)]
-pub(super) fn take_raw<W: Write>(writer: &mut W, kept: &mut Kept, raw: &[u8]) -> Result<()>
-    requires opaque { EndsOpaque kept.old.pending }
-    requires most { length kept.old.held + length raw.now ≤ 5 * pixels_max }
-    ensures stays { StaysIn kept.old.pending kept.new.pending }
+pub(super) fn take_raw<W: Write>(
+    writer: &mut W,
+    workspace: &mut Workspace,
+    raw: &[u8],
+) -> Result<()>
+    requires opaque { EndsOpaque workspace.old.pending }
+    requires most { length workspace.old.held + length raw.now ≤ 5 * pixels_max }
+    ensures stays { StaysIn workspace.old.pending workspace.new.pending }
     ensures written { GoesOnOrBreaks appended
-        (W.contents writer.old) kept.old.pending [] (kept.old.held ++ raw.now) IsIoError
-        (W.contents writer.new) kept.new.pending (λ _. []) (λ _. kept.new.held) result }
+        (W.contents writer.old) workspace.old.pending [] (workspace.old.held ++ raw.now) IsIoError
+        (W.contents writer.new) workspace.new.pending (λ _. []) (λ _. workspace.new.held) result }
 {
-    let mut piece = Piece::<FULL_ROOM>::new(&mut kept.piece_bytes).open();
+    let mut piece = Piece::<FULL_ROOM>::new(&mut workspace.piece_bytes).open();
     let mut rest = raw;
-    while !kept.held.takes(rest.len()) {
+    while !workspace.held.takes(rest.len()) {
         let mut stream = GenericWriter::new(writer);
-        (rest, piece) = write_more(&mut stream, &mut kept.pending, &mut kept.held, piece, rest)?;
+        (rest, piece) = write_held_or_raw(
+            &mut stream,
+            &mut workspace.pending,
+            &mut workspace.held,
+            piece,
+            rest,
+        )?;
     }
-    kept.held.push(rest);
+    workspace.held.push(rest);
     send_bytes(writer, piece.piece.front(piece.piece.end))?;
     Ok(())
 }
 
 /// Writes an image's last raw bytes, which were held, and the end marker.
-pub(super) fn write_held<W: Write>(writer: &mut W, kept: &mut Kept) -> Result<()>
-    requires { GoesByPixels kept.old.pending kept.old.held }
-    ensures { EndsWith appended IsIoError (W.contents writer.old) kept.old.pending []
-        kept.old.held (W.contents writer.new) result }
+pub(super) fn write_end<W: Write>(writer: &mut W, workspace: &mut Workspace) -> Result<()>
+    requires { GoesByPixels workspace.old.pending workspace.old.held }
+    ensures { EndsWith appended IsIoError (W.contents writer.old) workspace.old.pending []
+        workspace.old.held (W.contents writer.new) result }
 {
-    let pending = &mut kept.pending;
-    let piece = Piece::<FULL_ROOM>::new(&mut kept.piece_bytes).open();
+    let pending = &mut workspace.pending;
+    let piece = Piece::<FULL_ROOM>::new(&mut workspace.piece_bytes).open();
     let mut stream = GenericWriter::new(writer);
-    let (left, piece) = write_pixels(&mut stream, pending, piece, kept.held.bytes())?;
+    let (left, piece) = write_pixels(&mut stream, pending, piece, workspace.held.bytes())?;
     let mut last_piece = piece.piece;
-    write_left(pending, &mut last_piece, left);
+    write_last_pixels(pending, &mut last_piece, left);
     last_piece.finish(&mut stream)
 }

@@ -15,21 +15,21 @@ returns-clause-encoded c = let w = c.write_to_memory.ensures in MatchResult-weak
     puts_file _ w.0 old _ n file r.0 (search rules)
     (omega (arith, r.0, file.is_file.fits, c.if-buf-required.false, c.required_buf_len-required.ensures))) (λ _ _. tt)
 
-pub returns-then-self-lt-FEW_BYTES-clause-encoded : goal.returns-then-self-lt-FEW_BYTES-clause-encoded
-returns-then-self-lt-FEW_BYTES-clause-encoded c = let w = c.encode_few.ensures in MatchResult-weaker c.encode_few.result w.2 (λ n r.
+pub returns-then-self-lt-LEAST_BLOCK-clause-encoded : goal.returns-then-self-lt-LEAST_BLOCK-clause-encoded
+returns-then-self-lt-LEAST_BLOCK-clause-encoded c = let w = c.encode_in_one_piece.ensures in MatchResult-weaker c.encode_in_one_piece.result w.2 (λ n r.
     let old = c.args.buf.now in
     let new = c.new-writer.ensures in
-    let filled = buffer_filled c.new-writer.result c.encode_few.new.writer old w.0 n new.written new.left r.1 r.0 in
+    let filled = buffer_filled c.new-writer.result c.encode_in_one_piece.new.writer old w.0 n new.written new.left r.1 r.0 in
     let named = r.1.same_writer in
     let file = w.1 in
     puts_file _ w.0 old _ n file r.0 (search rules)
     (omega (arith, r.0, file.is_file.fits, c.if-buf-required.false, c.required_buf_len-required.ensures))) (λ _ _. tt)
 
 pub returns-then-required-clause-encoded : goal.returns-then-required-clause-encoded
-returns-then-required-clause-encoded c = let w = c.encode_few-then-required.ensures in MatchResult-weaker c.encode_few-then-required.result w.2 (λ n r.
+returns-then-required-clause-encoded c = let w = c.encode_in_one_piece-then-required.ensures in MatchResult-weaker c.encode_in_one_piece-then-required.result w.2 (λ n r.
     let old = c.args.buf.now in
     let new = c.new-writer.ensures in
-    let filled = buffer_filled c.new-writer.result c.encode_few-then-required.new.writer old w.0 n new.written new.left r.1 r.0 in
+    let filled = buffer_filled c.new-writer.result c.encode_in_one_piece-then-required.new.writer old w.0 n new.written new.left r.1 r.0 in
     let named = r.1.same_writer in
     let file = w.1 in
     puts_file _ w.0 old _ n file r.0 (search rules)

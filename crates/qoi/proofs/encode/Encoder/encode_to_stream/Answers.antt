@@ -11,8 +11,8 @@ returns-clause-sent g c = let w = c.encode_file.ensures in MatchResult-weaker c.
     let same = r.1.same_writer in
     sends_file _ w.0 _ _ _ w.1 r.0 (search rules)) (λ _ _. tt)
 
-pub returns-then-self-lt-FEW_BYTES-clause-sent : goal.returns-then-self-lt-FEW_BYTES-clause-sent
-returns-then-self-lt-FEW_BYTES-clause-sent g c = let w = c.encode_few.ensures in MatchResult-weaker c.encode_few.result w.2 (λ n r.
-    let sent = appends_as g.W.Write.contents (g.W.Write.contents c.encode_few.new.writer.writer.now) w.0 c.new-writer.ensures.value r.1.appended in
+pub returns-then-self-lt-LEAST_BLOCK-clause-sent : goal.returns-then-self-lt-LEAST_BLOCK-clause-sent
+returns-then-self-lt-LEAST_BLOCK-clause-sent g c = let w = c.encode_in_one_piece.ensures in MatchResult-weaker c.encode_in_one_piece.result w.2 (λ n r.
+    let sent = appends_as g.W.Write.contents (g.W.Write.contents c.encode_in_one_piece.new.writer.writer.now) w.0 c.new-writer.ensures.value r.1.appended in
     let same = r.1.same_writer in
     sends_file _ w.0 _ _ _ w.1 r.0 (search rules)) (λ _ _. tt)

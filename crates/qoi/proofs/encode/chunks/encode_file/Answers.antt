@@ -50,9 +50,9 @@ write_pixels-requires g c =
 
 pub finish-requires : goal.finish-requires
 finish-requires g c =
-    let last = c.write_left.new.piece in
+    let last = c.write_last_pixels.new.piece in
     let ready = c.in-Ok.ensures.written.1.2 in
-    (omega arith, (omega (arith, kept_length last, room_end ready c.write_left.ensures (omega (arith, kept_length last, last.within))), ready.large))
+    (omega arith, (omega (arith, kept_length last, room_end ready c.write_last_pixels.ensures (omega (arith, kept_length last, last.within))), ready.large))
 
 pub returns-in_err-finish-in-Ok : goal.returns-in_err-finish-in-Ok
 returns-in_err-finish-in-Ok g c =
@@ -60,20 +60,20 @@ returns-in_err-finish-in-Ok g c =
     let both = g.met.W.Writer.laws.both in
     let r = c.in_err-finish-in-Ok.ensures.refused in
     writes g here _ _ (handed_on _ _ _ c.from_residual.ensures.1
-    (r.0, image_ends (begins_after both) (starts g here) (then_ends both c.in-Ok.ensures.written.0 (begins_after both) (all_sent c.write_left.ensures r.1))))
+    (r.0, image_ends (begins_after both) (starts g here) (then_ends both c.in-Ok.ensures.written.0 (begins_after both) (all_sent c.write_last_pixels.ensures r.1))))
 
 pub overflow_sub-result : goal.overflow_sub-result
 overflow_sub-result g c =
     let here = (goal.at.overflow_sub-result g c).After-new-pending in
     let both = g.met.W.Writer.laws.both in
-    let went = image_ends both (starts g here) (then_ends both c.in-Ok.ensures.written.0 both (all_sent c.write_left.ensures c.in_ok-finish-in-Ok.ensures.written)) in
+    let went = image_ends both (starts g here) (then_ends both c.in-Ok.ensures.written.0 both (all_sent c.write_last_pixels.ensures c.in_ok-finish-in-Ok.ensures.written)) in
     omega (arith, c.capacity-room.ensures, c.capacity.ensures, g.met.W.Writer.laws.counts _ _ _ went)
 
 pub returns-in_ok-finish-in-Ok : goal.returns-in_ok-finish-in-Ok
 returns-in_ok-finish-in-Ok g c =
     let here = (goal.at.returns-in_ok-finish-in-Ok g c).After-new-pending in
     let both = g.met.W.Writer.laws.both in
-    let went = image_ends both (starts g here) (then_ends both c.in-Ok.ensures.written.0 both (all_sent c.write_left.ensures c.in_ok-finish-in-Ok.ensures.written)) in
+    let went = image_ends both (starts g here) (then_ends both c.in-Ok.ensures.written.0 both (all_sent c.write_last_pixels.ensures c.in_ok-finish-in-Ok.ensures.written)) in
     let count : c.capacity-room.result - c.capacity.result ≡ length (made g here) = omega (arith, c.capacity-room.ensures, c.capacity.ensures, g.met.W.Writer.laws.counts _ _ _ went) in
     writes g here _ (Ok (c.capacity-room.result - c.capacity.result)) (count, went)
 

@@ -1,7 +1,8 @@
 -- Some of the pixels are written, by each way.
-use Rattle.std.proofs.Common.{◌∙◌, length, sym, ap, arith}
+use Rattle.std.proofs.Common.{◌∙◌, length, ap, arith, subst, List, ℕ}
 use Rattle.qoi.specs.inner.Coder.{Pixels}
-use Rattle.qoi.proofs.encoding.piece.ImagePieces.{block_pixels, fills}
+use Rattle.qoi.specs.inner.Sending.{FillsPiece}
+use Rattle.qoi.proofs.encoding.piece.ImagePieces.{block_pixels}
 use Rattle.qoi.proofs.encode.chunks.fill_in_channels.Goals as goal
 
 -- they are a block or more
@@ -12,24 +13,20 @@ front_of-front-requires g c =
 
 pub returns-then-not-goes_by_blocks : goal.returns-then-not-goes_by_blocks
 returns-then-not-goes_by_blocks g c =
-    let front = c.front_of-front in
-    fills c.args.pending.now c.args.piece c.args.data.now front.result.raw c.write_apart.result c.requires.channels (sym front.ensures.style)
-    (ap (λ (r : Pixels g.row.N). r.bytes.now) front.ensures.raw ∙ c.new-raw.ensures) c.write_apart.ensures
+    subst (λ (d : List ℕ). FillsPiece c.args.pending.now c.args.piece d c.fill_with_opening.new.pending c.fill_with_opening.result)
+    (ap (λ (r : Pixels g.row.N). r.bytes.now) c.front_of-front.ensures.raw ∙ c.new-raw.ensures) c.fill_with_opening.ensures
 
 pub returns-in-Places : goal.returns-in-Places
 returns-in-Places g c =
-    let front = c.front_of-front in
-    fills c.args.pending.now c.args.piece c.args.data.now front.result.raw c.write_by_blocks.result c.requires.channels (sym front.ensures.style)
-    (ap (λ (r : Pixels g.row.N). r.bytes.now) front.ensures.raw ∙ c.new-raw.ensures) c.write_by_blocks.ensures
+    subst (λ (d : List ℕ). FillsPiece c.args.pending.now c.args.piece d c.fill_with_blocks.new.pending c.fill_with_blocks.result)
+    (ap (λ (r : Pixels g.row.N). r.bytes.now) c.front_of-front.ensures.raw ∙ c.new-raw.ensures) c.fill_with_blocks.ensures
 
-pub returns-then-begin_full : goal.returns-then-begin_full
-returns-then-begin_full g c =
-    let front = c.front_of-front in
-    fills c.args.pending.now c.args.piece c.args.data.now front.result.raw c.write_by_blocks-then-begin_full.result c.requires.channels (sym front.ensures.style ∙ c.in-Reference.is)
-    (ap (λ (r : Pixels g.row.N). r.bytes.now) front.ensures.raw ∙ c.new-raw.ensures) c.write_by_blocks-then-begin_full.ensures
+pub returns-then-begin_with_rgba : goal.returns-then-begin_with_rgba
+returns-then-begin_with_rgba g c =
+    subst (λ (d : List ℕ). FillsPiece c.args.pending.now c.args.piece d c.fill_with_blocks-then-begin_with_rgba.new.pending c.fill_with_blocks-then-begin_with_rgba.result)
+    (ap (λ (r : Pixels g.row.N). r.bytes.now) c.front_of-front.ensures.raw ∙ c.new-raw.ensures) c.fill_with_blocks-then-begin_with_rgba.ensures
 
 pub returns : goal.returns
 returns g c =
-    let front = c.front_of-front in
-    fills c.args.pending.now c.args.piece c.args.data.now front.result.raw c.write_by_blocks-2.result c.requires.channels (sym front.ensures.style ∙ c.in-Reference.is)
-    (ap (λ (r : Pixels g.row.N). r.bytes.now) front.ensures.raw ∙ c.new-raw.ensures) c.write_by_blocks-2.ensures
+    subst (λ (d : List ℕ). FillsPiece c.args.pending.now c.args.piece d c.fill_with_blocks-2.new.pending c.fill_with_blocks-2.result)
+    (ap (λ (r : Pixels g.row.N). r.bytes.now) c.front_of-front.ensures.raw ∙ c.new-raw.ensures) c.fill_with_blocks-2.ensures

@@ -4,7 +4,7 @@ ghost use Rattle.std.specs.Prelude.{◌≡◌, ◌+◌, ◌*◌, ◌/◌, ◌%�
 ghost use Rattle.qoi.specs.inner.block.Storing.{HoldChunks, four_parts, AreEight, sixteen_chunks};
 
 use crate::encode::block::lanes::{halves, lesser};
-use crate::encode::block::planes::{Planes, Words, make_words};
+use crate::encode::block::planes::{Words, join_lanes};
 use std::simd::prelude::*;
 
 // Four numbers, each with an alpha above it.
@@ -103,12 +103,7 @@ pub(in crate::encode) fn store_each(
         → take result out.new ≡ take at out.old ++ sixteen_chunks size words alpha }
 {
     let none = u8x16::splat(0);
-    let a = make_words(Planes {
-        r: alpha,
-        g: none,
-        b: none,
-        a: none,
-    });
+    let a = join_lanes(alpha, none, none, none);
     let one = with_alphas(words.one, a.one);
     let two = with_alphas(words.two, a.two);
     let three = with_alphas(words.three, a.three);

@@ -10,11 +10,11 @@ use Rattle.qoi.proofs.encode.block.positions.put_block.Goals as goal
 
 -- the index positions of four lanes
 abbrev four_from : List ℕ → ℕ → List ℕ
-four_from places k = slice_index places k ∷ slice_index places (k + 1) ∷ slice_index places (k + 2) ∷ slice_index places (k + 3) ∷ []
+four_from indices k = slice_index indices k ∷ slice_index indices (k + 1) ∷ slice_index indices (k + 2) ∷ slice_index indices (k + 3) ∷ []
 
 -- what two calls say of four pixels: they were put, and which of them stood there
-record FourPut (old new : List RgbaPixel) (places words found masks : List ℕ) : Type 0 where
-  pub put : (held : Past) (ps : List RgbaPixel) → Holds old held → AreFourWords ps words → places ≡ map hash ps → HasPut held ps found new
+record FourPut (old new : List RgbaPixel) (indices words found masks : List ℕ) : Type 0 where
+  pub put : (held : Past) (ps : List RgbaPixel) → Holds old held → AreFourWords ps words → indices ≡ map hash ps → HasPut held ps found new
   pub masks_are : (qs ps : List RgbaPixel) → AreFourWords qs found → AreFourWords ps words → masks ≡ four_times (zip2 pixel_eq qs ps)
 
 -- the masks of sixteen lanes from those of four times four
@@ -23,12 +23,12 @@ Joins a b c d all = (p q r s : List Bool) → length p ≡ 4 → length q ≡ 4 
     → a ≡ four_times p → b ≡ four_times q → c ≡ four_times r → d ≡ four_times s → all ≡ map mask (p ++ (q ++ (r ++ s)))
 
 -- all four times four
-block_put : (held : Past) (ps : List RgbaPixel) (w : Words) (places : List ℕ) (t0 t1 t2 t3 t4 : List RgbaPixel) (f0 f1 f2 f3 m0 m1 m2 m3 all : List ℕ)
-    → Holds t0 held → AreSixteen ps → AreBlockWords ps w → places ≡ map hash ps
-    → FourPut t0 t1 (four_from places 0) w.one f0 m0 → FourPut t1 t2 (four_from places 4) w.two f1 m1
-    → FourPut t2 t3 (four_from places 8) w.three f2 m2 → FourPut t3 t4 (four_from places 12) w.four f3 m3
+block_put : (held : Past) (ps : List RgbaPixel) (w : Words) (indices : List ℕ) (t0 t1 t2 t3 t4 : List RgbaPixel) (f0 f1 f2 f3 m0 m1 m2 m3 all : List ℕ)
+    → Holds t0 held → AreSixteen ps → AreBlockWords ps w → indices ≡ map hash ps
+    → FourPut t0 t1 (four_from indices 0) w.one f0 m0 → FourPut t1 t2 (four_from indices 4) w.two f1 m1
+    → FourPut t2 t3 (four_from indices 8) w.three f2 m2 → FourPut t3 t4 (four_from indices 12) w.four f3 m3
     → Joins m0 m1 m2 m3 all → HasPutBlock held ps all t4
-block_put held (p0 ∷ p1 ∷ p2 ∷ p3 ∷ p4 ∷ p5 ∷ p6 ∷ p7 ∷ p8 ∷ p9 ∷ p10 ∷ p11 ∷ p12 ∷ p13 ∷ p14 ∷ p15 ∷ []) w places t0 t1 t2 t3 t4 f0 f1 f2 f3 m0 m1 m2 m3 all h s are at c0 c1 c2 c3 join =
+block_put held (p0 ∷ p1 ∷ p2 ∷ p3 ∷ p4 ∷ p5 ∷ p6 ∷ p7 ∷ p8 ∷ p9 ∷ p10 ∷ p11 ∷ p12 ∷ p13 ∷ p14 ∷ p15 ∷ []) w indices t0 t1 t2 t3 t4 f0 f1 f2 f3 m0 m1 m2 m3 all h s are at c0 c1 c2 c3 join =
     let q0 = p0 ∷ p1 ∷ p2 ∷ p3 ∷ [] in
     let q1 = p4 ∷ p5 ∷ p6 ∷ p7 ∷ [] in
     let q2 = p8 ∷ p9 ∷ p10 ∷ p11 ∷ [] in
@@ -43,11 +43,11 @@ block_put held (p0 ∷ p1 ∷ p2 ∷ p3 ∷ p4 ∷ p5 ∷ p6 ∷ p7 ∷ p8 ∷ p
           (c2.masks_are _ q2 k2.found_are are.three_are) (c3.masks_are _ q3 k3.found_are are.four_are);
       holds = k3.holds;
     }
-block_put held ps w places t0 t1 t2 t3 t4 f0 f1 f2 f3 m0 m1 m2 m3 all h s are at c0 c1 c2 c3 join = absurd (let l = s.long in omega arith)
+block_put held ps w indices t0 t1 t2 t3 t4 f0 f1 f2 f3 m0 m1 m2 m3 all h s are at c0 c1 c2 c3 join = absurd (let l = s.long in omega arith)
 
 pub returns : goal.returns
 returns c = λ held ps h sixteen are at.
-    block_put held ps c.args.w c.args.places.now c.args.table.now c.swap_four-one.new.self c.swap_four-two.new.self c.swap_four-three.new.self c.swap_four-four.new.self
+    block_put held ps c.args.w c.args.indices.now c.args.table.now c.swap_four-one.new.self c.swap_four-two.new.self c.swap_four-three.new.self c.swap_four-four.new.self
     c.swap_four-one.result c.swap_four-two.result c.swap_four-three.result c.swap_four-four.result
     c.equal.result c.equal-2.result c.equal-3.result c.equal-4.result c.one_of_four.result h sixteen are at
     (record { put = c.swap_four-one.ensures; masks_are = c.equal.ensures }) (record { put = c.swap_four-two.ensures; masks_are = c.equal-2.ensures })

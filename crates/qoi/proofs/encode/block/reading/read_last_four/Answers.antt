@@ -13,8 +13,8 @@ read_four_late-requires g c =
 pub returns : goal.returns
 returns g c =
     let raw = c.args.bytes.now in
-    let place : 32 + 4 ≡ 12 * g.row.N = omega (arith, c.requires.channels, c.if-this-eq4.false) in
+    let index : 32 + 4 ≡ 12 * g.row.N = omega (arith, c.requires.channels, c.if-this-eq4.false) in
     record {
       lanes = c.read_four_late.ensures.lanes
-          ∙ ap (λ (x : List ℕ). map word (take 4 (pixels_of g.row.N x))) (ap (drop 4) c.skip-2.ensures ∙ drop-drop 4 32 raw ∙ ap (λ k. drop k raw) place);
+          ∙ ap (λ (x : List ℕ). map word (take 4 (pixels_of g.row.N x))) (ap (drop 4) c.skip-2.ensures ∙ drop-drop 4 32 raw ∙ ap (λ k. drop k raw) index);
     }

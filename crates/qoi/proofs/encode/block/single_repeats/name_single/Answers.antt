@@ -37,9 +37,9 @@ named_are q c (l ∷ ls) =
     ap (λ z. first_in Places (is_rep l) q l n ∷ z) (named_are l.stands n ls)
 
 pub returns : goal.returns
-returns c = λ s ps sixteen placed stands places h.
+returns c = λ s ps sixteen placed stands indices h.
     let ls : List Lane = lanes_of s.held s.last ps in
-    let at : c.args.places ≡ map (λ l. hash l.px) ls = places ∙ sym (themselves hash s.held s.last ps) in
+    let at : c.args.indices ≡ map (λ l. hash l.px) ls = indices ∙ sym (themselves hash s.held s.last ps) in
     let ones : c.where_is.result ≡ map (λ n. mask (n == 1)) (counts s.carry (map is_rep ls)) = c.where_is.ensures ∙ ap (map (λ n. mask (n == 1))) h.count_is in
     let before : c.stood.result ≡ stoods s.placed ls =
     c.stood.ensures ∙ (λ i. mask (sym placed i) ∷ take 15 ((stands ∙ sym (stands_lanes s.held s.last ps)) i))
@@ -50,5 +50,5 @@ returns c = λ s ps sixteen placed stands places h.
       second_is = h.second_is;
       size_is = h.size_is;
       count_is = h.count_is;
-      full_is = h.full_is;
+      rgba_is = h.rgba_is;
     }

@@ -20,8 +20,8 @@ returns c = λ s ps carry changes b.
     let as_luma = c.luma_steps-as_luma.ensures ls d in
     let fits = c.find_fits-fits.ensures ls as_diff as_luma same_alpha in
     let stands = stands_by s.held s.last ps b.sixteen b.last_is c.args.stands b.stands_are in
-    let places = plane_by s.held s.last ps b.sixteen b.last_is hash c.args.places b.places_are in
-    let first = c.first_bytes-first.ensures ls as_diff as_luma fits places stands in
+    let indices = plane_by s.held s.last ps b.sixteen b.last_is hash c.args.indices b.indices_are in
+    let first = c.first_bytes-first.ensures ls as_diff as_luma fits indices stands in
     let size = c.sizes_of.ensures ls fits stands in
     let count = c.count_repeats-count.ensures (map is_rep ls) (length-map ls is_rep ∙ lanes_long s.held s.last ps ∙ b.sixteen.long) (rep.is ∙ sym (map-map mask is_rep ls))
     ∙ ap (λ n. counts n (map is_rep ls)) (sym carry) in
@@ -31,5 +31,5 @@ returns c = λ s ps carry changes b.
       second_is = (c.second_bytes.ensures ls as_luma red fits.luma_is).is;
       size_is = c.with_none.ensures ls size rep;
       count_is = count;
-      full_is = λ no. cc no;
+      rgba_is = λ no. cc no;
     }

@@ -7,7 +7,7 @@ use Rattle.qoi.specs.inner.block.Lanes.{Lane, State, lanes_of, block_bytes, mask
 use Rattle.qoi.specs.inner.block.Storing.{HaveCodes, sixteen_chunks}
 use Rattle.qoi.specs.inner.block.Planes.{Words, Planes, AreSixteen, ArePlanes, AreBlockWords, block_pixels}
 use Rattle.qoi.specs.inner.block.Vectors.{Spelled, HasSpelled, sizes}
-use Rattle.qoi.proofs.encoding.blocks.FullBlock.{full_lanes, full_written}
+use Rattle.qoi.proofs.encoding.blocks.RgbaBlock.{rgba_lanes, rgba_written}
 use Rattle.qoi.proofs.encoding.blocks.PackedBlock.{block_sixteen}
 use Rattle.qoi.proofs.encoding.blocks.LaneBytes.{chunks_of, repeat_byte}
 use Rattle.qoi.proofs.encoding.lanes.LaneTests.{themselves}
@@ -69,9 +69,9 @@ pub returns-then-x-clause-written : goal.returns-then-x-clause-written
 returns-then-x-clause-written g c = λ style s last spelled carry few.
     let words = c.args.block.words in
     let sixteen = block_sixteen words c.args.block.packed in
-    c.store_full.ensures.written
-    ∙ ap (λ z. take c.args.at c.args.out.now ++ z) (sym (full_written style s (block_pixels words)
-    (full_lanes _ (lanes_are s.held s.last (block_pixels words) last sixteen.are) (spelled.full_is c.if-x.true))))
+    c.store_rgba.ensures.written
+    ∙ ap (λ z. take c.args.at c.args.out.now ++ z) (sym (rgba_written style s (block_pixels words)
+    (rgba_lanes _ (lanes_are s.held s.last (block_pixels words) last sixteen.are) (spelled.rgba_is c.if-x.true))))
 
 pub returns-then-are_short-clause-written : goal.returns-then-are_short-clause-written
 returns-then-are_short-clause-written g c = λ style s last spelled carry few.
@@ -79,7 +79,7 @@ returns-then-are_short-clause-written g c = λ style s last spelled carry few.
     let ps = block_pixels block.words in
     let sixteen = block_sixteen block.words block.packed in
     c.store_shuffled.ensures.written block.planes.a (have_codes style s ps c.args.x sixteen spelled (c.are_short.ensures c.if-are_short.true few))
-    ∙ ap (λ z. take c.args.at c.args.out.now ++ z) (block_is style s ps c.args.x block.planes c.make_words-words.result sixteen last block.planes_are spelled carry c.make_words-words.ensures)
+    ∙ ap (λ z. take c.args.at c.args.out.now ++ z) (block_is style s ps c.args.x block.planes c.join_lanes-words.result sixteen last block.planes_are spelled carry c.join_lanes-words.ensures)
 
 pub returns-else-are_short-clause-written : goal.returns-else-are_short-clause-written
 returns-else-are_short-clause-written g c = λ style s last spelled carry few.
@@ -87,4 +87,4 @@ returns-else-are_short-clause-written g c = λ style s last spelled carry few.
     let ps = block_pixels block.words in
     let sixteen = block_sixteen block.words block.packed in
     c.store_each.ensures.written (λ k. omega (arith, few k, c.requires.channels))
-    ∙ ap (λ z. take c.args.at c.args.out.now ++ z) (block_is style s ps c.args.x block.planes c.make_words-words.result sixteen last block.planes_are spelled carry c.make_words-words.ensures)
+    ∙ ap (λ z. take c.args.at c.args.out.now ++ z) (block_is style s ps c.args.x block.planes c.join_lanes-words.result sixteen last block.planes_are spelled carry c.join_lanes-words.ensures)

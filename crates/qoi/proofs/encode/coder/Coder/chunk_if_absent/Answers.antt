@@ -15,9 +15,9 @@ returns-in-Some-clause-choice g c = λ past alpha chunk holds is bytes first dif
     let is_blank = c.is_same.ensures.0 c.if-is_same.true ∙ c.blank.ensures in
     let held = rw c.in-Tight.is at holds in
     let other : seen past (hash c.args.px) ≢ c.args.px = rw c.in-Tight.is at differs in
-    let chosen = blank_chosen past c.args.px c.in-Some.place is_blank other (sym c.in-Some.is ∙ c.first_blank.ensures.first past held) in
+    let chosen = blank_chosen past c.args.px c.in-Some.index is_blank other (sym c.in-Some.is ∙ c.first_blank.ensures.first past held) in
     let below = c.in-Some.ensures.below in
-    rw (c.in-Tight.is, c.from.ensures) (Place c.in-Some.place, below, place_bytes c.in-Some.place alpha below, chosen)
+    rw (c.in-Tight.is, c.from.ensures) (Place c.in-Some.index, below, place_bytes c.in-Some.index alpha below, chosen)
 
 pub returns-in_default-clause-choice : goal.returns-in_default-clause-choice
 returns-in_default-clause-choice g c = λ past alpha chunk holds is bytes first differs.

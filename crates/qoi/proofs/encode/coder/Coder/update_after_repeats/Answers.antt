@@ -1,7 +1,7 @@
 -- Repeats are put once, or not at all.
 use Rattle.std.proofs.Common.{IsTrue, nat_lt, ◌∷◌, ◌++◌, replicate, sym, ap, ◌∙◌, subst, true}
 use Rattle.qoi.specs.Qoi.{Past, previous}
-use Rattle.qoi.specs.inner.Coder.{held_in}
+use Rattle.qoi.specs.inner.Coder.{put_in}
 use Rattle.qoi.specs.inner.Table.{Holds}
 use Rattle.std.specs.List.{list_any}
 use Rattle.qoi.proofs.format.ChunkSteps.{previous_repeats}
@@ -17,12 +17,12 @@ returns-clause-state g c past before s =
     let pixels = replicate n (previous past) ++ past in
     record {
       table_is = elim c.match-self.branch [
-        | in-Reference w ↦ subst (λ t. Holds t (held_in style pixels)) (sym w.table-is)
+        | in-Reference w ↦ subst (λ t. Holds t (put_in style pixels)) (sym w.table-is)
             (repeats_unput style n past c.args.table.now w.in-Reference.is s.table_is)
         | in-Tight w ↦ (let held = rw w.in-Tight.is at s.table_is in
             let puts : IsTrue (nat_lt 0 n) → (held : Past) → Holds c.args.table.now held → Holds w.put_if.new.self (previous past ∷ held)
             = λ t held h. subst (λ p. Holds w.put_if.new.self (p ∷ held)) s.last_is (w.put_if.ensures.puts t held h) in
-            subst (λ t. Holds t (held_in style pixels)) (sym w.table-is)
+            subst (λ t. Holds t (put_in style pixels)) (sym w.table-is)
             (rw w.in-Tight.is (repeats_put n past c.args.table.now w.put_if.new.self puts w.put_if.ensures.stays held)))
       ];
       last_is = s.last_is ∙ sym (previous_repeats n past);

@@ -11,14 +11,14 @@ use Rattle.qoi.proofs.encode.coder.Coder.write_short_group.Goals as goal
 
 pub returns-clause-px : goal.returns-clause-px
 returns-clause-px g c =
-    sym (get_drop c.args.ahead (pixels_in c.args.raw)) ∙ ap (λ ps. slice_get ps 0) (sym c.skip-after.ensures.rest ∙ c.first.ensures) ∙ ap Some (sym c.write_pixel.ensures.px)
+    sym (get_drop c.args.ahead (pixels_in c.args.raw)) ∙ ap (λ ps. slice_get ps 0) (sym c.skip-after.ensures.rest ∙ c.first.ensures) ∙ ap Some (sym c.write_fresh_pixel.ensures.px)
 
 pub returns-clause-rest : goal.returns-clause-rest
 returns-clause-rest g c = c.skip.ensures.rest ∙ ap (drop 1) c.skip-after.ensures.rest ∙ drop-drop 1 c.args.ahead (pixels_in c.args.raw) ∙ ap (λ k. drop k (pixels_in c.args.raw)) (omega arith)
 
 pub returns-clause-written : goal.returns-clause-written
 returns-clause-written g c = record {
-  style = c.write_pixel.ensures.style ∙ c.update_after_repeats.ensures.style;
+  style = c.write_fresh_pixel.ensures.style ∙ c.update_after_repeats.ensures.style;
   on = λ all more b.
       let n = c.args.ahead in
       let raw = pixels_in c.args.raw in
@@ -41,5 +41,5 @@ returns-clause-written g c = record {
       let same = c.update_after_repeats.ensures.same.0 in
       let stand = subst (λ ps. CoderBetween c.update_after_repeats.new.self.style all (ps ++ more) c.update_after_repeats.new.table c.update_after_repeats.new.self.last (kept_bytes c.append_run.new.self)) (sym c.skip-after.ensures.rest ∙ ahead)
       (of_coder c.update_after_repeats.ensures.style refl group) in
-      rw c.skip.ensures.rest (c.write_pixel.ensures.written all (drop 1 after ++ more) (λ e. differs (e ∙ same)) c.update_after_repeats.ensures.left stand);
+      rw c.skip.ensures.rest (c.write_fresh_pixel.ensures.written all (drop 1 after ++ more) (λ e. differs (e ∙ same)) c.update_after_repeats.ensures.left stand);
 }

@@ -3,7 +3,7 @@ use Rattle.std.proofs.Common.{[], ◌++◌, ◌≡◌, length, refl, sym, ap, �
 use Rattle.std.specs.Io.KnownBytes.{Appends}
 use Rattle.qoi.specs.Qoi.{Header, header_bytes, IsValid}
 use Rattle.qoi.specs.Raw.{image_byte_count}
-use Rattle.qoi.specs.declared.encode.pixel_writer.kept.Kept.{Kept}
+use Rattle.qoi.specs.declared.encode.pixel_writer.workspace.Workspace.{Workspace}
 use Rattle.qoi.specs.inner.Sending.{appended, ImageBetween, IsNew}
 use Rattle.qoi.specs.EncoderState.{EncoderState}
 use Rattle.qoi.specs.pieces.PixelWriter.{HasTaken}
@@ -19,12 +19,12 @@ says : (g : Over) (c : After-n_bytes g) → (c.args.header ≡ c.in_ok-header.he
 says g c = tried_says _ _ _ _ c.in_ok-header.header (sym c.try_new.ensures ∙ c.in_ok-header.was)
 
 -- nothing came yet
-nothing : (g : Over) (c : After-n_bytes g) → IsNew c.in_ok-header.header.channels c.args.style c.in_ok-kept.kept.value.pending
-nothing g c = subst (λ (k : Kept). IsNew c.in_ok-header.header.channels c.args.style k.pending) (sym c.in_ok-kept.ensures.ok) c.new.ensures
+nothing : (g : Over) (c : After-n_bytes g) → IsNew c.in_ok-header.header.channels c.args.style c.in_ok-workspace.workspace.value.pending
+nothing g c = subst (λ (k : Workspace). IsNew c.in_ok-header.header.channels c.args.style k.pending) (sym c.in_ok-workspace.ensures.ok) c.new.ensures
 
 -- and nothing is held
-none : (g : Over) (c : After-n_bytes g) → c.in_ok-kept.kept.value.held ≡ []
-none g c = ap (λ (k : Kept). k.held) c.in_ok-kept.ensures.ok ∙ c.new-2.ensures
+none : (g : Over) (c : After-n_bytes g) → c.in_ok-workspace.workspace.value.held ≡ []
+none g c = ap (λ (k : Workspace). k.held) c.in_ok-workspace.ensures.ok ∙ c.new-2.ensures
 
 pub invariant_of-result : goal.invariant_of-result
 invariant_of-result g c =
@@ -43,7 +43,7 @@ returns-clause-made g c =
     let said = says g here in
     let before = g.W.Write.contents c.args.writer in
     let now = g.W.Write.contents c.send_bytes.new.writer in
-    let pending = c.in_ok-kept.kept.value.pending in
+    let pending = c.in_ok-workspace.workspace.value.pending in
     let is : IsNew c.args.header.channels c.args.style pending = subst (λ (h : Header). IsNew h.channels c.args.style pending) (sym said.0) (nothing g here) in
     let sent : Appends before now (header_bytes c.args.header) = subst (Appends before now) (c.encode.ensures ∙ ap header_bytes (sym said.0)) c.in_ok-send_bytes.ensures.written in
     record {

@@ -4,7 +4,7 @@ use Rattle.std.proofs.lemmas.Result.{MatchResult-weaker}
 use Rattle.std.proofs.KnownBytes.{Appends-trans}
 use Rattle.qoi.specs.Encoded.{IsFileOf, image_file}
 use Rattle.qoi.specs.Qoi.{IsValid}
-use Rattle.qoi.specs.declared.encode.pixel_writer.kept.Kept.{Kept}
+use Rattle.qoi.specs.declared.encode.pixel_writer.workspace.Workspace.{Workspace}
 use Rattle.qoi.specs.inner.Sending.{appended, ImageBetween}
 use Rattle.qoi.specs.EncoderState.{EncoderState}
 use Rattle.qoi.specs.pieces.PixelWriter.{HasTaken}
@@ -12,43 +12,43 @@ use Rattle.qoi.proofs.FileOf.{file_of_image, sends_file, sends_part}
 use Rattle.qoi.proofs.encoding.piece.ImagePieces.{image_ends, begins_appended}
 use Rattle.qoi.proofs.encoding.piece.WriterProgress.{begins_after}
 use Rattle.qoi.proofs.encode.pixel_writer.PixelWriter.send_rest.Given.{Over}
-use Rattle.qoi.proofs.encode.pixel_writer.PixelWriter.send_rest.Goals.{After-write_held}
+use Rattle.qoi.proofs.encode.pixel_writer.PixelWriter.send_rest.Goals.{After-write_end}
 use Rattle.qoi.proofs.encode.pixel_writer.PixelWriter.send_rest.Goals as goal
 
 -- only the bytes that are held are ahead, and the file is that of the image
-starts : (g : Over) (c : After-write_held g) (e : EncoderState) (before : _) → c.self.inside.left ≡ 0 → HasTaken g.W.Write.contents e before c.args.self.now
-    → ImageBetween appended e before (g.W.Write.contents c.self.inside.writer) c.deref_mut-kept.result.now.pending [] c.deref_mut-kept.result.now.held
+starts : (g : Over) (c : After-write_end g) (e : EncoderState) (before : _) → c.self.inside.left ≡ 0 → HasTaken g.W.Write.contents e before c.args.self.now
+    → ImageBetween appended e before (g.W.Write.contents c.self.inside.writer) c.deref_mut-workspace.result.now.pending [] c.deref_mut-workspace.result.now.held
     × IsFileOf e.style e.header e.raw (image_file e.style e.header e.raw)
 unfolding HasTaken
 starts g c e before none taken =
     let p = c.self.inside in
-    let kept = p.kept.value in
+    let workspace = p.workspace.value in
     let now = g.W.Write.contents p.writer in
     let t = subst (HasTaken g.W.Write.contents e before) (sym c.self.view_is) taken in
     let last = t.writes [] (sym none) (λ i. omega arith) in
-    let same = subst (λ x. ImageBetween appended (record e { raw = x }) before now kept.pending [] (kept.held ++ [])) (append-nil e.raw) last in (
-      subst (λ (k : Kept). ImageBetween appended e before now k.pending [] k.held) (sym c.deref_mut-kept.ensures.value)
-          (subst (ImageBetween appended e before now kept.pending []) (append-nil kept.held) same),
+    let same = subst (λ x. ImageBetween appended (record e { raw = x }) before now workspace.pending [] (workspace.held ++ [])) (append-nil e.raw) last in (
+      subst (λ (k : Workspace). ImageBetween appended e before now k.pending [] k.held) (sym c.deref_mut-workspace.ensures.value)
+          (subst (ImageBetween appended e before now workspace.pending []) (append-nil workspace.held) same),
       file_of_image e.style e.header e.raw (subst IsValid t.header_is c.self.invariant.0) (omega (arith, t.size, none)) t.are,
     )
 
 pub returns-clause-sent : goal.returns-clause-sent
 returns-clause-sent g c = λ e before t.
     let none : c.self.inside.left ≡ 0 = omega (arith, c.if-self-gt0.false) in
-    let here = starts g (goal.at.returns-clause-sent g c).After-write_held e before none t in
-    MatchResult-weaker c.write_held.result c.write_held.ensures
-    (λ _ ends. (_, sends_file e _ before (g.W.Write.contents c.write_held.new.writer) _ here.1 refl (image_ends Appends-trans here.0 ends)))
+    let here = starts g (goal.at.returns-clause-sent g c).After-write_end e before none t in
+    MatchResult-weaker c.write_end.result c.write_end.ensures
+    (λ _ ends. (_, sends_file e _ before (g.W.Write.contents c.write_end.new.writer) _ here.1 refl (image_ends Appends-trans here.0 ends)))
     (λ _ _. tt)
 
 pub returns-clause-part : goal.returns-clause-part
 returns-clause-part g c = λ e before t.
     let none : c.self.inside.left ≡ 0 = omega (arith, c.if-self-gt0.false) in
     let left = ap (λ s. s.left) c.self.view_is in
-    let here = starts g (goal.at.returns-clause-part g c).After-write_held e before none t in
-    MatchResult-weaker c.write_held.result c.write_held.ensures (λ _ _. tt)
+    let here = starts g (goal.at.returns-clause-part g c).After-write_end e before none t in
+    MatchResult-weaker c.write_end.result c.write_end.ensures (λ _ _. tt)
     (λ error r is. (
       sym left ∙ none,
-      sends_part e _ before (g.W.Write.contents c.write_held.new.writer) here.1 (begins_appended (image_ends (begins_after Appends-trans) here.0 r.1)),
+      sends_part e _ before (g.W.Write.contents c.write_end.new.writer) here.1 (begins_appended (image_ends (begins_after Appends-trans) here.0 r.1)),
     ))
 
 pub returns-then-self-gt0-clause-missing : goal.returns-then-self-gt0-clause-missing

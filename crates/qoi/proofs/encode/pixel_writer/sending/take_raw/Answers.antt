@@ -30,7 +30,7 @@ loop-writer-preserved g c =
     let before = c.loop-writer.invariant in
     record {
       most = omega (arith, step.less, before.most);
-      stays = (c.write_more.ensures.stays.0 ∙ before.stays.0, c.write_more.ensures.stays.1 ∙ before.stays.1);
+      stays = (c.write_held_or_raw.ensures.stays.0 ∙ before.stays.0, c.write_held_or_raw.ensures.stays.1 ∙ before.stays.1);
       written = then_on Appends-trans before.written (record {
         opaque = step.written.opaque;
         part = step.written.part;
@@ -55,9 +55,9 @@ returns-in_err-send_bytes-clause-written g c =
 pub returns-clause-written : goal.returns-clause-written
 returns-clause-written g c =
     let contents = g.W.Write.contents in
-    let old = c.args.kept.now in
-    let kept = kept_bytes c.loop-writer.piece.piece in
+    let old = c.args.workspace.now in
+    let workspace = kept_bytes c.loop-writer.piece.piece in
     let all = subst (Appends (contents c.loop-writer.writer) (contents c.send_bytes.new.writer)) c.front.ensures c.in_ok-send_bytes.ensures.written in
-    subst (λ x. GoesOn appended (contents c.args.writer.now) old.pending [] (old.held ++ c.args.raw.now) (contents c.send_bytes.new.writer) c.loop-writer.kept.1.0 [] x) (sym c.push.ensures)
+    subst (λ x. GoesOn appended (contents c.args.writer.now) old.pending [] (old.held ++ c.args.raw.now) (contents c.send_bytes.new.writer) c.loop-writer.workspace.1.0 [] x) (sym c.push.ensures)
     (then_on Appends-trans c.loop-writer.invariant.written
-    (sent_on stands c.loop-writer.invariant.written.opaque refl (record { front = kept; split = sym (append-nil kept); went = all })))
+    (sent_on stands c.loop-writer.invariant.written.opaque refl (record { front = workspace; split = sym (append-nil workspace); went = all })))

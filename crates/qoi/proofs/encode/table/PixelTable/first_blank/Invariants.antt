@@ -5,8 +5,8 @@ use Rattle.qoi.specs.inner.Table.{Holds, first_blank}
 use Rattle.qoi.proofs.format.TableHolds.{blank_from}
 use Rattle.qoi.proofs.encode.table.PixelTable.first_blank.Given as goal
 
-abbrev pub invariant-loop-place : goal.invariant-loop-place
-invariant-loop-place l = (past : Past) → Holds l.self past → first_blank past ≡ blank_from past l.place
+abbrev pub invariant-loop-index : goal.invariant-loop-index
+invariant-loop-index l = (past : Past) → Holds l.self past → first_blank past ≡ blank_from past l.index
 
-abbrev pub decreases-loop-place : goal.decreases-loop-place
-decreases-loop-place l = 64 - l.place
+abbrev pub decreases-loop-index : goal.decreases-loop-index
+decreases-loop-index l = 64 - l.index

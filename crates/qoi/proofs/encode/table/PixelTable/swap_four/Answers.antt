@@ -8,15 +8,15 @@ use Rattle.qoi.specs.inner.Table.{Holds}
 use Rattle.qoi.proofs.encode.table.PixelTable.swap_four.Goals as goal
 
 -- what one call says
-abbrev Swapped : (old new : List RgbaPixel) (place px was : ℕ) → Type 0
-Swapped old new place px was = (past : Past) (p : RgbaPixel) → Holds old past → IsPixel p → px ≡ word p → place ≡ hash p → HasPutOne past p was new
+abbrev Swapped : (old new : List RgbaPixel) (index px was : ℕ) → Type 0
+Swapped old new index px was = (past : Past) (p : RgbaPixel) → Holds old past → IsPixel p → px ≡ word p → index ≡ hash p → HasPutOne past p was new
 
 -- four pixels, one after the other
-four_swapped : (held : Past) (ps : List RgbaPixel) (w places : List ℕ) (t0 t1 t2 t3 t4 : List RgbaPixel) (a b c d : ℕ) → AreFourWords ps w → places ≡ map hash ps
-    → Holds t0 held → Swapped t0 t1 (slice_index places 0) (slice_index w 0) a → Swapped t1 t2 (slice_index places 1) (slice_index w 1) b
-    → Swapped t2 t3 (slice_index places 2) (slice_index w 2) c → Swapped t3 t4 (slice_index places 3) (slice_index w 3) d
+four_swapped : (held : Past) (ps : List RgbaPixel) (w indices : List ℕ) (t0 t1 t2 t3 t4 : List RgbaPixel) (a b c d : ℕ) → AreFourWords ps w → indices ≡ map hash ps
+    → Holds t0 held → Swapped t0 t1 (slice_index indices 0) (slice_index w 0) a → Swapped t1 t2 (slice_index indices 1) (slice_index w 1) b
+    → Swapped t2 t3 (slice_index indices 2) (slice_index w 2) c → Swapped t3 t4 (slice_index indices 3) (slice_index w 3) d
     → HasPut held ps (a ∷ b ∷ c ∷ d ∷ []) t4
-four_swapped held (p ∷ q ∷ r ∷ s ∷ []) w places t0 t1 t2 t3 t4 a b c d are e h0 sa sb sc sd =
+four_swapped held (p ∷ q ∷ r ∷ s ∷ []) w indices t0 t1 t2 t3 t4 a b c d are e h0 sa sb sc sd =
     let i = are.are in
     let wk = λ (k : ℕ). ap (λ xs. slice_index xs k) are.words_are in
     let ak = λ (k : ℕ). ap (λ xs. slice_index xs k) e in
@@ -32,17 +32,17 @@ four_swapped held (p ∷ q ∷ r ∷ s ∷ []) w places t0 t1 t2 t3 t4 a b c d a
       };
       holds = four.holds;
     }
-four_swapped held ps w places t0 t1 t2 t3 t4 a b c d are e h0 sa sb sc sd = absurd (let f = are.four in omega arith)
+four_swapped held ps w indices t0 t1 t2 t3 t4 a b c d are e h0 sa sb sc sd = absurd (let f = are.four in omega arith)
 
 pub returns : goal.returns
 returns c = λ held ps h are at.
-    let place = λ (i : ℕ). slice_index c.args.places.now (c.args.k + i) in
+    let index = λ (i : ℕ). slice_index c.args.indices.now (c.args.k + i) in
     let px = λ (i : ℕ). slice_index c.args.pixels i in
-    let a : c.from.result ≡ slice_index c.args.places.now c.args.k = search rules in
-    let b : c.from-2.result ≡ place 1 = search rules in
-    let d : c.from-3.result ≡ place 2 = search rules in
-    let e : c.from-4.result ≡ place 3 = search rules in
-    four_swapped held ps c.args.pixels (slice_index c.args.places.now c.args.k ∷ place 1 ∷ place 2 ∷ place 3 ∷ []) c.args.self.now c.swap-a.new.self c.swap-b.new.self c.swap-c.new.self c.swap-d.new.self
+    let a : c.from.result ≡ slice_index c.args.indices.now c.args.k = search rules in
+    let b : c.from-2.result ≡ index 1 = search rules in
+    let d : c.from-3.result ≡ index 2 = search rules in
+    let e : c.from-4.result ≡ index 3 = search rules in
+    four_swapped held ps c.args.pixels (slice_index c.args.indices.now c.args.k ∷ index 1 ∷ index 2 ∷ index 3 ∷ []) c.args.self.now c.swap-a.new.self c.swap-b.new.self c.swap-c.new.self c.swap-d.new.self
     c.swap-a.result c.swap-b.result c.swap-c.result c.swap-d.result are at h
     (subst (λ z. Swapped c.args.self.now c.swap-a.new.self z (px 0) c.swap-a.result) a c.swap-a.ensures)
     (subst (λ z. Swapped c.swap-a.new.self c.swap-b.new.self z (px 1) c.swap-b.result) b c.swap-b.ensures)

@@ -40,17 +40,17 @@ returns-in-Err-clause-step g c =
 pub returns-then-self-gt-DECODED_AHEAD-clause-step : goal.returns-then-self-gt-DECODED_AHEAD-clause-step
 returns-then-self-gt-DECODED_AHEAD-clause-step g c =
     let pixels = c.requires.pixels in
-    let out = c.front_of_image-front.new.out in
+    let out = c.keep_front_of_image-front.new.out in
     let now = c.in-Ok.now in
     let old : length c.args.self.now.bytes ≡ 3072 = omega arith in
     let within : c.args.room ≤ length c.args.self.now.bytes = omega (arith, old, c.requires.room.1) in
     let whole = minus_whole g.row.N c.args.self.now.undecoded now.at c.requires.channels pixels.1 c.in-Ok.ensures.read.goes_on.fillable.whole.1 in
-    let size = length-take-le c.args.room out (omega (arith, within, c.front_of_image-front.auto.out)) in
+    let size = length-take-le c.args.room out (omega (arith, within, c.keep_front_of_image-front.auto.out)) in
     let below = c.in-Ok.ensures.read.goes_on.below refl (omega (arith, size, length-take-le c.args.room c.args.self.now.bytes within, c.requires.room.0)) in
     gives_none (λ n start given h.
     let l = room_lent c.args.self.now c.args.room c.requires.channels h c.requires.none within c.requires.whole (omega (arith, c.if-self-gt-DECODED_AHEAD.true, c.requires.room.1)) in
-    subst (λ z. IsUnread g.row.F g.row.N n start (g.R.Chunks.ahead c.front_of_image-front.new.reader) given
-    (record c.args.self.now { table = c.front_of_image-front.new.table; last = now.last; bytes = z; from = 0; to = now.at; undecoded = c.args.self.now.undecoded - now.at })) (take-append-drop c.args.room out)
+    subst (λ z. IsUnread g.row.F g.row.N n start (g.R.Chunks.ahead c.keep_front_of_image-front.new.reader) given
+    (record c.args.self.now { table = c.keep_front_of_image-front.new.table; last = now.last; bytes = z; from = 0; to = now.at; undecoded = c.args.self.now.undecoded - now.at })) (take-append-drop c.args.room out)
     (kept_read (take c.args.room out) (drop c.args.room out) c.requires.channels h c.requires.none l (c.in-Ok.ensures.read.goes_on.between l.gone _ _ l.before)
     below (omega (arith, size, c.if-self-gt-DECODED_AHEAD.true, c.requires.room.1))))
     ((omega arith, omega (arith, below, size, c.requires.room.1)), whole, pixels.2, pixels.3, λ some. absurd (omega (arith, some, c.requires.none)))
@@ -62,7 +62,7 @@ returns-in-Err-rest-clause-step g c = record {
       let l = rest_lent c.args.self.now c.requires.channels h c.requires.none (omega arith) c.requires.some (omega (arith, c.if-self-gt-DECODED_AHEAD.false)) in
       let count = rest_count c.requires.channels h c.requires.none l (rest_whole c.requires.channels h c.requires.none.0 c.requires.some) in
       faulted _ c.fail-in-Err-rest.ensures
-      (subst (λ k. RefusesChunks g.R.Chunks.in_memory k start (g.R.Chunks.ahead c.rest_of_image-rest.new.reader) c.in-Err-rest.e)
+      (subst (λ k. RefusesChunks g.R.Chunks.in_memory k start (g.R.Chunks.ahead c.keep_rest_of_image-rest.new.reader) c.in-Err-rest.e)
       (count ∙ all_enough c.requires.channels h c.requires.none (omega (arith, c.if-self-gt-DECODED_AHEAD.false)) enough) (c.in-Err-rest.ensures.refused l.gone _ _ l.before));
 }
 
@@ -73,7 +73,7 @@ returns-clause-step g c =
     let short : c.args.self.now.undecoded ≤ 3072 = omega (arith, c.if-self-gt-DECODED_AHEAD.false) in
     gives_none (λ n start given h.
     let l = rest_lent c.args.self.now c.requires.channels h c.requires.none size c.requires.some short in
-    rest_read c.rest_of_image-rest.new.out c.requires.channels h c.requires.none l (c.in_default.ensures.read l.gone _ _ l.before)
-    (omega (arith, short, size, c.rest_of_image-rest.auto.out)) (rest_whole c.requires.channels h c.requires.none.0 c.requires.some))
-    ((omega arith, omega (arith, short, size, c.rest_of_image-rest.auto.out)), none_written g.row.N c.requires.channels, pixels.2, pixels.3, λ some. absurd (omega (arith, some, c.requires.none)))
+    rest_read c.keep_rest_of_image-rest.new.out c.requires.channels h c.requires.none l (c.in_default.ensures.read l.gone _ _ l.before)
+    (omega (arith, short, size, c.keep_rest_of_image-rest.auto.out)) (rest_whole c.requires.channels h c.requires.none.0 c.requires.some))
+    ((omega arith, omega (arith, short, size, c.keep_rest_of_image-rest.auto.out)), none_written g.row.N c.requires.channels, pixels.2, pixels.3, λ some. absurd (omega (arith, some, c.requires.none)))
     (omega (arith, c.requires.none)) refl

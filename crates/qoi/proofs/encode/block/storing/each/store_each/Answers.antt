@@ -35,7 +35,7 @@ returns-clause-written c = λ few.
     let m2 : List ℕ = c.with_alphas-two.result in
     let m3 : List ℕ = c.with_alphas-three.result in
     let m4 : List ℕ = c.with_alphas-four.result in
-    let a = widened_are c.args.alpha c.make_words-a.result c.fits-alpha.0 c.fits-alpha.1 c.make_words-a.ensures in
+    let a = widened_are c.args.alpha c.join_lanes-a.result c.fits-alpha.0 c.fits-alpha.1 c.join_lanes-a.ensures in
     let halves : c.halves-sizes.result ≡ number_l 256 (take 8 ss) ∷ number_l 256 (drop 8 ss) ∷ [] =
     c.halves-sizes.ensures ∙ ap (λ z. number_l 256 (take 8 z) ∷ number_l 256 (drop 8 z) ∷ []) (c.lesser.ensures ∙ lesser_few 16 5 ss c.fits-size.0 few) in
     let first = c.store_eight-end.ensures.written (take 8 ss)

@@ -1,0 +1,11 @@
+-- Chunks were taken, and their pixels written and seen; a stretch begins, or there is no room ahead.
+use Rattle.std.proofs.Common.{◌+◌, ◌-◌, ◌≤◌}
+use Rattle.qoi.specs.inner.Filling.{FastChunks}
+use Rattle.qoi.proofs.decode.stretches.chunks_by_stretches.Given as goal
+
+abbrev pub invariant-loop-now : goal.invariant-loop-now
+invariant-loop-now g l = FastChunks l.bytes l.fn.from l.initial.table l.initial.out l.now l.table l.out
+    × (l.near ≤ l.far) × (l.now.taken ≤ l.far → l.now.taken ≤ l.near)
+
+abbrev pub decreases-loop-now : goal.decreases-loop-now
+decreases-loop-now g l = l.far + 1 - l.now.taken

@@ -1,0 +1,57 @@
+-- By blocks, from what the coder knows to what is carried, and back.
+use Rattle.std.proofs.Common.{◌≡◌, ℕ, List, inl, inr, ◌<◌, length, refl, sym, ap, ◌∙◌, arith, subst}
+use Rattle.std.proofs.lemmas.Bool.{true≢false}
+use Rattle.qoi.specs.inner.BlockLoop.{InBlocks, IsCarried}
+use Rattle.qoi.specs.Styles.{Style, style_in}
+use Rattle.qoi.specs.inner.Coder.{Pixels, pixels_in, kept_bytes}
+use Rattle.qoi.proofs.encoding.coder.CoderLink.{still_between}
+use Rattle.qoi.proofs.encode.blocks.write_blocks.Goals.{then-loop-rest-test+else-has_block, else-loop-rest-test}
+use Rattle.qoi.proofs.encode.blocks.write_blocks.Goals as goal
+
+pub loop-rest-init : goal.loop-rest-init
+loop-rest-init g c = record {
+  less = inr (refl, c.args.piece.not_full);
+  written = λ ahead more b. record {
+    last = c.args.last.now;
+    is = subst (λ l. IsCarried l c.carried-carry.result) c.new.ensures.last c.carried-carry.ensures;
+    between = b;
+    goes = c.requires.goes;
+  };
+}
+
+pub loop-rest-preserved : goal.loop-rest-preserved
+loop-rest-preserved g c =
+    let i = c.loop-rest.invariant in
+    let step = c.write_front_block.ensures in
+    let front = c.front_of.ensures.raw in
+    let size = ap (λ r. length (pixels_in r)) front in
+    let style = style_in g.row.STYLE c.args.front.style in
+    let same : style_in g.row.STYLE c.front_of.result.style ≡ style = ap (style_in g.row.STYLE) c.front_of.ensures.style in
+    record {
+      less = inl (elim i.less [ inl less ↦ omega (arith, step.less, size, less) | inr same ↦ omega (arith, step.less, size, same.0) ]);
+      written = λ ahead more b.
+          let n = length (pixels_in c.args.front.raw) in
+          let In = λ (s : Style) (r : Pixels g.row.N) (kept : List ℕ). InBlocks s ahead n (pixels_in r) more c.loop-rest.table c.loop-rest.carry kept in
+          let was : In style c.front_of.result.raw (kept_bytes c.open.result.piece) =
+          subst (λ r. In style r (kept_bytes c.open.result.piece)) (sym front) (subst (In style c.loop-rest.rest) (sym c.open.ensures) (i.written ahead more b)) in
+          subst (λ s. InBlocks s ahead n (pixels_in c.write_front_block.result.0) more c.write_front_block.new.table c.write_front_block.result.1 (kept_bytes c.write_front_block.result.2)) same
+          (step.written ahead _ more (omega (arith, ap (λ w. length (pixels_in w)) c.front_of.ensures.whole)) (subst (λ s. In s c.front_of.result.raw (kept_bytes c.open.result.piece)) (sym same) was));
+    }
+
+pub returns : goal.returns
+returns g c =
+    let i = c.loop-rest.invariant in
+    let after = c.coder_after.ensures in
+    let less : length (pixels_in c.loop-rest.rest) < length (pixels_in c.args.front.raw) = elim i.less [
+      | inl less ↦ less
+      | inr same ↦ absurd (elim c.loop-rest-test.branch [
+        | then-loop-rest-test+else-has_block w ↦ true≢false (sym (w.has_block.ensures.1 (omega (arith, same.0, c.args.front.enough))) ∙ w.if-has_block.false)
+        | else-loop-rest-test w ↦ omega (arith, same.1, c.is_full.ensures.full w.loop-rest-test.false)
+      ])
+    ] in
+    record {
+      opaque = c.coder_after.result.opaque;
+      whole = c.loop-rest.rest.whole;
+      less = less;
+      on = λ ahead more b. still_between after.carried after.begun (inr less) (i.written ahead more b);
+    }

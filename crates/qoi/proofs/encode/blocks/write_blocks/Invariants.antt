@@ -1,0 +1,17 @@
+-- The pixels up to here are written, but for the repeats that are carried.
+use Rattle.std.proofs.Common.{◌≡◌, ◌⊎◌, ℕ, List, ◌++◌, ◌-◌, ◌<◌, length}
+use Rattle.qoi.specs.Qoi.{RgbaPixel}
+use Rattle.qoi.specs.inner.BlockLoop.{InBlocks}
+use Rattle.qoi.specs.Styles.{style_in}
+use Rattle.qoi.specs.inner.Coder.{pixels_in, kept_bytes, CoderBetween, SPARE}
+use Rattle.qoi.proofs.encode.blocks.write_blocks.Given as goal
+
+abbrev pub invariant-loop-rest : goal.invariant-loop-rest
+invariant-loop-rest g l = record {
+  less : (length (pixels_in l.rest) < length (pixels_in l.fn.front.raw)) ⊎ ((length (pixels_in l.rest) ≡ length (pixels_in l.fn.front.raw)) × (l.piece.end < g.row.ROOM - SPARE));
+  written : (ahead : List ℕ) (more : List RgbaPixel) → CoderBetween (style_in g.row.STYLE l.fn.front.style) ahead (pixels_in l.fn.front.raw ++ more) l.fn.table l.fn.last (kept_bytes l.fn.piece.piece)
+      → InBlocks (style_in g.row.STYLE l.fn.front.style) ahead (length (pixels_in l.fn.front.raw)) (pixels_in l.rest) more l.table l.carry (kept_bytes l.piece);
+}
+
+abbrev pub decreases-loop-rest : goal.decreases-loop-rest
+decreases-loop-rest g l = length (pixels_in l.rest)
