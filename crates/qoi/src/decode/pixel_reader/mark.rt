@@ -99,8 +99,8 @@ impl Mark {
     }
 
     /// A reader that goes on from the mark in the slice that was marked, or in one that begins with
-    /// it. In another slice it may be refused, or read other bytes: `read` then promises only how
-    /// many come.
+    /// it. In another slice it may be refused, or read other bytes, of which `read` then promises
+    /// only how many come.
     ///
     /// `UnexpectedBufferEnd` if the slice ends before the mark.
     #[tactic(auto, unfolding(crate::specs::pieces::Mark::marked_left, crate::specs::pieces::PixelReader::pixels_left))]

@@ -1,4 +1,4 @@
-//! Callers that go on from within a picture. Only the loops have proof files, with their invariants.
+//! Callers that go on from within a picture, by a clone or by a mark. None has a proof file.
 ghost use Rattle.std.specs.Prelude.{◌≡◌, ◌*◌, ℕ, List, ◌++◌, take, drop, Some, IfOk};
 ghost use Rattle.qoi.specs.Decoded.{HasHeader};
 ghost use Rattle.qoi.specs.DecoderState.{DecoderState};
@@ -136,8 +136,8 @@ fn a_mark_in_a_longer_slice(rt: HostRuntime) {
     assert_given(&rt, again(alloc, &pixels, &file, &longer), &PICTURE[4..]);
 }
 
-// A mark goes on in any slice: it is refused if that ends before it, else the bytes that stand there
-// are read.
+// A mark in the file, in slices that end before and behind it, and in one of other bytes: what stands
+// behind it is read, or refused.
 #[test]
 fn a_mark_in_other_slices(rt: HostRuntime) {
     let file = ONE_RGB_PIXEL;

@@ -1,6 +1,6 @@
 //! Small examples of definitions of the format and of decoding, for numbers, orders and sides that
-//! no law fixes. The prover computes them.
-ghost use Rattle.std.specs.Prelude.{◌≡◌, ℕ, ◌++◌, [], ◌∷◌, length, replicate, codes, Ok, Err, Some, true, false};
+//! no law fixes, and of the law on frames that are found. The prover computes them.
+ghost use Rattle.std.specs.Prelude.{◌≡◌, ℕ, List, ◌++◌, [], ◌∷◌, length, take, drop, replicate, codes, Ok, Err, Some, true, false};
 ghost use Rattle.qoi.specs.declared.error.Error.{Error};
 ghost use Rattle.qoi.specs.declared.types.Channels.{Channels};
 ghost use Rattle.qoi.specs.declared.types.ColorSpace.{ColorSpace};
@@ -14,6 +14,10 @@ ghost use Rattle.qoi.specs.DecoderState.{output_byte_count, TakesAtMost};
 ghost use Rattle.qoi.specs.Encoded.{max_len, IsFileLength};
 ghost use Rattle.qoi.specs.Regular.{Covers, Regular};
 ghost use Rattle.qoi.specs.ErrorText.{printed};
+ghost use Rattle.qoi.specs.Images.{BeginsWithFile};
+ghost use Rattle.qoi.specs.Tiles.{AreFrames};
+
+use qoi::laws::reading::frames_are_found;
 
 /// The least and the greatest numbers in bytes and chunks, the lengths of the longest chunk and of
 /// the end marker, regular lists, and pixels that begin with an image.
@@ -249,3 +253,16 @@ pub fn decoder_examples()
     ensures within { TakesAtMost 13 (Some (replicate 13 0)) (Some []) }
     ensures beyond { TakesAtMost 13 (Some (replicate 14 0)) (Some []) → ⊥ }
 {}
+
+/// Two files, of 23 and 26 bytes, and another byte: whatever frames are found there are these two.
+pub fn frame_examples()
+    ensures { (bytes ends : List ℕ) (found : List (List ℕ)) (at : ℕ)
+        → bytes ≡ (file default_header (Run 1 ∷ [])
+        ++ file default_header (Rgb 11 121 231 ∷ [])) ++ 7 ∷ []
+        → AreFrames (take at bytes) ends found → (BeginsWithFile (drop at bytes) → ⊥)
+        → (take at bytes ≡ file default_header (Run 1 ∷ [])
+        ++ file default_header (Rgb 11 121 231 ∷ [])) × (ends ≡ 0 ∷ 23 ∷ [])
+        × (found ≡ (0 ∷ 0 ∷ 0 ∷ []) ∷ (11 ∷ 121 ∷ 231 ∷ []) ∷ []) }
+{
+    frames_are_found();
+}

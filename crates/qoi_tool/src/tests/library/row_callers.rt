@@ -57,7 +57,7 @@ pub fn send_rows<W: Write>(file: &[u8], out: &mut W) -> Result<(), Error>
     Ok(())
 }
 
-// The file of a pixel, whole, followed by two bytes, cut at each byte, and with a wrong end marker.
+// The file of a pixel.
 #[test]
 fn callers_take_one_pixel(rt: HostRuntime) {
     let alloc = rt.alloc();

@@ -1,6 +1,6 @@
-//! Two images, one above the other, are encoded as one, in the memory of a piece. The loop has a proof
-//! file, with its invariant, and `write_both` an answer.
-ghost use Rattle.std.specs.Prelude.{◌≡◌, ◌+◌, ◌++◌, ℕ, List, Option, Some, IfOk, OnOk};
+//! Two images, one above the other, are encoded as one, in the memory of a piece. Only the loop has a
+//! proof file, with its invariant.
+ghost use Rattle.std.specs.Prelude.{◌≡◌, ◌+◌, ◌++◌, ℕ, List, Option, Some, IfOk, IfSome, OnOk};
 ghost use Rattle.std.specs.Io.KnownBytes.{Appends};
 ghost use Rattle.qoi.specs.declared.types.Style.TheVariants.{Reference};
 ghost use Rattle.qoi.specs.Encoded.{image_file};
@@ -13,21 +13,16 @@ use qoi::{Decoder, Error, Header, PixelWriter, Reader, Result, Style};
 use std::alloc::Global;
 use std::io::Write;
 
-/// Encodes a decoder's image behind what a writer took. What it took and the image are joined
-/// (`joined`), so that an image may follow another one.
+/// Encodes a decoder's image behind what a writer took. `IfSome` stands where a variable for the bytes
+/// ahead would do, so that the prover finds what two calls in a row come to.
 pub fn append_image<R: Reader + Drop, W: Write + Drop>(
     decoder: Decoder<R>,
     writer: &mut PixelWriter<W>,
 ) -> Result<()>
-    ensures taken { (e : EncoderState) (before : Option (List ℕ)) (bytes : List ℕ)
-        → HasTaken W.contents e before writer.old → R.ahead decoder.reader ≡ Some bytes
-        → OnOk result (HasTaken W.contents
-        (and_raw e (front_image decoder.channels decoder.header bytes)) before writer.new) }
-    ensures joined { (e : EncoderState) (before : Option (List ℕ)) (first all bytes : List ℕ)
-        → HasTaken W.contents (and_raw e first) before writer.old
-        → R.ahead decoder.reader ≡ Some bytes
-        → all ≡ first ++ front_image decoder.channels decoder.header bytes
-        → OnOk result (HasTaken W.contents (and_raw e all) before writer.new) }
+    ensures { (e : EncoderState) (before : Option (List ℕ))
+        → HasTaken W.contents e before writer.old → IfSome (R.ahead decoder.reader) (λ bytes.
+        OnOk result (HasTaken W.contents
+        (and_raw e (front_image decoder.channels decoder.header bytes)) before writer.new)) }
 {
     let (mut pixels, mut row) = (decoder.into_pixels(), [0; 4096]);
     while pixels.left() > 0 {

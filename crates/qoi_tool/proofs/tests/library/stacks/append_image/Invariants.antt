@@ -1,5 +1,5 @@
 -- What was read so far was taken by the writer, behind what it had.
-use Rattle.std.proofs.Common.{◌≡◌, ℕ, List, Option, ◌++◌}
+use Rattle.std.proofs.Common.{ℕ, List, Option}
 use Rattle.qoi.specs.EncoderState.{EncoderState}
 use Rattle.qoi.specs.pieces.PixelReader.{pixels_left, HasGiven}
 use Rattle.qoi.specs.pieces.PixelWriter.{HasTaken, and_raw}
@@ -11,8 +11,6 @@ invariant-loop-row g l = record {
   read : HasGiven l.fn.decoder (g.R.Reader.ahead l.fn.decoder.reader) (g.R.Reader.ahead l.pixels.reader) given l.pixels;
   taken : (e : EncoderState) (before : Option (List ℕ)) → HasTaken g.W.Write.contents e before l.initial.writer
       → HasTaken g.W.Write.contents (and_raw e given) before l.writer;
-  joined : (e : EncoderState) (before : Option (List ℕ)) (first all : List ℕ) → HasTaken g.W.Write.contents (and_raw e first) before l.initial.writer
-      → all ≡ first ++ given → HasTaken g.W.Write.contents (and_raw e all) before l.writer;
 }
 
 abbrev pub decreases-loop-row : goal.decreases-loop-row
