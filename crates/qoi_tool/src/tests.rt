@@ -4,7 +4,6 @@
 mod fakes;
 mod library;
 mod refusals;
-mod uneven_reads;
 
 use crate::tests::fakes::{Bad, ENDS, End, NONE, ONE_RGB_PIXEL, PIXEL, Sink, Source, take_memory};
 use crate::tests::library::support::examples::{
@@ -204,27 +203,6 @@ fn words_of_end(end: End, came: bool) -> Option<&'static [u8]> {
         End::Named => Some(b"x\n"),
         _ => Some(b""),
     }
-}
-
-// `info` takes the header, from a reader that gives at most so many bytes a call, and refuses a cut
-// one.
-fn assert_lines(rt: &impl Abort, alloc: Global, most: usize) {
-    let mut input = Source::new(&ONE_RGB_PIXEL, most, NONE);
-    let mut output = made::sink(rt, alloc, usize::MAX, NONE);
-    assert_io(rt, alloc, "info", (&mut input, &mut output), None);
-    assert_bytes(rt, &output.got, LINE);
-    assert_number(rt, input.left.len(), 12);
-    let mut input = Source::new(&ONE_RGB_PIXEL[..13], most, NONE);
-    let mut output = made::sink(rt, alloc, usize::MAX, NONE);
-    assert_io(rt, alloc, "info", (&mut input, &mut output), Some(&[]));
-    assert_bytes(rt, &output.got, &[]);
-}
-
-// The reader gives all that is asked for in a call, or a byte.
-#[test]
-fn header_lines(rt: HostRuntime) {
-    assert_lines(&rt, rt.alloc(), usize::MAX);
-    assert_lines(&rt, rt.alloc(), 1);
 }
 
 // The program reads a byte a call, and this call fails. Call 27 finds the end, so a later one never

@@ -20,7 +20,6 @@ mod facts;
 mod faults;
 mod frames;
 mod generated;
-mod indexed;
 mod memory;
 mod packs;
 mod pixel;

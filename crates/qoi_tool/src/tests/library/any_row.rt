@@ -6,12 +6,10 @@ ghost use Rattle.qoi.specs.Images.{front_image};
 ghost use Rattle.qoi.specs.pieces.Mark.{marked_left, MarksRows};
 ghost use Rattle.qoi.specs.pieces.PixelReader.{pixels_left, HasRows};
 
-use crate::tests::fakes::{ONE_RGB_PIXEL, PIXEL};
-use crate::tests::library::support::{
-    assert_both, assert_bytes, assert_count, assert_cut, assert_given, assert_unmarked, made,
-};
+use crate::tests::library::support::{assert_both, assert_given, assert_number, made};
 use qoi::{Bytes, Error, Mark, PixelReader, Reader};
 use std::alloc::Global;
+use std::process::Abort;
 
 /// Reads what is left of an image, of which k rows were read.
 #[tactic(auto, unfolding(qoi::specs::pieces::PixelReader::HasRows))]
@@ -47,6 +45,18 @@ pub fn by_clone<R: Reader + Clone + Drop>(
     Ok((first, second))
 }
 
+// What is left of an image behind a mark.
+fn rest_behind(alloc: Global, mark: &Mark, file: &[u8]) -> Result<Vec<u8>, Error>
+    ensures { (d e : DecoderState (List ℕ)) (bytes : List ℕ) (stride k : ℕ)
+        → HasHeader e (Some file.now) (Some bytes) → MarksRows d bytes stride k mark.now
+        → IfOk result (λ rest. rest.items ≡ take (marked_left mark.now)
+        (drop (stride * k) (front_image d.channels d.header bytes))) }
+{
+    let mut pixels = mark.resume(file)?;
+    let rest = rest(alloc, &mut pixels)?;
+    Ok(rest)
+}
+
 /// A slice's reader is doubled by a mark: both are read to the end.
 pub fn twice(
     alloc: Global,
@@ -61,22 +71,10 @@ pub fn twice(
         (drop (stride * k) (front_image d.channels d.header bytes)))) }
 {
     let mut pixels = pixels;
-    let mut other = pixels.mark(file).resume(file)?;
+    let mark = pixels.mark(file);
     let first = rest(alloc, &mut pixels)?;
-    let second = rest(alloc, &mut other)?;
+    let second = rest_behind(alloc, &mark, file)?;
     Ok((first, second))
-}
-
-// What is left of an image behind a mark.
-fn rest_behind(alloc: Global, mark: &Mark, file: &[u8]) -> Result<Vec<u8>, Error>
-    ensures { (d e : DecoderState (List ℕ)) (bytes : List ℕ) (stride k : ℕ)
-        → HasHeader e (Some file.now) (Some bytes) → MarksRows d bytes stride k mark.now
-        → IfOk result (λ rest. rest.items ≡ take (marked_left mark.now)
-        (drop (stride * k) (front_image d.channels d.header bytes))) }
-{
-    let mut pixels = mark.resume(file)?;
-    let rest = rest(alloc, &mut pixels)?;
-    Ok(rest)
 }
 
 /// What is left of an image behind a mark, in a slice that begins with the one that was marked.
@@ -101,24 +99,29 @@ pub fn again(
 // Three rows of four bytes.
 const PICTURE: [u8; 12] = [11, 12, 13, 14, 21, 22, 23, 24, 31, 32, 33, 34];
 
+// The reader of a slice's picture behind its first row.
+fn behind_a_row<'a>(rt: &impl Abort, file: &'a [u8]) -> PixelReader<Bytes<'a>> {
+    let mut pixels = made::slice(rt, file).into_pixels();
+    pixels.read(&mut [0; 4]).expect(rt, "refused");
+    pixels
+}
+
 #[test]
 fn the_third_row_by_a_clone(rt: HostRuntime) {
     let alloc = rt.alloc();
     let file = made::encoded(&rt, alloc, &PICTURE, 1, 3);
     let mut pixels = made::stream(&rt, &file[..]).into_pixels();
-    let mut rows = [0; 8];
-    pixels.read(&mut rows).expect(&rt, "refused");
+    pixels.read(&mut [0; 8]).expect(&rt, "refused");
     let both = by_clone(alloc, pixels);
-    assert_both(&rt, both, &[31, 32, 33, 34], &[31, 32, 33, 34]);
+    assert_both(&rt, both, &PICTURE[8..], &PICTURE[8..]);
 }
 
 #[test]
 fn the_rows_behind_a_mark(rt: HostRuntime) {
     let alloc = rt.alloc();
     let file = made::encoded(&rt, alloc, &PICTURE, 1, 3);
-    let mut pixels = made::slice(&rt, &file).into_pixels();
-    let mut row = [0; 4];
-    pixels.read(&mut row).expect(&rt, "refused");
+    let pixels = behind_a_row(&rt, &file);
+    assert_number(&rt, pixels.mark(&file).left(), 8);
     let both = twice(alloc, pixels, &file);
     assert_both(&rt, both, &PICTURE[4..], &PICTURE[4..]);
 }
@@ -128,50 +131,7 @@ fn the_rows_behind_a_mark(rt: HostRuntime) {
 fn a_mark_in_a_longer_slice(rt: HostRuntime) {
     let alloc = rt.alloc();
     let file = made::encoded(&rt, alloc, &PICTURE, 1, 3);
-    let mut longer = made::encoded(&rt, alloc, &PICTURE, 1, 3);
-    made::append(&rt, &mut longer, &[7]);
-    let mut pixels = made::slice(&rt, &file).into_pixels();
-    let mut row = [0; 4];
-    pixels.read(&mut row).expect(&rt, "refused");
+    let longer = made::joined(&rt, alloc, &file, &[7]);
+    let pixels = behind_a_row(&rt, &file);
     assert_given(&rt, again(alloc, &pixels, &file, &longer), &PICTURE[4..]);
-}
-
-// A mark in the file, in slices that end before and behind it, and in one of other bytes: what stands
-// behind it is read, or refused.
-#[test]
-fn a_mark_in_other_slices(rt: HostRuntime) {
-    let file = ONE_RGB_PIXEL;
-    let mark = made::slice(&rt, &file).into_pixels().mark(&file);
-    assert!(rt; mark.left() == 3);
-    let mut out = [0; 3];
-    assert_count(
-        &rt,
-        mark.resume(&file).expect(&rt, "refused").read(&mut out),
-        3,
-    );
-    assert_bytes(&rt, &out, &PIXEL);
-    assert_cut(&rt, mark.resume(&file[..13]));
-    let refused = mark
-        .resume(&file[..14])
-        .expect(&rt, "refused")
-        .read(&mut out);
-    assert_cut(&rt, refused);
-    let refused = mark.resume(&[0; 64]).expect(&rt, "refused").read(&mut out);
-    assert_unmarked(&rt, refused);
-}
-
-// A refusal is kept by a mark: what goes on from it reads no more.
-#[test]
-fn a_mark_behind_a_refusal(rt: HostRuntime) {
-    let file = ONE_RGB_PIXEL;
-    let cut = &file[..file.len() - 1];
-    let mut pixels = made::slice(&rt, cut).into_pixels();
-    let mut out = [0; 3];
-    assert_cut(&rt, pixels.read(&mut out));
-    let refused = pixels
-        .mark(cut)
-        .resume(&file)
-        .expect(&rt, "refused")
-        .read(&mut out);
-    assert_cut(&rt, refused);
 }

@@ -15,23 +15,12 @@ use crate::tests::library::support::{
 use qoi::{Channels, Error, Header, Style};
 use std::alloc::Global;
 use std::io::ErrorKind;
-use std::process::Abort;
-
-// The file twice.
-fn files(rt: &impl Abort, alloc: Global) -> Vec<u8> {
-    made::joined(rt, alloc, &ONE_RGB_PIXEL, &ONE_RGB_PIXEL)
-}
-
-#[test]
-fn raw_bytes_of_a_file(rt: HostRuntime) {
-    let alloc = rt.alloc();
-    assert_given(&rt, bounded_bytes(alloc, &ONE_RGB_PIXEL), &PIXEL);
-    assert!(rt; matches!(first_byte(alloc, &ONE_RGB_PIXEL), Ok(0x0b)));
-}
 
 #[test]
 fn vectors(rt: HostRuntime) {
     let alloc = rt.alloc();
+    assert_given(&rt, bounded_bytes(alloc, &ONE_RGB_PIXEL), &PIXEL);
+    assert!(rt; matches!(first_byte(alloc, &ONE_RGB_PIXEL), Ok(0x0b)));
     assert_given(&rt, near_shortest(alloc, &PIXEL, 1, 1), &ONE_RGB_PIXEL);
     assert_given(&rt, shortest(alloc, &PIXEL, 1, 1), &ONE_RGB_PIXEL);
 }
@@ -67,10 +56,6 @@ fn readers(rt: HostRuntime) {
     let (header, left) = header_ahead(ONE_RGB_PIXEL.as_slice()).expect(&rt, "refused");
     assert_header(&rt, &header, &Header::default());
     assert_bytes(&rt, left, &ONE_RGB_PIXEL[14..]);
-}
-
-#[test]
-fn readers_of_images(rt: HostRuntime) {
     let received = receive(rt.alloc(), ONE_RGB_PIXEL.as_slice());
     let (raw, left) = received.expect(&rt, "refused");
     assert_bytes(&rt, &raw, &PIXEL);
@@ -102,7 +87,7 @@ fn lengths_in_all_styles(rt: HostRuntime) {
 #[test]
 fn many_files(rt: HostRuntime) {
     let alloc = rt.alloc();
-    let files = files(&rt, alloc);
+    let files = made::joined(&rt, alloc, &ONE_RGB_PIXEL, &ONE_RGB_PIXEL);
     assert_both(&rt, both_images(alloc, &files), &PIXEL, &PIXEL);
     assert_both(&rt, two_frames(alloc, files.as_slice()), &PIXEL, &PIXEL);
     assert_cut(&rt, all_images(alloc, front(&files, 51)));

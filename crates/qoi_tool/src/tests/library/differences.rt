@@ -11,6 +11,7 @@ ghost use Rattle.qoi_tool.specs.Pictures.{DiffersAt, HaveOneShape};
 use crate::tests::library::support::made;
 use qoi::laws::reading::{files_are_read, pieces_that_come};
 use qoi::{Bytes, Decoder, Error, Header, PixelReader, Result};
+use std::process::Abort;
 
 /// The first byte in which two slices differ, if one does.
 fn first_unequal(one: &[u8], other: &[u8]) -> Option<usize>
@@ -135,6 +136,11 @@ pub fn first_difference(one: &[u8], other: &[u8]) -> Result<Option<usize>>
     difference(first, second, size)
 }
 
+// The first byte in which the images of two files differ is this one.
+fn assert_differ(rt: &impl Abort, one: &[u8], other: &[u8], at: Option<usize>) {
+    assert!(rt; first_difference(one, other).expect(rt, "refused") == at);
+}
+
 // Pictures of three rows of a pixel, of which byte 6 differs, and one of another shape.
 #[test]
 fn a_byte_differs(rt: HostRuntime) {
@@ -142,7 +148,7 @@ fn a_byte_differs(rt: HostRuntime) {
     let one = made::encoded(&rt, alloc, b"first row...", 1, 3);
     let other = made::encoded(&rt, alloc, b"first sow...", 1, 3);
     let wide = made::encoded(&rt, alloc, b"first row...", 3, 1);
-    assert!(rt; matches!(first_difference(&one, &other), Ok(Some(6))));
-    assert!(rt; matches!(first_difference(&one, &one), Ok(None)));
+    assert_differ(&rt, &one, &other, Some(6));
+    assert_differ(&rt, &one, &one, None);
     assert!(rt; first_difference(&one, &wide).is_err());
 }

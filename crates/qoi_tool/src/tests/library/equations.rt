@@ -152,20 +152,18 @@ pub fn of_header(alloc: Global, raw: &[u8], header: &Header) -> Result<Vec<u8>, 
 }
 
 #[test]
-fn twice_and_again(rt: HostRuntime) {
-    let twice = again(rt.alloc(), &PIXEL, 1, 1);
+fn saved_and_loaded_again(rt: HostRuntime) {
+    let alloc = rt.alloc();
+    assert_given(&rt, saved_and_loaded(alloc, &PIXEL, 1, 1), &PIXEL);
+    assert_given(&rt, saved_as_and_loaded(alloc, &PIXEL, 1, 1), &PIXEL);
+    let twice = again(alloc, &PIXEL, 1, 1);
     assert_both(&rt, twice, &ONE_RGB_PIXEL, &ONE_RGB_PIXEL);
 }
 
 #[test]
-fn cut_files_are_refused(rt: HostRuntime) {
-    let alloc = rt.alloc();
-    let refusal = without_last(alloc, &PIXEL, 1, 1);
+fn cut_files_and_added_alpha(rt: HostRuntime) {
+    let refusal = without_last(rt.alloc(), &PIXEL, 1, 1);
     assert!(rt; matches!(refusal, Ok(Error::UnexpectedBufferEnd)));
-}
-
-#[test]
-fn added_alpha(rt: HostRuntime) {
     let first = first_alpha(rt.alloc(), &ONE_RGB_PIXEL);
     assert!(rt; matches!(first, Ok((header, 255)) if header.n_pixels() == 1));
 }
@@ -173,23 +171,12 @@ fn added_alpha(rt: HostRuntime) {
 // The header of one pixel in four channels has four bytes.
 #[test]
 fn right_lengths_are_accepted(rt: HostRuntime) {
-    assert_given(&rt, of_right_length(rt.alloc(), &PIXEL, 1, 1), &[]);
-    let file = of_right_length(rt.alloc(), &[0, 0, 0, 255], 1, 1);
-    assert_number(&rt, file.expect(&rt, "refused").len(), 23);
-}
-
-#[test]
-fn valid_sizes_are_accepted(rt: HostRuntime) {
     let alloc = rt.alloc();
+    assert_given(&rt, of_right_length(alloc, &PIXEL, 1, 1), &[]);
+    let file = of_right_length(alloc, &[0, 0, 0, 255], 1, 1);
+    assert_number(&rt, file.expect(&rt, "refused").len(), 23);
     let file = of_header(alloc, &PIXEL, &Header::default());
     assert_given(&rt, file, &ONE_RGB_PIXEL);
-}
-
-#[test]
-fn saved_by_functions_of_our_own(rt: HostRuntime) {
-    let alloc = rt.alloc();
-    assert_given(&rt, saved_and_loaded(alloc, &PIXEL, 1, 1), &PIXEL);
-    assert_given(&rt, saved_as_and_loaded(alloc, &PIXEL, 1, 1), &PIXEL);
 }
 
 #[test]

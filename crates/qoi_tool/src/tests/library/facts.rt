@@ -108,12 +108,7 @@ fn the_same_image(rt: HostRuntime) {
     let (first, second) = both.expect(&rt, "refused");
     assert_bytes(&rt, &first, &PIXEL);
     assert_bytes(&rt, second, &PIXEL);
-}
-
-#[test]
-fn the_same_image_of_clones(rt: HostRuntime) {
-    let alloc = rt.alloc();
-    let both = by_clone_of_cursor(alloc, &ONE_RGB_PIXEL);
+    let both = by_clone_of_cursor(rt.alloc(), &ONE_RGB_PIXEL);
     assert_both(&rt, both, &PIXEL, &PIXEL);
 }
 

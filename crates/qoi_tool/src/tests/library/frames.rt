@@ -6,10 +6,12 @@ ghost use Rattle.qoi.specs.Images.{file_image, file_rest, BeginsWithFile};
 ghost use Rattle.qoi.specs.Tiles.{AreFrames};
 
 use crate::tests::fakes::{ONE_RGB_PIXEL, PIXEL};
-use crate::tests::library::support::{assert_bytes, assert_given, assert_number};
+use crate::tests::library::support::decodings::after;
+use crate::tests::library::support::{assert_bytes, assert_cut, assert_given, made};
 use qoi::laws::reading::{files_are_read, frames_are_found, frames_are_read, frames_stay};
 use qoi::{Decoder, Encoder, Error, decode_to_vec};
 use std::alloc::Global;
+use std::process::Abort;
 
 /// Frames as files in one vector, one right behind the other, and the offset of each.
 #[derive(Drop)]
@@ -187,11 +189,11 @@ fn note(bytes: &[u8], at: usize, offsets: &mut Vec<usize>) -> Result<Option<usiz
     Ok(Some(at + n))
 }
 
-/// How many bytes the file at the front has; none if no file stands there.
-fn file_length(bytes: &[u8]) -> Option<usize>
+/// How many bytes follow the file at the front; none if no file stands there.
+fn rest_length(bytes: &[u8]) -> Option<usize>
     ensures some { IfSome result (λ n. BeginsWithFile bytes.now
-        × (n + length (file_rest bytes.now) ≡ length bytes.now)) }
-    ensures more { IfSome result (λ n. 0 < n) }
+        × (n ≡ length (file_rest bytes.now))) }
+    ensures fewer { IfSome result (λ n. n < length bytes.now) }
     ensures none { BeginsWithFile bytes.now → IsSome result }
 {
     files_are_read();
@@ -199,9 +201,20 @@ fn file_length(bytes: &[u8]) -> Option<usize>
         return None;
     };
     match decoder.into_pixels().finish() {
-        Ok(decoder) => Some(bytes.len() - decoder.into_data().len()),
+        Ok(decoder) => Some(decoder.into_data().len()),
         Err(_) => None,
     }
+}
+
+/// How many bytes the file at the front has; none if no file stands there.
+fn file_length(bytes: &[u8]) -> Option<usize>
+    ensures some { IfSome result (λ n. BeginsWithFile bytes.now
+        × (n + length (file_rest bytes.now) ≡ length bytes.now)) }
+    ensures more { IfSome result (λ n. 0 < n) }
+    ensures none { BeginsWithFile bytes.now → IsSome result }
+{
+    let rest = rest_length(bytes)?;
+    Some(bytes.len() - rest)
 }
 
 // A black pixel. Its file has the chunk `c0`.
@@ -214,72 +227,66 @@ const THREE: [u8; 75] = [
     0x6f, 0x69, 0x66, 0, 0, 0, 1, 0, 0, 0, 1, 3, 0, 0xfe, 0x0b, 0x79, 0xe7, 0, 0, 0, 0, 0, 0, 0, 1,
 ];
 
+// Appends a frame of one pixel.
+fn add(rt: &impl Abort, frames: &mut Frames, raw: &[u8]) {
+    frames.append(raw, 1, 1).expect(rt, "refused");
+}
+
 // A store of these frames.
-fn three(alloc: Global) -> Result<Frames, Error> {
+fn three(rt: &impl Abort, alloc: Global) -> Frames {
     let mut frames = Frames::new(alloc);
-    for raw in [PIXEL, BLACK, PIXEL] {
-        frames.append(&raw, 1, 1)?;
-    }
-    Ok(frames)
+    add(rt, &mut frames, &PIXEL);
+    add(rt, &mut frames, &BLACK);
+    add(rt, &mut frames, &PIXEL);
+    frames
+}
+
+// Compares all that a store holds.
+fn assert_holds(rt: &impl Abort, frames: &Frames, bytes: &[u8], offsets: &[usize]) {
+    assert_bytes(rt, &frames.bytes, bytes);
+    assert!(rt; frames.offsets.as_slice() == offsets);
 }
 
 #[test]
-fn three_frames(rt: HostRuntime) -> Result<(), Error> {
+fn three_frames(rt: HostRuntime) {
     let alloc = rt.alloc();
-    let mut frames = three(alloc)?;
-    assert_bytes(&rt, &frames.bytes, &THREE);
-    assert!(rt; frames.offsets.as_slice() == [0, 26, 49].as_slice());
+    let mut frames = three(&rt, alloc);
     assert_given(&rt, frames.get(alloc, 0), &PIXEL);
     assert_given(&rt, frames.get(alloc, 1), &BLACK);
-    assert_given(&rt, frames.get(alloc, 2), &PIXEL);
-    assert!(rt; frames.get(alloc, 3).is_err());
+    assert_cut(&rt, frames.get(alloc, 3));
     // Two raw bytes are no image.
     assert!(rt; frames.append(&[1, 2], 1, 1).is_err());
-    assert_bytes(&rt, &frames.bytes, &THREE);
-    assert_number(&rt, frames.offsets.len(), 3);
-    Ok(())
+    assert_holds(&rt, &frames, &THREE, &[0, 26, 49]);
 }
 
 #[test]
-fn last_frame_dropped(rt: HostRuntime) -> Result<(), Error> {
-    let alloc = rt.alloc();
-    let mut frames = three(alloc)?;
+fn last_frame_dropped(rt: HostRuntime) {
+    let mut frames = three(&rt, rt.alloc());
     frames.drop_last();
-    assert_number(&rt, frames.bytes.len(), 49);
-    assert_given(&rt, frames.get(alloc, 1), &BLACK);
-    assert!(rt; frames.get(alloc, 2).is_err());
-    frames.append(&PIXEL, 1, 1)?;
-    assert_bytes(&rt, &frames.bytes, &THREE);
-    for _ in 0..4 {
+    assert_holds(&rt, &frames, &THREE[..49], &[0, 26]);
+    for _ in 0..3 {
         frames.drop_last();
     }
-    assert_number(&rt, frames.bytes.len(), 0);
-    assert_number(&rt, frames.offsets.len(), 0);
-    Ok(())
+    assert_holds(&rt, &frames, &[], &[]);
+}
+
+// The store that is recovered from bytes holds these, and another frame behind them.
+fn assert_recovered(rt: &impl Abort, alloc: Global, bytes: &[u8], held: &[u8], offsets: &[usize]) {
+    let bytes = made::bytes(rt, alloc, bytes);
+    let mut frames = Frames::recover(alloc, bytes).expect(rt, "refused");
+    assert_holds(rt, &frames, held, offsets);
+    add(rt, &mut frames, &PIXEL);
+    assert_bytes(rt, after(&frames.bytes, held.len()), &ONE_RGB_PIXEL);
 }
 
 #[test]
-fn recovered(rt: HostRuntime) -> Result<(), Error> {
+fn recovered(rt: HostRuntime) {
     let alloc = rt.alloc();
-    let mut bytes = three(alloc)?.bytes;
-    bytes.truncate(60);
-    let mut frames = Frames::recover(alloc, bytes)?;
-    assert_number(&rt, frames.bytes.len(), 49);
-    assert!(rt; frames.offsets.as_slice() == [0, 26].as_slice());
-    assert_given(&rt, frames.get(alloc, 1), &BLACK);
-    frames.append(&PIXEL, 1, 1)?;
-    assert_bytes(&rt, &frames.bytes, &THREE);
-    let frames = Frames::recover(alloc, frames.bytes)?;
-    assert!(rt; frames.offsets.as_slice() == [0, 26, 49].as_slice());
+    assert_recovered(&rt, alloc, &THREE[..60], &THREE[..49], &[0, 26]);
+    assert_recovered(&rt, alloc, &THREE, &THREE, &[0, 26, 49]);
+    assert_recovered(&rt, alloc, &[], &[], &[]);
     // Other bytes follow a file.
-    let mut bytes = Vec::from_slice(alloc, &ONE_RGB_PIXEL)?;
-    bytes.extend_from_slice(&[0x78, 0x79])?;
-    let frames = Frames::recover(alloc, bytes)?;
-    assert_bytes(&rt, &frames.bytes, &ONE_RGB_PIXEL);
-    assert_number(
-        &rt,
-        Frames::recover(alloc, Vec::new(alloc))?.offsets.len(),
-        0,
-    );
-    Ok(())
+    let (file, mut longer) = (ONE_RGB_PIXEL, [0x78; 28]);
+    longer[..26].copy_from_slice(&file);
+    assert_recovered(&rt, alloc, &longer, &file, &[0]);
 }

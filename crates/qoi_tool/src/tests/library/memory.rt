@@ -4,7 +4,9 @@ use crate::tests::library::support::{
     assert_bytes, assert_count, assert_cut, assert_decoded, assert_given, assert_header,
     assert_no_memory, assert_number, made,
 };
-use qoi::{Decoder, Reader, Result, decode_header, decode_to_buf, encode_to_buf, encode_to_vec};
+use qoi::{
+    Decoder, Reader, Result, RowIndex, decode_header, decode_to_buf, encode_to_buf, encode_to_vec,
+};
 use std::alloc::Global;
 use std::io::Cursor;
 use std::process::Abort;
@@ -123,4 +125,20 @@ fn calls_without_memory(rt: HostRuntime) {
     assert_no_memory(&rt, decoder.clone());
     drop(held);
     assert_decoded(&rt, alloc, &mut decoder, &PIXEL);
+}
+
+// An index of rows is allocated once, and its rows take no memory.
+#[test]
+fn rows_without_memory(rt: HostRuntime) {
+    let alloc = rt.alloc();
+    let raw = made::filled(&rt, alloc, 9, 30_000);
+    let file = made::encoded(&rt, alloc, &raw, 100, 100);
+    let held = take_memory(alloc, 2).expect(&rt, "refused");
+    assert_no_memory(&rt, RowIndex::new(alloc, &file, 4));
+    drop(held);
+    let index = RowIndex::new(alloc, &file, 4).expect(&rt, "refused");
+    let held = take_memory(alloc, 2).expect(&rt, "refused");
+    let left = index.rows(&file, 20).expect(&rt, "refused").left();
+    drop(held);
+    assert_number(&rt, left, 24_000);
 }

@@ -96,15 +96,10 @@ fn at_the_end_of_an_atlas(rt: HostRuntime) {
 
 #[test]
 fn before_other_tiles(rt: HostRuntime) {
-    let mut atlas = Vec::new(rt.alloc());
-    let offset = put_many(&mut atlas, &OTHER, &PIXEL, 3, 1, 1);
-    assert_tile(&rt, rt.alloc(), &atlas, offset, &OTHER);
-}
-
-#[test]
-fn files_in_an_atlas(rt: HostRuntime) {
     let alloc = rt.alloc();
     let mut atlas = Vec::new(alloc);
+    let offset = put_many(&mut atlas, &OTHER, &PIXEL, 3, 1, 1);
+    assert_tile(&rt, alloc, &atlas, offset, &OTHER);
     let offset = put_file(alloc, &mut atlas, &ONE_RGB_PIXEL);
     assert_tile(&rt, alloc, &atlas, offset, &PIXEL);
 }

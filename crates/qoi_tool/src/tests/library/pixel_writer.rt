@@ -1,11 +1,11 @@
-//! Images whose raw bytes come piece by piece: their files are those of the whole images; refusals;
-//! writers that fail, and memory that does.
+//! Images whose raw bytes come piece by piece: what a writer gets; writers that fail, and memory that
+//! does.
 use crate::tests::fakes::{Bad, ENDS, NONE, ONE_RGB_PIXEL, PIXEL, Sink, take_but};
 use crate::tests::library::support::images::{Image, row};
 use crate::tests::library::support::{
     assert_bytes, assert_fails, assert_header, assert_number, assert_refused, made,
 };
-use qoi::{Channels, ColorSpace, Error, Header, PixelWriter, Style};
+use qoi::{Channels, Error, Header, PixelWriter, Style};
 use std::alloc::Global;
 use std::io::{ErrorKind, Write};
 use std::process::Abort;
@@ -28,72 +28,20 @@ fn write<W: Write + Drop>(rt: &impl Abort, pixels: &mut PixelWriter<W>, piece: &
     assert_number(rt, pixels.left(), left);
 }
 
-// The writer gets the image's file in pieces of this size.
-fn assert_file(rt: &impl Abort, alloc: Global, image: &Image, size: usize) {
-    let sink = made::sink(rt, alloc, usize::MAX, NONE);
-    let mut pixels = before(rt, alloc, image.header, image.style, sink);
-    assert_header(rt, pixels.header(), &image.header);
-    assert!(rt; pixels.style() == image.style);
-    assert_number(rt, pixels.left(), image.raw.len());
-    for piece in image.raw.chunks(size.max(1)) {
-        write(rt, &mut pixels, piece);
-    }
-    write(rt, &mut pixels, &[]);
-    let sink = pixels.finish().expect(rt, "refused");
-    assert_bytes(rt, &sink.got, &image.file);
-}
-
-// Images that are held whole, and of several pieces of 4096 bytes. At most 8256 raw bytes are held,
-// none of more than 4128 at once.
-#[test]
-fn pieces(rt: HostRuntime) {
-    let alloc = rt.alloc();
-    for style in [Style::Reference, Style::Places, Style::Tight] {
-        for channels in [Channels::Rgb, Channels::Rgba] {
-            for width in [1, 17, 200, 20_000] {
-                let image = Image::drawn(&rt, alloc, 0x0dd5, row(width, channels), style);
-                for size in [1, 7, 63, 192, 1032, 4128, 4129, 8257, 80_000] {
-                    assert_file(&rt, alloc, &image, size);
-                }
-            }
-        }
-    }
-}
-
 // The calls that a writer gets: the header; none for bytes that are held; the rest. None of them is
 // a flush.
 #[test]
 fn calls_of_the_writer(rt: HostRuntime) {
     let alloc = rt.alloc();
     let sink = made::sink(&rt, alloc, usize::MAX, NONE);
-    let mut pixels = before(&rt, alloc, Header::default(), Style::Reference, sink);
+    let mut pixels = before(&rt, alloc, Header::default(), Style::Tight, sink);
+    assert_header(&rt, pixels.header(), &Header::default());
+    assert!(rt; pixels.style() == Style::Tight);
     write(&rt, &mut pixels, &PIXEL[..1]);
     write(&rt, &mut pixels, &PIXEL[1..]);
     let sink = pixels.finish().expect(&rt, "refused");
     assert_bytes(&rt, &sink.got, &ONE_RGB_PIXEL);
     assert_number(&rt, sink.calls, 2);
-}
-
-// More bytes than the image has are refused, and nothing is taken; fewer are refused at the end. The
-// writer, which is lent, got the header in one call, and no other.
-#[test]
-fn other_lengths(rt: HostRuntime) {
-    let alloc = rt.alloc();
-    let header = Header::try_new(2, 2, Channels::Rgb, ColorSpace::Srgb).expect(&rt, "refused");
-    let mut sink = made::sink(&rt, alloc, usize::MAX, NONE);
-    let mut pixels = before(&rt, alloc, header, Style::Reference, &mut sink);
-    write(&rt, &mut pixels, &[1, 2, 3, 4, 5]);
-    let more = pixels.write(&[1, 2, 3, 4, 5, 6, 7, 8]).err();
-    assert_refused(&rt, alloc, more, "invalid image length: 13 bytes for 2x2");
-    write(&rt, &mut pixels, &[1, 2, 3, 4, 5, 6]);
-    let fewer = pixels.finish().err();
-    assert_refused(&rt, alloc, fewer, "invalid image length: 11 bytes for 2x2");
-    assert_number(&rt, sink.calls, 1);
-    assert_bytes(
-        &rt,
-        &sink.got,
-        &[0x71, 0x6f, 0x69, 0x66, 0, 0, 0, 2, 0, 0, 0, 2, 3, 0],
-    );
 }
 
 // A writer can be had back before all bytes came: it has a beginning of the file, here the header,
@@ -108,16 +56,6 @@ fn unfinished(rt: HostRuntime) {
     let mut begun = [0xfd; 38];
     begun[..16].copy_from_slice(b"qoif\0\0\x07\xd0\0\0\0\x01\x03\0\xa9\x88");
     assert_bytes(&rt, &pixels.into_writer().got, &begun);
-}
-
-// A header of no pixels is refused before anything is sent.
-#[test]
-fn invalid_header(rt: HostRuntime) {
-    let mut sink = made::sink(&rt, rt.alloc(), usize::MAX, NONE);
-    let header = row(0, Channels::Rgb);
-    let refusal = PixelWriter::new(rt.alloc(), header, Style::Places, &mut sink).err();
-    assert_refused(&rt, rt.alloc(), refusal, "invalid image dimensions: 0x1");
-    assert_number(&rt, sink.calls, 0);
 }
 
 // After a fault each further call refuses.

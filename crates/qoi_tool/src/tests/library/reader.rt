@@ -4,7 +4,7 @@ ghost use Rattle.qoi.specs.Raw.{IsChannels};
 
 use crate::tests::fakes::{ONE_RGB_PIXEL, PIXEL};
 use crate::tests::library::support::{assert_bytes, assert_header};
-use qoi::{Buffered, Bytes, Error, Header, Reader, Result};
+use qoi::{Buffered, Bytes, Header, Reader, Result};
 use std::process::Abort;
 
 // Reads an image, by the trait alone.
@@ -48,19 +48,4 @@ fn readers_read(rt: HostRuntime) {
     assert_reads(&rt, &mut buffered);
     assert_bytes(&rt, buffered.as_inner(), &[0]);
     assert_bytes(&rt, buffered.into_inner(), &[0]);
-}
-
-// If either number of channels is neither 3 nor 4, the error names the first.
-fn assert_refuses<R: Reader>(rt: &impl Abort, reader: &mut R) {
-    let refusal = image_of(reader, &mut [0xaa; 12], 5, 3);
-    assert!(rt; matches!(refusal, Err(Error::InvalidChannels { channels: 5 })));
-    let refusal = image_of(reader, &mut [0xaa; 12], 3, 7);
-    assert!(rt; matches!(refusal, Err(Error::InvalidChannels { channels: 3 })));
-}
-
-#[test]
-fn channels_are_three_or_four(rt: HostRuntime) {
-    assert_refuses(&rt, &mut Bytes::new(&ONE_RGB_PIXEL));
-    assert_refuses(&rt, &mut ONE_RGB_PIXEL.as_slice());
-    assert_refuses(&rt, &mut Buffered::new(ONE_RGB_PIXEL.as_slice()));
 }

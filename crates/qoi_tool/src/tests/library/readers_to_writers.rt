@@ -1,19 +1,21 @@
 //! Callers from any reader to any writer, that hold a row: a file is encoded again, in chosen
 //! channels, and a smaller picture is made of it. Only the loops have proof files, with their
 //! invariants.
-ghost use Rattle.std.specs.Prelude.{◌≡◌, ◌<◌, ◌≤◌, ◌+◌, ℕ, List, length, drop, Some, Ok, IfOk};
+ghost use Rattle.std.specs.Prelude.{◌≡◌, ◌<◌, ◌≤◌, ◌+◌, ℕ, List, Option, length, drop, Some, Ok, IfOk, OnOk};
 ghost use Rattle.std.specs.Io.KnownBytes.{Appends};
 ghost use Rattle.qoi.specs.declared.header.Header.{Header};
 ghost use Rattle.qoi.specs.declared.types.Channels.TheVariants.{Rgba};
 ghost use Rattle.qoi.specs.declared.types.Style.TheVariants.{Reference};
 ghost use Rattle.qoi.specs.Encoded.{image_file};
+ghost use Rattle.qoi.specs.EncoderState.{EncoderState};
+ghost use Rattle.qoi.specs.pieces.PixelWriter.{HasTaken};
 ghost use Rattle.qoi.specs.Images.{front_image};
 ghost use Rattle.qoi.specs.Qoi.{header_of, header_size};
 ghost use Rattle.qoi.specs.Sent.{SendsSomeFile};
 
 use crate::tests::fakes::ONE_RGB_PIXEL;
 use crate::tests::library::support::{assert_decoded, assert_given, made};
-use qoi::{Channels, ColorSpace, Decoder, Header, PixelWriter, Reader, Result, Style};
+use qoi::{Channels, ColorSpace, Decoder, Header, PixelReader, PixelWriter, Reader, Result, Style};
 use std::alloc::Global;
 use std::io::{BufRead, Write};
 
@@ -61,6 +63,28 @@ pub fn halve(row: &[u8], half: &mut [u8])
     }
 }
 
+/// Writes each second byte of each second row, as many as the writer lacks.
+pub fn shrink<R: Reader, W: Write + Drop>(
+    pixels: &mut PixelReader<R>,
+    row: &mut [u8],
+    half: &mut [u8],
+    writer: &mut PixelWriter<W>,
+) -> Result<()>
+    requires fits { length half.old + length half.old ≤ length row.old }
+    requires some { 0 < length half.old }
+    ensures { (e : EncoderState) (before : Option (List ℕ)) → HasTaken W.contents e before writer.old
+        → OnOk result ((f : EncoderState) × (f.header ≡ e.header) × (f.style ≡ e.style)
+        × HasTaken W.contents f before writer.new) }
+{
+    while writer.left() > 0 {
+        pixels.read(row)?;
+        pixels.read(row)?;
+        halve(row, half);
+        writer.write(half)?;
+    }
+    Ok(())
+}
+
 /// The file of a smaller picture: of each second row each second byte.
 pub fn thumbnail<R: Reader + Drop, W: Write + Drop>(
     alloc: Global,
@@ -75,15 +99,10 @@ pub fn thumbnail<R: Reader + Drop, W: Write + Drop>(
     ensures { IfOk result (λ w.
         SendsSomeFile Reference small (W.contents out) (W.contents w)) }
 {
-    let mut pixels = decoder.into_pixels();
     let mut writer = PixelWriter::new(alloc, small, Style::Reference, out)?;
-    while writer.left() > 0 {
-        pixels.read(row)?;
-        pixels.read(row)?;
-        halve(row, half);
-        writer.write(half)?;
-    }
-    Ok(writer.finish()?)
+    shrink(&mut decoder.into_pixels(), row, half, &mut writer)?;
+    let out = writer.finish()?;
+    Ok(out)
 }
 
 // The file of a pixel, in its own channels and in four.

@@ -195,27 +195,3 @@ fn a_tile_of_a_file(rt: HostRuntime) {
     let refused = cut_file(rt.alloc(), &file, wide);
     assert_cut(&rt, refused);
 }
-
-#[test]
-fn a_tile_of_nine_pixels(rt: HostRuntime) {
-    let alloc = rt.alloc();
-    let mut raw = [0; 27]; // three rows of three pixels of three channels
-    for i in 0..27 {
-        raw[i] = i as u8;
-    }
-    let file = made::encoded(&rt, alloc, &raw, 3, 3);
-    let lower_right = Area {
-        top: 1,
-        rows: 2,
-        left: 3,
-        size: 6,
-    };
-    let cut = [12, 13, 14, 15, 16, 17, 21, 22, 23, 24, 25, 26];
-    assert_given(&rt, cut_file(alloc, &file, lower_right), &cut);
-    let high = Area {
-        rows: 3,
-        ..lower_right
-    };
-    let refused = cut_file(alloc, &file, high);
-    assert_cut(&rt, refused);
-}

@@ -13,22 +13,6 @@ use qoi::{Decoder, Error, Reader};
 use std::alloc::Global;
 use std::io::Write;
 
-/// Rows into a vector: the same bytes as `decode_to_vec` gives.
-pub fn copy_rows(alloc: Global, file: &[u8]) -> Result<Vec<u8>, Error>
-    ensures begins { OnOk result (BeginsWithFile «file».now) }
-    ensures image { IfOk result (λ out. out.items ≡ file_image «file».now) }
-{
-    files_are_read();
-    let mut pixels = Decoder::new(file)?.into_pixels();
-    let mut out = Vec::new(alloc);
-    let mut row = [0; 4096];
-    while pixels.left() > 0 {
-        let count = pixels.read(&mut row)?;
-        out.extend_from_slice(&row[..count])?;
-    }
-    Ok(out)
-}
-
 /// Rows from any reader to any writer, in bounded memory.
 pub fn to_raw<R: Reader + Drop, W: Write>(decoder: Decoder<R>, out: &mut W) -> Result<(), Error>
     ensures stands { (bytes : List ℕ) → R.ahead decoder.reader ≡ Some bytes
@@ -55,6 +39,16 @@ pub fn send_rows<W: Write>(file: &[u8], out: &mut W) -> Result<(), Error>
     let decoder = Decoder::new(file)?;
     to_raw(decoder, out)?;
     Ok(())
+}
+
+/// Rows into a vector: the same bytes as `decode_to_vec` gives.
+pub fn copy_rows(alloc: Global, file: &[u8]) -> Result<Vec<u8>, Error>
+    ensures begins { OnOk result (BeginsWithFile «file».now) }
+    ensures image { IfOk result (λ out. out.items ≡ file_image «file».now) }
+{
+    let mut out = Vec::new(alloc);
+    send_rows(file, &mut out)?;
+    Ok(out)
 }
 
 // The file of a pixel.

@@ -9,9 +9,9 @@ ghost use Rattle.qoi.specs.pieces.PixelReader.{HasRows};
 ghost use Rattle.qoi.specs.pieces.RowIndex.{file_decoder, row_size, IsRowIndex};
 
 use crate::tests::library::rectangles::{Area, keep, next_row, paste, stride_of};
-use crate::tests::library::support::{assert_bytes, assert_given, made};
+use crate::tests::library::support::{assert_bytes, assert_count, assert_given, made};
 use qoi::laws::rectangles::{rectangles_are_parts, rows_are_put};
-use qoi::{Bytes, Error, Header, PixelReader, RowIndex, decode_header};
+use qoi::{Bytes, Channels, Error, Header, PixelReader, RowIndex, decode_header};
 use std::alloc::Global;
 
 // A tile cut out of the image of a file, whose rows above the tile were read.
@@ -130,4 +130,16 @@ fn a_tile_by_an_index(rt: HostRuntime) {
     let mut picture = [0; 12];
     put_together(alloc, &file, &mut picture).expect(&rt, "refused");
     assert_bytes(&rt, &picture, &PICTURE);
+}
+
+// Rows of four channels, read in three.
+#[test]
+fn rows_in_other_channels(rt: HostRuntime) {
+    let alloc = rt.alloc();
+    let file = made::encoded(&rt, alloc, &PICTURE, 1, 3);
+    let index = RowIndex::new(alloc, &file, 2).expect(&rt, "refused");
+    let rows = index.rows_in(&file, Channels::Rgb, 1);
+    let mut rgb = [0; 6];
+    assert_count(&rt, rows.expect(&rt, "refused").read(&mut rgb), 6);
+    assert_bytes(&rt, &rgb, &[21, 22, 23, 31, 32, 33]);
 }

@@ -1,6 +1,6 @@
 //! A function of one's own that saves an image to any writer, and one that loads it: what was
 //! saved comes back, also of two images in one vector. None has a proof file.
-ghost use Rattle.std.specs.Prelude.{◌≡◌, ℕ, List, length, take, drop, Some, IfOk, IfSome};
+ghost use Rattle.std.specs.Prelude.{◌≡◌, ◌≤◌, ℕ, List, length, take, drop, Some, IfOk, IfSome};
 ghost use Rattle.qoi.specs.Images.{file_image};
 
 use crate::tests::fakes::PIXEL;
@@ -24,6 +24,17 @@ pub fn save<W: Write>(out: &mut W, raw: &[u8], width: u32, height: u32) -> Resul
     Ok(n)
 }
 
+// Two images loaded, of which the second stands from this byte on.
+fn load_two(alloc: Global, bytes: &[u8], middle: usize) -> Result<(Vec<u8>, Vec<u8>), Error>
+    requires { middle ≤ length bytes.now }
+    ensures { IfOk result (λ x. (x.0.items ≡ file_image (take middle bytes.now))
+        × (x.1.items ≡ file_image (drop middle bytes.now))) }
+{
+    let one = load(alloc, &bytes[..middle])?;
+    let two = load(alloc, &bytes[middle..])?;
+    Ok((one, two))
+}
+
 /// Two images saved to one vector, one after the other, and both loaded back.
 pub fn two_saved(
     alloc: Global,
@@ -38,9 +49,8 @@ pub fn two_saved(
     save(&mut out, first, width, height)?;
     let middle = out.len();
     save(&mut out, second, width, height)?;
-    let one = load(alloc, &out[..middle])?;
-    let two = load(alloc, &out[middle..])?;
-    Ok((one, two))
+    let both = load_two(alloc, &out, middle)?;
+    Ok(both)
 }
 
 /// Encoded and decoded by the library's calls: the second goes on where the first one ended.

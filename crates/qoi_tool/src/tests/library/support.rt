@@ -68,11 +68,6 @@ pub fn assert_cut<T: Drop>(rt: &impl Abort, given: Result<T>) {
     assert!(rt; matches!(given, Err(Error::UnexpectedBufferEnd)));
 }
 
-/// Tests that a call refuses the end marker.
-pub fn assert_unmarked<T: Drop>(rt: &impl Abort, given: Result<T>) {
-    assert!(rt; matches!(given, Err(Error::InvalidPadding)));
-}
-
 /// Tests that a call finds no memory.
 pub fn assert_no_memory<T: Drop>(rt: &impl Abort, given: Result<T>) {
     assert!(rt; matches!(given, Err(Error::OutOfMemory)));

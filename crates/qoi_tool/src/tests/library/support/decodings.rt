@@ -131,27 +131,24 @@ impl<'a> Decoding<'a> {
         assert_bytes(rt, &made::rest(rt, alloc, decoder.into_reader()), left);
     }
 
-    // How each call ends, with a slice and with both kinds of reader, and what is left of them.
-    fn check_each(
+    // How a call ends, with a slice and with both kinds of reader, and what is left of them.
+    fn check_call(
         self,
         rt: &impl Abort,
         alloc: Global,
+        call: Call,
         (in_memory, of_slice): (Ends<'_>, &[u8]),
         (read, of_reader): (Ends<'_>, &[u8]),
     ) {
-        for call in CALLS {
-            self.check_slice(rt, alloc, call, in_memory, of_slice);
-            self.check_stream(rt, alloc, call, read, of_reader);
-            self.check_buffer(rt, alloc, call, read, of_reader);
-        }
+        self.check_slice(rt, alloc, call, in_memory, of_slice);
+        self.check_stream(rt, alloc, call, read, of_reader);
+        self.check_buffer(rt, alloc, call, read, of_reader);
     }
 
     /// A buffer of so many bytes is refused with this text, by the free call, too. Nothing was read.
     pub fn check_short(self, rt: &impl Abort, alloc: Global, size: usize, text: &str) {
-        let (call, ends, left) = (Call::ToBufOf(size), Ends::Text(text), after(self.bytes, 14));
-        self.check_slice(rt, alloc, call, ends, left);
-        self.check_stream(rt, alloc, call, ends, left);
-        self.check_buffer(rt, alloc, call, ends, left);
+        let kept = (Ends::Text(text), after(self.bytes, 14));
+        self.check_call(rt, alloc, Call::ToBufOf(size), kept, kept);
         let mut buf = made::filled(rt, alloc, 0xaa, size);
         assert_refused(rt, alloc, decode_to_buf(&mut buf, self.bytes).err(), text);
         assert_bytes(rt, &buf, &made::filled(rt, alloc, 0xaa, size));
@@ -161,7 +158,8 @@ impl<'a> Decoding<'a> {
     /// the file is left.
     pub fn check(self, rt: &impl Abort, alloc: Global, image: &[u8], rest: &[u8]) {
         let ends = (Ends::Image(image), rest);
-        self.check_each(rt, alloc, ends, ends);
+        self.check_call(rt, alloc, Call::ToBuf, ends, ends);
+        self.check_call(rt, alloc, Call::ToVec, ends, ends);
     }
 
     /// The free calls give this image, in the file's own channels.
@@ -169,28 +167,32 @@ impl<'a> Decoding<'a> {
         let (header, raw) = decode_to_vec(alloc, self.bytes).expect(rt, "refused");
         assert_header(rt, &header, &self.header);
         assert_bytes(rt, &raw, image);
-        let mut buf = made::filled(rt, alloc, 0xaa, image.len());
-        let header = decode_to_buf(&mut buf, self.bytes).expect(rt, "refused");
+        self.check_free_buffer(rt, &mut made::filled(rt, alloc, 0xaa, image.len()), image);
+    }
+
+    // The same of the call into a buffer of the image's length.
+    fn check_free_buffer(self, rt: &impl Abort, buf: &mut [u8], image: &[u8]) {
+        let header = decode_to_buf(buf, self.bytes).expect(rt, "refused");
         assert_header(rt, &header, &self.header);
-        assert_bytes(rt, &buf, image);
+        assert_bytes(rt, buf, image);
+    }
+
+    // Each call refuses a file with these ends; a slice is as before, of a stream this is left.
+    fn check_refused(self, rt: &impl Abort, alloc: Global, text: &str, read: (Ends<'_>, &[u8])) {
+        let kept = (Ends::Text(text), after(self.bytes, 14));
+        self.check_call(rt, alloc, Call::ToBuf, kept, read);
+        self.check_call(rt, alloc, Call::ToVec, kept, read);
     }
 
     /// Each call refuses a part of a file; a slice is as before, of a stream nothing is left.
     pub fn check_cut(self, rt: &impl Abort, alloc: Global) {
-        let kept = (Ends::Text(CUT), after(self.bytes, 14));
-        let taken: &[u8] = &[];
-        self.check_each(
-            rt,
-            alloc,
-            kept,
-            (Ends::Kind(ErrorKind::UnexpectedEof), taken),
-        );
+        let ends = Ends::Kind(ErrorKind::UnexpectedEof);
+        self.check_refused(rt, alloc, CUT, (ends, &[]));
     }
 
     /// Each call refuses other bytes than the end marker; a slice is as before, of a stream what is
     /// after them is left.
     pub fn check_wrong(self, rt: &impl Abort, alloc: Global, rest: &[u8]) {
-        let kept = (Ends::Text(WRONG), after(self.bytes, 14));
-        self.check_each(rt, alloc, kept, (Ends::Text(WRONG), rest));
+        self.check_refused(rt, alloc, WRONG, (Ends::Text(WRONG), rest));
     }
 }

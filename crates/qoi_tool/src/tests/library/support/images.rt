@@ -1,13 +1,12 @@
 //! Images that are encoded by each of the calls, and decoded back.
-use crate::tests::fakes::{Bad, End, NONE, Sink};
+use crate::tests::fakes::{NONE, Sink};
 use crate::tests::library::support::decodings::Decoding;
 use crate::tests::library::support::generator::{Numbers, Rgba, drawn};
 use crate::tests::library::support::{
-    assert_bytes, assert_count, assert_fails, assert_given, assert_header, assert_number, made,
+    assert_bytes, assert_count, assert_given, assert_header, made,
 };
-use qoi::{Channels, Encoder, Header, Style, encode_to_buf, encode_to_vec};
+use qoi::{Channels, Encoder, Header, Result, Style, encode_to_buf, encode_to_vec};
 use std::alloc::Global;
-use std::io::ErrorKind;
 use std::process::Abort;
 
 /// The header of one row of `width` pixels, in sRGB.
@@ -88,42 +87,45 @@ impl Image {
 
     /// Encodes the image by each of the calls, compares with its file, and decodes it back.
     pub fn check(&self, rt: &impl Abort, alloc: Global) {
+        self.check_encoder(rt, alloc);
+        self.check_free(rt, alloc);
+        self.sent(rt, alloc, usize::MAX);
+        self.decoding().check_free(rt, alloc, &self.raw);
+        self.decoding().check(rt, alloc, &self.raw, &[]);
+    }
+
+    // Encodes the image by the encoder's calls that don't need a writer.
+    fn check_encoder(&self, rt: &impl Abort, alloc: Global) {
         let encoder = self.encoder(rt);
         assert_header(rt, encoder.header(), &self.header);
         assert!(rt; encoder.style() == self.style);
         assert!(rt; encoder.channels() == self.header.channels);
         assert_given(rt, encoder.encode_to_vec(alloc), &self.file);
-        self.sent(rt, alloc, usize::MAX);
         let most = encoder.required_buf_len().saturating_add(3);
         let mut buf = made::filled(rt, alloc, 0xaa, most);
-        assert_count(rt, encoder.encode_to_buf(&mut buf), self.file.len());
-        assert_bytes(rt, &buf, &self.file_in(rt, alloc, most));
-        if self.style == Style::Reference {
-            self.check_free(rt, alloc, &mut buf);
+        let size = encoder.encode_to_buf(&mut buf);
+        self.assert_in(rt, alloc, size, &buf);
+    }
+
+    // Encodes the image by the two free calls, if it has their style.
+    fn check_free(&self, rt: &impl Abort, alloc: Global) {
+        if self.style != Style::Reference {
+            return;
         }
-        self.decoding().check_free(rt, alloc, &self.raw);
-        self.decoding().check(rt, alloc, &self.raw, &[]);
+        let Header { width, height, .. } = self.header;
+        let file = encode_to_vec(alloc, &self.raw, width, height);
+        assert_given(rt, file, &self.file);
+        let mut buf = made::filled(rt, alloc, 0xaa, self.header.encode_max_len());
+        let size = encode_to_buf(&mut buf, &self.raw, width, height);
+        self.assert_in(rt, alloc, size, &buf);
     }
 
-    // The file at the front of a buffer of so many bytes, each of which was 0xaa.
-    fn file_in(&self, rt: &impl Abort, alloc: Global, size: usize) -> Vec<u8> {
-        let mut buf = made::bytes(rt, alloc, &self.file);
-        buf.resize(size, 0xaa).expect(rt, "refused");
-        buf
-    }
-
-    // Encodes the image by the two free calls.
-    fn check_free(&self, rt: &impl Abort, alloc: Global, buf: &mut [u8]) {
-        let (width, height) = (self.header.width, self.header.height);
-        assert_given(
-            rt,
-            encode_to_vec(alloc, &self.raw, width, height),
-            &self.file,
-        );
-        buf.fill(0xaa);
-        let size = encode_to_buf(buf, &self.raw, width, height);
+    // A call wrote the file at the front of a buffer, each byte of which was 0xaa.
+    fn assert_in(&self, rt: &impl Abort, alloc: Global, size: Result<usize>, buf: &[u8]) {
         assert_count(rt, size, self.file.len());
-        assert_bytes(rt, buf, &self.file_in(rt, alloc, buf.len()));
+        let mut wanted = made::bytes(rt, alloc, &self.file);
+        wanted.resize(buf.len(), 0xaa).expect(rt, "refused");
+        assert_bytes(rt, buf, &wanted);
     }
 
     /// Encodes the image to a writer that takes at most `most` bytes a call, and all of the file.
@@ -133,25 +135,5 @@ impl Image {
         assert_count(rt, size, self.file.len());
         assert_bytes(rt, &writer.got, &self.file);
         writer
-    }
-
-    /// Encodes the image to writers: in calls of 4096 bytes, and a last one of what is left. Each
-    /// of the calls fails once, and the pieces before it have gone out.
-    pub fn check_pieces(&self, rt: &impl Abort, alloc: Global) {
-        let calls = self.file.len().div_ceil(4096);
-        assert_number(rt, self.sent(rt, alloc, usize::MAX).calls, calls);
-        for before in 0..calls {
-            let call = before.saturating_add(1);
-            let end = End::Fault;
-            let mut writer = made::sink(rt, alloc, usize::MAX, Bad { call, end });
-            let refusal = self.encoder(rt).encode_to_stream(&mut writer).err();
-            assert_fails(rt, refusal, ErrorKind::BrokenPipe);
-            assert_number(rt, writer.calls, call);
-            assert_bytes(
-                rt,
-                &writer.got,
-                &self.file[..before.saturating_mul(4096).min(self.file.len())],
-            );
-        }
     }
 }
