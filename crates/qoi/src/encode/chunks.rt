@@ -55,7 +55,7 @@ impl Pending {
 
 // Fills a piece with the opening of these pixels, a block or more: the repeats that wait, those at
 // the front and the fresh pixel after them. It isn't inlined: in one function with it the loop over
-// blocks would be slower. Nor is it lent parts of what is pending, which would be stored for it.
+// blocks would be slower.
 #[inline(never)]
 fn fill_with_opening<'a, 'p, const N: usize, const ROOM: usize>(
     pending: &mut Pending,
@@ -72,7 +72,8 @@ fn fill_with_opening<'a, 'p, const N: usize, const ROOM: usize>(
 }
 
 // Fills a piece by blocks of these pixels, which go by blocks in this style (`style_in`). It isn't
-// inlined: where the loops, with `ALL_RGBA` and without, are one function, they are slower.
+// inlined: where the loops, with `ALL_RGBA` and without, are one function, they are slower. Nor is
+// it passed a `FrontBlock`, which would be stored for the call: a small image takes longer for it.
 #[inline(never)]
 fn fill_with_blocks<
     'a,
@@ -112,6 +113,7 @@ fn fill_in_channels<'a, 'p, const N: usize, const ROOM: usize>(
     ensures { FillsPiece pending.old piece.entry «data».entry.now pending.new result }
 {
     let raw = Pixels::<N>::new(data);
+    // Only for what it says of them: that they are a block or more.
     let front = raw.front_of(raw, pending.style);
     if !goes_by_blocks(pending.style, pending.last, front.raw) {
         return fill_with_opening(pending, piece, front.raw);
