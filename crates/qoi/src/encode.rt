@@ -26,6 +26,7 @@ use crate::consts::{QOI_HEADER_SIZE, QOI_PADDING_SIZE};
 use crate::encode::chunks::{FEW_BYTES, encode_few, encode_file};
 use crate::encode::piece::{FEW_ROOM, FULL_ROOM, SMALL_ROOM, SPARE, TINY_ROOM};
 pub use crate::encode::pixel_writer::PixelWriter;
+pub(crate) use crate::encode::pixel_writer::send_bytes;
 use crate::error::{Error, Result};
 use crate::header::Header;
 use crate::types::{Channels, ColorSpace, Style};
