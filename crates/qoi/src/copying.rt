@@ -23,8 +23,8 @@ const PIECE: usize = 4096;
 
 impl<R: Reader> PixelReader<R> {
     /// Copies all that is left of the image to a writer of pieces, by an array of 4,096 bytes: it
-    /// allocates nothing. It doesn't finish the writer, which may take further images. Raw bytes are
-    /// copied as they come: whether both sides have the same channels isn't asked.
+    /// allocates nothing. It doesn't finish the writer, which may take further images. Raw bytes
+    /// are copied as they come: whether both sides have the same channels isn't asked.
     ///
     /// Refusals, in this order: `IoError` if the writer reported a fault before;
     /// `InvalidImageLength` if more bytes are left than the writer takes; and then nothing is read.
@@ -65,8 +65,8 @@ impl<R: Reader> PixelReader<R> {
         ensures left { OnOk result
             (raw_left writer.new + pixels_left self.old ≡ raw_left writer.old) }
 
-        // The refusals that leave both as they were: too many bytes, a writer that failed before, and
-        // an image that was refused before.
+        // The refusals that leave both as they were: too many bytes, a writer that failed before,
+        // and an image that was refused before.
         ensures many { (e : EncoderState) (before : Option (List ℕ))
             → HasTaken W.contents e before writer.old → raw_left writer.old < pixels_left self.old
             → IsErrOf result (Error.InvalidImageLength (length e.raw + pixels_left self.old)
@@ -95,11 +95,11 @@ impl<R: Reader> PixelReader<R> {
         self.copy_bytes(writer, left)
     }
 
-    /// Copies the next rows of the image to a writer of pieces, so many: `copy_to` for a part of it.
-    /// It counts from where the reader stands, which may be within a row.
+    /// Copies the next rows of the image to a writer of pieces, so many: `copy_to` for a part. It
+    /// counts from where the reader stands, which may be within a row.
     ///
-    /// `UnexpectedBufferEnd` if fewer are left, and then nothing is read; else the refusals are those
-    /// of `copy_to`.
+    /// `UnexpectedBufferEnd` if fewer are left, and then nothing is read; else the refusals are
+    /// those of `copy_to`.
     ///
     /// ```
     /// let mut pixels = index.rows(file, 4000)?;
@@ -110,8 +110,8 @@ impl<R: Reader> PixelReader<R> {
         writer: &mut PixelWriter<W>,
         rows: u32,
     ) -> Result<()>
-        // A success: the reader gave the bytes of so many rows, and the writer took them. Behind k rows
-        // of the image they are the rows that follow.
+        // A success: the reader gave the bytes of so many rows, and the writer took them. Behind k
+        // rows of the image they are the rows that follow.
         ensures copied { OnOk result ((more : List ℕ) × Takes W.contents more writer.old writer.new
             × ((d : DecoderState R) (bytes : List ℕ) (stride k : ℕ)
             → HasRows d (Some bytes) (R.ahead self.old.reader) stride k self.old
@@ -128,11 +128,13 @@ impl<R: Reader> PixelReader<R> {
             → stride ≡ row_size d.channels d.header → HasTaken W.contents e before writer.old
             → OnOk result (HasTaken W.contents (and_raw e (rectangle stride k 0 rows stride
             (front_image d.channels d.header bytes))) before writer.new) }
-        ensures left { OnOk result (pixels_left self.new + rows_size self.old rows ≡ pixels_left self.old) }
-        ensures room { OnOk result (raw_left writer.new + rows_size self.old rows ≡ raw_left writer.old) }
+        ensures left { OnOk result
+            (pixels_left self.new + rows_size self.old rows ≡ pixels_left self.old) }
+        ensures room { OnOk result
+            (raw_left writer.new + rows_size self.old rows ≡ raw_left writer.old) }
 
-        // The refusals that leave both as they were: too few rows, too many bytes, a writer that failed
-        // before, and an image that was refused before.
+        // The refusals that leave both as they were: too few rows, too many bytes, a writer that
+        // failed before, and an image that was refused before.
         ensures few { pixels_left self.old < rows_size self.old rows
             → IsErrOf result Error.UnexpectedBufferEnd
             × (self.new ≡ self.old) × (writer.new ≡ writer.old) }
@@ -149,7 +151,8 @@ impl<R: Reader> PixelReader<R> {
             → rows_size self.old rows ≤ pixels_left self.old
             → IsErrAnd result IsIoError × (self.new ≡ self.old) × (writer.new ≡ writer.old) }
         ensures spent { (e : EncoderState) (before : Option (List ℕ))
-            → HasTaken W.contents e before writer.old → rows_size self.old rows ≤ raw_left writer.old
+            → HasTaken W.contents e before writer.old
+            → rows_size self.old rows ≤ raw_left writer.old
             → 0 < rows_size self.old rows → rows_size self.old rows ≤ pixels_left self.old
             → IsSpent self.old → IsErrOf result Error.UnexpectedBufferEnd
             × (self.new ≡ self.old) × (writer.new ≡ writer.old) }
@@ -227,7 +230,8 @@ impl<R: Reader> PixelReader<R> {
         requires room { length piece.old ≤ raw_left writer.old }
         ensures given { OnOk result (Gives R.ahead piece.new self.old self.new) }
         ensures taken { OnOk result (Takes W.contents piece.new writer.old writer.new) }
-        ensures left { OnOk result (pixels_left self.new + length piece.old ≡ pixels_left self.old) }
+        ensures left { OnOk result
+            (pixels_left self.new + length piece.old ≡ pixels_left self.old) }
         ensures room { OnOk result (raw_left writer.new + length piece.old ≡ raw_left writer.old) }
         ensures spent { IsSpent self.old → 0 < length piece.old
             → IsErrOf result Error.UnexpectedBufferEnd

@@ -21,8 +21,8 @@ impl<R: Reader> PixelReader<R> {
     /// Writes all raw bytes that are left of the image to a writer, by an array of 4,096 bytes: it
     /// allocates nothing. It doesn't flush.
     ///
-    /// Refusals are those of `read`, behind which the writer has what was read before, and `IoError`
-    /// if the writer reports a fault or takes no byte.
+    /// Refusals are those of `read`, behind which the writer has what was read before, and
+    /// `IoError` if the writer reports a fault or takes no byte.
     ///
     /// ```
     /// let mut pixels = Decoder::from_buf_read(reader)?.into_pixels();
@@ -98,8 +98,8 @@ impl<W: Write + Drop> PixelWriter<W> {
     /// Takes all raw bytes that are missing from a reader, by an array of 4,096 bytes, and no byte
     /// more: it allocates nothing. It doesn't finish the writer.
     ///
-    /// Refusals: `IoError` if the reader reports a fault or ends before, behind which the writer has
-    /// whole pieces of what was read; and `IoError` as in `write`.
+    /// Refusals: `IoError` if the reader reports a fault or ends before, behind which the writer
+    /// has whole pieces of what was read; and `IoError` as in `write`.
     ///
     /// ```
     /// let mut pixels = PixelWriter::new(alloc, header, Style::Reference, writer)?;
@@ -114,7 +114,8 @@ impl<W: Write + Drop> PixelWriter<W> {
             × HasTaken W.contents (and_raw e raw) before self.new) }
         ensures all { OnOk result (raw_left self.new ≡ 0) }
 
-        // The refusals: the reader or the writer fails; a writer that failed before stays as it was.
+        // The refusals: the reader or the writer fails; a writer that failed before stays as it
+        // was.
         ensures refused { (e : EncoderState) (before : Option (List ℕ))
             → HasTaken W.contents e before self.old
             → IfErr result (BreaksInput W.contents (R.remaining input.old)
