@@ -1,43 +1,18 @@
-//! Two images, one above the other, are encoded as one, in the memory of a piece. The loop has a proof
-//! file, with its invariant, and `write_both` an answer.
-ghost use Rattle.std.specs.Prelude.{◌≡◌, ◌+◌, ◌++◌, ℕ, List, Option, Some, IfOk, OnOk};
+//! Two images, one above the other, are encoded as one, in constant memory and without a loop.
+//! `write_both` has an answer.
+ghost use Rattle.std.specs.Prelude.{◌≡◌, ◌+◌, ◌++◌, List, ℕ, Some, IfOk};
 ghost use Rattle.std.specs.Io.KnownBytes.{Appends};
 ghost use Rattle.qoi.specs.declared.types.Style.TheVariants.{Reference};
 ghost use Rattle.qoi.specs.Encoded.{image_file};
-ghost use Rattle.qoi.specs.EncoderState.{EncoderState};
 ghost use Rattle.qoi.specs.Images.{front_image};
-ghost use Rattle.qoi.specs.pieces.PixelWriter.{HasTaken, and_raw};
 
 use crate::tests::library::support::{assert_decoded, made};
 use qoi::{Decoder, Error, Header, PixelWriter, Reader, Result, Style};
 use std::alloc::Global;
 use std::io::Write;
 
-/// Encodes a decoder's image behind what a writer took. What it took and the image are joined
-/// (`joined`), so that an image may follow another one.
-pub fn append_image<R: Reader + Drop, W: Write + Drop>(
-    decoder: Decoder<R>,
-    writer: &mut PixelWriter<W>,
-) -> Result<()>
-    ensures taken { (e : EncoderState) (before : Option (List ℕ)) (bytes : List ℕ)
-        → HasTaken W.contents e before writer.old → R.ahead decoder.reader ≡ Some bytes
-        → OnOk result (HasTaken W.contents
-        (and_raw e (front_image decoder.channels decoder.header bytes)) before writer.new) }
-    ensures joined { (e : EncoderState) (before : Option (List ℕ)) (first all bytes : List ℕ)
-        → HasTaken W.contents (and_raw e first) before writer.old
-        → R.ahead decoder.reader ≡ Some bytes
-        → all ≡ first ++ front_image decoder.channels decoder.header bytes
-        → OnOk result (HasTaken W.contents (and_raw e all) before writer.new) }
-{
-    let (mut pixels, mut row) = (decoder.into_pixels(), [0; 4096]);
-    while pixels.left() > 0 {
-        let size = pixels.read(&mut row)?;
-        writer.write(&row[..size])?;
-    }
-    Ok(())
-}
-
-// The header of both images, one above the other; refused if they aren't as wide, or have other channels.
+// The header of both images, one above the other; refused if they aren't as wide, or have other
+// channels.
 fn header_of_both(above: Header, below: Header) -> Result<Header>
     ensures { IfOk result (λ h. h ≡ record above { height = above.height + below.height }) }
 {
@@ -65,8 +40,9 @@ fn write_both<R: Reader + Drop, S: Reader + Drop, W: Write + Drop>(
         ++ front_image below.channels below.header other))) }
 {
     let mut writer = PixelWriter::new(alloc, header, Style::Reference, out)?;
-    append_image(above, &mut writer)?;
-    append_image(below, &mut writer)?;
+    let (mut first, mut second) = (above.into_pixels(), below.into_pixels());
+    first.copy_to(&mut writer)?;
+    second.copy_to(&mut writer)?;
     let out = writer.finish()?;
     Ok(out)
 }
