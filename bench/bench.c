@@ -85,6 +85,20 @@ static DECODING(c_decode_vector) {
     return copied(out, room, made, made ? (size_t)desc.width * desc.height * desc.channels : 0);
 }
 
+/* A file of a file: decoded whole, and encoded again. */
+static DECODING(c_copy) {
+    qoi_desc desc;
+    int size = 0;
+    void *made = qoi_decode(file, len, &desc, channels);
+    if (!made) return 0;
+    block = out;
+    (void)room;
+    qoi_encode(made, &desc, &size);
+    block = NULL;
+    free(made);
+    return size;
+}
+
 static KEEPING(c_keep) {
     int size = 0;
     size_t made = 0;
@@ -95,7 +109,7 @@ static KEEPING(c_keep) {
 encode port_encode_buffer, port_encode_vector, port_encode_slice, port_encode_growing, port_encode_places,
     port_encode_tight, port_encode_rows;
 decode port_decode_buffer, port_decode_vector, port_decode_stream, port_decode_stream_buffered, port_decode_buf_read,
-    port_decode_rows, port_decode_rows_buf_read;
+    port_decode_rows, port_decode_rows_buf_read, port_copy, port_copy_by_loop, port_copy_tight, port_copy_tight_by_loop;
 keep port_keep;
 /* The last row, so many times: by an index with a place each `every` rows, which is made first, or if that is 0 with all
    rows above. */
@@ -127,8 +141,9 @@ decode before_decode_buffer;
 
 struct way { const char *who; encode *encode; decode *decode; };
 
-/* What is timed, the port last. `vector`: the call makes a vector. `style`: the file may differ from that of qoi.h. */
-static const struct row { const char *name; int vector, channels, style; struct way ways[4]; } rows[] = {
+/* What is timed, the port last. `vector`: the call makes a vector. `style`: the file may differ from that of qoi.h.
+   `copies`: decoding calls make a file again. */
+static const struct row { const char *name; int vector, channels, style, copies; struct way ways[4]; } rows[] = {
     {"encoding into a buffer", .ways = {ENCODES("qoi.h", c_encode_buffer), CRATE_ENCODES(crate_encode_buffer),
         BEFORE_ENCODES(before_encode_buffer), ENCODES("port", port_encode_buffer)}},
     {"encoding into a new vector", .vector = 1, .ways = {ENCODES("qoi.h", c_encode_vector),
@@ -151,6 +166,12 @@ static const struct row { const char *name; int vector, channels, style; struct 
     {"decoding row by row", .ways = {DECODES("`decode_to_buf`", port_decode_buffer), DECODES("port", port_decode_rows)}},
     {"decoding row by row from a `BufReader`", .ways = {DECODES("`from_buf_read`", port_decode_buf_read),
         DECODES("port", port_decode_rows_buf_read)}},
+    {"a file again, by `copy_to`", .copies = 1, .ways = {DECODES("qoi.h", c_copy), DECODES("port", port_copy)}},
+    {"the same beside a loop", .copies = 1, .ways = {DECODES("the loop", port_copy_by_loop), DECODES("port", port_copy)}},
+    {"a file in style `Tight`, by `copy_to`", .copies = 1, .style = 1, .ways = {DECODES("qoi.h", c_copy),
+        DECODES("port", port_copy_tight)}},
+    {"the same in style `Tight` beside a loop", .copies = 1, .style = 1, .ways = {DECODES("the loop", port_copy_tight_by_loop),
+        DECODES("port", port_copy_tight)}},
 };
 enum { ROWS = sizeof rows / sizeof *rows, WAYS = 4, MOST = 4000 };
 
@@ -199,7 +220,7 @@ static int has_pixels(const struct picture *p, const uint8_t *out, size_t size, 
 static int is_right(const struct row *row, const struct way *way, struct picture *p) {
     memset(p->out, 1, p->room);
     size_t size = called(row, way, p, p->room);
-    if (way->decode) return has_pixels(p, p->out, size, row->channels);
+    if (way->decode && !row->copies) return has_pixels(p, p->out, size, row->channels);
     if (!row->style) return size == p->size && !memcmp(p->out, p->file, size);
     uint8_t *back = malloc(p->room);
     int right = has_pixels(p, back, c_decode_buffer(back, p->room, p->out, size, 0), 0);

@@ -2,7 +2,8 @@
 use Rattle.std.proofs.Common.{◌≡◌, ◌≢◌, ℕ, ◌+◌, ◌*◌, ◌^◌, ◌<◌, ◌≤◌, List, [], ◌∷◌, ◌++◌, length, take, min, ◌-◌, refl, sym, ap, ◌∙◌, subst, arith, rules, append-nil, length-append}
 use Rattle.std.proofs.Math.Nat.{mul_comm}
 use lib.Seq.{take-append_seam}
-use Rattle.qoi.specs.Qoi.{Header, Chunk, AreBytes, channels_number, header_bytes, pixel_count, IsValid, RgbaPixel, bytes_of, chunk_bytes, Reaches, meaning, file, file_pixels, end_marker, IsFile}
+use Rattle.std.specs.List.{AllByRecursion}
+use Rattle.qoi.specs.Qoi.{Header, Chunk, AreBytes, IsPixel, channels_number, header_bytes, pixel_count, IsValid, RgbaPixel, bytes_of, chunk_bytes, Reaches, meaning, file, file_pixels, end_marker, IsFile}
 use Rattle.qoi.specs.Raw.{IsChannels, output, HasChannels, image_byte_count}
 use Rattle.qoi.specs.Written.{Written}
 use Rattle.qoi.specs.Regular.{Regular}
@@ -17,6 +18,7 @@ use Rattle.qoi.specs.Writers.{AppendsBeginning}
 use Rattle.std.specs.Io.KnownBytes.{Appends}
 use Rattle.qoi.specs.Sent.{HasFileLength, MakesFile, PutsFile, SendsFile, SendsPart}
 use Rattle.qoi.specs.EncoderState.{EncoderState}
+use Rattle.qoi.proofs.format.ChunkPixels.{meaning_are_pixels}
 use Rattle.qoi.proofs.format.ChunkSteps.{length-bytes_of}
 use Rattle.qoi.proofs.format.WholePixels.{by_channels, take_whole}
 use Rattle.qoi.proofs.decoding.Ahead.{stands_after}
@@ -188,6 +190,23 @@ file_spans style h raw bytes f =
       covers = (style_chunks style image e.cs e.written, [], style_means style image e.cs e.written ∙ sym (append-nil image));
       reaches = style_reaches style image (pixel_count h) e.cs e.written (count h raw f.is_file.valid f.is_file.size);
     }
+
+-- in style Tight it is no longer than in any other
+pub tight_no_longer : (style : Style) (h : Header) (raw bytes : List ℕ) → IsFileOf style h raw bytes → length (image_file Tight h raw) ≤ length bytes
+unfolding image_file
+tight_no_longer style h raw bytes f =
+    let image = image_pixels h raw in
+    let e = f.is_file.encoded in
+    let are = subst (AllByRecursion IsPixel) (style_means style image e.cs e.written) (meaning_are_pixels e.cs (style_chunks style image e.cs e.written)) in
+    let list = written_list Tight image in
+    omega (
+      arith,
+      style_exact image list (list_written Tight image are),
+      lower0 image e.cs (file_spans style h raw bytes f).covers,
+      length-file h list,
+      length-file h e.cs,
+      ap length e.bytes_are,
+    )
 
 -- the file is one
 one_file : {style : Style} {h : Header} {raw bytes others : List ℕ} → IsFileOf style h raw bytes → IsFileOf style h raw others → bytes ≡ others

@@ -3,4 +3,5 @@ pub mod decoding
 pub mod encoding
 pub mod shortness
 pub mod FileOf
+pub mod Copied
 pub mod Results

@@ -1,5 +1,6 @@
 -- Lemmas on the format: headers, pixels, index positions, chunks and files.
 pub mod AddedTerms
+pub mod ChunkPixels
 pub mod ChunkSteps
 pub mod Entries
 pub mod HashedPixels

@@ -2,6 +2,11 @@
 -- `rows` and k count rows, all else counts bytes: `stride` is how many a row has, its pixels times its
 -- channels.
 use Rattle.std.specs.Prelude.{◌≡◌, ◌⊎◌, ℕ, zero, suc, ◌+◌, ◌*◌, ◌<◌, ◌≤◌, List, [], ◌++◌, length, take, drop, slice_index}
+use Rattle.qoi.specs.Qoi.{Channels, Header, channels_number}
+
+-- how many bytes a row of the image has in these channels
+abbrev pub row_size : Channels → Header → ℕ
+row_size channels h = h.width * channels_number channels
 
 -- row k of the raw bytes
 abbrev pub row_bytes : ℕ → List ℕ → ℕ → List ℕ

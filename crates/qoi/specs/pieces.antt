@@ -4,3 +4,4 @@ pub mod PixelReader
 pub mod Mark
 pub mod RowIndex
 pub mod PixelWriter
+pub mod Copying

@@ -26,6 +26,7 @@ use crate::consts::{QOI_HEADER_SIZE, QOI_PADDING_SIZE};
 use crate::encode::chunks::{LEAST_BLOCK, encode_file, encode_in_one_piece};
 use crate::encode::piece::{FULL_ROOM, LEAST_ROOM, SMALL_ROOM, SPARE, TINY_ROOM};
 pub use crate::encode::pixel_writer::PixelWriter;
+pub(crate) use crate::encode::pixel_writer::send_bytes;
 use crate::error::{Error, Result};
 use crate::header::Header;
 use crate::types::{Channels, ColorSpace, Style};

@@ -2,6 +2,7 @@
 ghost use Rattle.qoi.specs.Encoded.{max_file_len};
 ghost use Rattle.qoi.specs.Qoi.{default_header, header_bytes, header_of, header_size, IsValid, number_at, pixel_count, tried_header};
 ghost use Rattle.qoi.specs.Raw.{capped_byte_count};
+ghost use Rattle.qoi.specs.Rectangles.{row_size};
 ghost use Rattle.std.specs.Prelude.{◌≡◌, ◌+◌, ◌*◌, ◌≤◌, length, take, IfOk};
 ghost use Rattle.qoi.specs.declared.header.Header.{Header};
 
@@ -138,6 +139,13 @@ impl Header {
     {
         self.n_pixels()
             .saturating_mul(usize::from(self.channels.as_u8()))
+    }
+
+    /// How many raw bytes a row of such an image has: width times channels.
+    pub fn bytes_per_row(&self) -> usize
+        ensures { result ≡ row_size self.now.channels self.now }
+    {
+        self.width as usize * usize::from(self.channels.as_u8())
     }
 
     /// The most bytes that the file of such an image can have, or the greatest `usize` if less.

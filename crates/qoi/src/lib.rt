@@ -25,15 +25,12 @@
 //! let (header, decoded) = decode_to_vec(alloc, &file)?;
 //! ```
 //!
-//! Row by row, from one file to another:
+//! From one file to another, in constant memory:
 //!
 //! ```
 //! let mut pixels = Decoder::from_buf_read(reader)?.into_pixels();
 //! let mut copy = PixelWriter::new(alloc, *pixels.header(), Style::Reference, writer)?;
-//! while pixels.left() > 0 {
-//!     let count = pixels.read(&mut row)?;
-//!     copy.write(&row[..count])?;
-//! }
+//! pixels.copy_to(&mut copy)?;
 //! let writer = copy.finish()?;
 //! ```
 #![tactic(auto)]
@@ -41,6 +38,7 @@
 mod chunk;
 #[doc(hidden)]
 pub mod consts;
+mod copying;
 mod decode;
 mod encode;
 mod error;

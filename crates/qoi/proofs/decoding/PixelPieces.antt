@@ -1,7 +1,7 @@
 -- What was given of an image, and rows of it, as a caller sees it: the pieces so far are the beginning
 -- of the image ahead.
-use Rattle.std.proofs.Common.{◌≡◌, ℕ, ◌+◌, ◌-◌, ◌*◌, ◌<◌, inl, inr, List, [], ◌++◌, length, take, reverse, Option, None, Some, IfSome, arith, refl, sym, ap, ◌∙◌, append_assoc, ◌≤◌, ◌^◌, drop, Bool, true, false, subst, length-append}
-use Rattle.std.proofs.lemmas.List.{length-reverse, reverse-append, reverse-reverse, take_all}
+use Rattle.std.proofs.Common.{◌≡◌, ℕ, ◌+◌, ◌-◌, ◌*◌, ◌<◌, inl, inr, List, [], ◌++◌, length, take, reverse, Option, None, Some, IfSome, arith, refl, sym, ap, ◌∙◌, append_assoc, ◌≤◌, ◌^◌, drop, Bool, true, false, subst}
+use Rattle.std.proofs.lemmas.List.{drop_at, drop-take, length-append, length-reverse, reverse-append, reverse-reverse, take_all}
 use Rattle.std.proofs.lemmas.Bool.{cases_lt}
 use Rattle.std.proofs.lemmas.Grind.{flat_map-append}
 use Rattle.std.proofs.Math.Seq.{take-append_seam, take-append-add}
@@ -130,6 +130,14 @@ pub unread_of : {start : Option (List ℕ)} {given : List ℕ} {h g : Header} {c
     → IsUnread (channels_number g.channels) (channels_number k) (pixel_count g) start other given q
     → IsUnread (channels_number h.channels) (channels_number c) (pixel_count h) start now given p
 unread_of header channels ahead unread x = rw (header, channels, ahead, unread) x
+
+-- of the front of an image the piece after the first bytes is the image's
+pub piece_follows : (channels : Channels) (h : Header) (bytes given piece : List ℕ) → given ++ piece ≡ take (length (given ++ piece)) (front_image channels h bytes)
+    → piece ≡ take (length piece) (drop (length given) (front_image channels h bytes))
+piece_follows channels h bytes given piece front =
+    sym (drop_at given piece (length given) refl) ∙ ap (drop (length given)) front
+    ∙ ap (λ n. drop (length given) (take n (front_image channels h bytes))) (length-append given piece)
+    ∙ drop-take (length given) (length piece) (front_image channels h bytes)
 
 -- what fills a buffer of n rows is n rows more
 pub rows_more : {R : Type 0} (d : DecoderState R) (start now : Option (List ℕ)) (stride k n size : ℕ) (given rows : List ℕ) (p : PixelsState R)

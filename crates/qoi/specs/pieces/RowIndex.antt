@@ -1,6 +1,7 @@
 -- What an index of the rows of a file's image holds.
 use Rattle.std.specs.Prelude.{◌≡◌, ℕ, ◌+◌, ◌*◌, ◌%◌, ◌/◌, ◌-◌, ◌<◌, List, [], ◌++◌, length, drop, replicate, Some, Ok, false, All}
 use Rattle.qoi.specs.Qoi.{Chunk, Header, Channels, Past, RgbaPixel, previous, channels_number, pixel_count, header_of, header_size, IsValid, AreChunks, chunk_bytes, then_chunks}
+use Rattle.qoi.specs.Rectangles as rectangles
 use Rattle.qoi.specs.Reading.{StandsAhead}
 use Rattle.qoi.specs.inner.Hashed.{pixel_of_lanes, HoldsSeen}
 use Rattle.qoi.specs.inner.Table.{Holds}
@@ -16,9 +17,9 @@ file_decoder channels h file = record { reader = drop header_size file; header =
 abbrev pub IsFileDecoder : List ℕ → DecoderState (List ℕ) → Type 0
 IsFileDecoder file d = (header_of file ≡ Ok d.header) × (d ≡ file_decoder d.channels d.header file)
 
--- how many bytes a row of the image has in these channels
+-- how many bytes a row of the image has in these channels; `Rectangles` defines it
 abbrev pub row_size : Channels → Header → ℕ
-row_size channels h = h.width * channels_number channels
+row_size channels h = rectangles.row_size channels h
 
 -- A place between two chunks of a file: what its index positions hold, the last pixel, how many bytes of
 -- the file stand before it, how many pixels are to come, and how many of those are copies of the last

@@ -6,10 +6,10 @@ ghost use Rattle.qoi.specs.Decoding.{RefusesBytes};
 ghost use Rattle.qoi.specs.DecoderState.{DecoderState, output_byte_count};
 ghost use Rattle.qoi.specs.Images.{front_image, front_rest};
 ghost use Rattle.qoi.specs.pieces.PixelReader.{PixelsState, as_decoder, pixels_left, HasGiven, HasRows, RefusesPixels, IsSpent};
-ghost use Rattle.qoi.specs.Qoi.{Error, channels_number, pixel_count};
+ghost use Rattle.qoi.specs.Qoi.{Error, channels_number, pixel_count, pixels_max};
 ghost use Rattle.qoi.specs.pieces.Unread.{bytes_left, IsRestOf, KeepsPixels, Asks, Steps};
 ghost use Rattle.qoi.specs.Reading.{StandsAhead, IsCutAhead, IsWrongAhead, SaysWhy};
-ghost use Rattle.qoi.specs.Rectangles.{row_bytes, rectangle};
+ghost use Rattle.qoi.specs.Rectangles.{row_bytes, rectangle, row_size};
 
 pub(super) mod mark;
 mod place;
@@ -154,11 +154,21 @@ impl<R: Reader> PixelReader<R> {
         self.decoder.channels()
     }
 
+    /// How many raw bytes a row of the image has, in the channels of the output.
+    pub fn bytes_per_row(&self) -> usize
+        ensures size { result ≡ row_size self.now.channels self.now.header }
+        ensures most { result ≤ 4 * pixels_max }
+    {
+        let header = self.decoder.header.with_channels(self.decoder.channels);
+        header.bytes_per_row()
+    }
+
     /// How many raw bytes of the image are unread: none after the last ones, and some for ever after
     /// a refusal.
     #[tactic(auto, unfolding(crate::specs::pieces::PixelReader::pixels_left, crate::specs::pieces::PixelReader::HasGiven))]
     pub fn left(&self) -> usize
         ensures left { result ≡ pixels_left self.now }
+        ensures most { result ≤ 4 * pixels_max }
         // If none are left, the decoder's image was decoded, and these are its bytes.
         ensures all { (d : DecoderState R) (start : Option (List ℕ)) (given : List ℕ)
             → HasGiven d start (R.ahead self.now.reader) given self.now → result ≡ 0

@@ -1,7 +1,7 @@
 //! Encoding of one image whose raw bytes come piece by piece.
 ghost use Rattle.std.specs.Prelude.{◌≡◌, ℕ, ◌+◌, ◌-◌, ◌*◌, ◌%◌, ◌^◌, ◌<◌, ◌≤◌, List, [], ◌++◌, Option, length, ◌⊎◌, Err, IfOk, IfErr, IsErrAnd, IsTrue, OnErr, OnOk, false};
 ghost use Rattle.std.specs.Io.KnownBytes.{Appends};
-ghost use Rattle.qoi.specs.Qoi.{Error, IsValid, tried_header};
+ghost use Rattle.qoi.specs.Qoi.{Error, IsValid, pixels_max, tried_header};
 ghost use Rattle.qoi.specs.Raw.{image_byte_count};
 ghost use Rattle.qoi.specs.Encoded.{image_file};
 ghost use Rattle.qoi.specs.Errors.{IsIoError};
@@ -16,7 +16,8 @@ mod workspace;
 use crate::consts::QOI_HEADER_SIZE;
 use crate::encode::chunks::Pending;
 use crate::encode::piece::FULL_ROOM;
-use crate::encode::pixel_writer::sending::{send_bytes, take_raw, write_end};
+pub(crate) use crate::encode::pixel_writer::sending::send_bytes;
+use crate::encode::pixel_writer::sending::{take_raw, write_end};
 use crate::encode::pixel_writer::workspace::{Held, Workspace};
 use crate::error::{Error, Result};
 use crate::header::Header;
@@ -183,6 +184,27 @@ impl<W: Write + Drop> PixelWriter<W> {
         }
         self.failed = false;
         self.left -= raw.len();
+        Ok(())
+    }
+
+    /// The refusal of `write` for so many raw bytes, before it takes them.
+    #[tactic(auto, unfolding(crate::specs::pieces::PixelWriter::HasTaken))]
+    pub(crate) fn check_room(&self, more: usize) -> Result<()>
+        requires { more ≤ 4 * pixels_max }
+        ensures room { OnOk result (more ≤ raw_left self.now) }
+        ensures many { (e : EncoderState) (before : Option (List ℕ))
+            → HasTaken W.contents e before self.now → IfErr result (λ error. (error
+            ≡ Error.InvalidImageLength (length e.raw + more) e.header.width e.header.height)
+            × (raw_left self.now < more)) }
+        ensures spent { (e : EncoderState) (before : Option (List ℕ))
+            → HasFailed W.contents e before self.now → IsErrAnd result IsIoError }
+    {
+        if self.failed {
+            return Err(failed_before());
+        }
+        if more > self.left {
+            return Err(self.wrong_length(more));
+        }
         Ok(())
     }
 

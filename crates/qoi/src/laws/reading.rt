@@ -174,6 +174,12 @@ pub fn image_files_are_read()
         → image_header raw width height ≡ Ok h → IsReadBack h raw (image_file style h raw) }
 {}
 
+/// The file of an image in style `Tight` is no longer than its file in any other style.
+pub fn tight_is_no_longer()
+    ensures { (style : Style) (h : Header) (raw bytes : List ℕ) → IsFileOf style h raw bytes
+        → length (image_file Style.Tight h raw) ≤ length bytes }
+{}
+
 /// A file after other bytes, of any origin, is a tile there, tiles stay whatever is appended, and
 /// the image of a tile is read at its offset.
 pub fn tiles_stay()

@@ -9,6 +9,8 @@ mod calls;
 mod choices;
 mod chosen_channels;
 mod chunks;
+mod copied;
+mod copies;
 mod decoder;
 mod definitions;
 mod differences;

@@ -19,7 +19,7 @@ use std::io::Write;
 
 /// Sends bytes to a writer of the standard library.
 #[inline(never)]
-pub(super) fn send_bytes<W: Write>(writer: &mut W, bytes: &[u8]) -> Result<()>
+pub(crate) fn send_bytes<W: Write>(writer: &mut W, bytes: &[u8]) -> Result<()>
     ensures written { OnOk result
         (Appends (W.contents writer.old) (W.contents writer.new) bytes.now) }
     ensures refused { IfErr result (λ e. IsIoError e × AppendsBeginning

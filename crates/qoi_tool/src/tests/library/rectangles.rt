@@ -10,7 +10,7 @@ ghost use Rattle.qoi.specs.Rectangles.{row_bytes, rectangle, KeepsOutside};
 
 use crate::tests::library::support::{assert_bytes, assert_cut, assert_given, made};
 use qoi::laws::rectangles::{rows_are_put, rows_that_come};
-use qoi::{Bytes, Decoder, Error, Header, PixelReader, Reader};
+use qoi::{Bytes, Decoder, Error, PixelReader, Reader};
 use std::alloc::Global;
 
 /// Of each of `rows` rows, from row `top` on, the `size` bytes from byte `left` on.
@@ -66,13 +66,6 @@ pub fn cut(
         tile.extend_from_slice(&row[area.left..area.left + area.size])?;
     }
     Ok(tile)
-}
-
-/// How many bytes a row of an image has, in the file's own channels.
-pub fn stride_of(header: &Header) -> usize
-    ensures { result ≡ header.now.width * channels_number header.now.channels }
-{
-    header.width as usize * header.channels.as_u8() as usize
 }
 
 /// Decodes the next row of an image.
@@ -137,7 +130,7 @@ pub fn cut_file(alloc: Global, file: &[u8], area: Area) -> Result<Vec<u8>, Error
         area.top area.left area.rows area.size (file_image file.now)) }
 {
     let decoder = Decoder::new(file)?;
-    let stride = stride_of(decoder.header());
+    let stride = decoder.header().bytes_per_row();
     if !area.lies_within(decoder.header().height as usize, stride) {
         return Err(Error::UnexpectedBufferEnd);
     }

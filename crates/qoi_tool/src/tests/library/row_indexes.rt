@@ -3,12 +3,12 @@
 ghost use Rattle.std.specs.Prelude.{◌≡◌, ℕ, ◌+◌, ◌*◌, ◌<◌, ◌≤◌, ◌^◌, List, length, drop, Some, Ok, IsTrue, IfOk, OnOk};
 ghost use Rattle.qoi.specs.Images.{front_image, file_image};
 ghost use Rattle.qoi.specs.Qoi.{header_of, header_size};
-ghost use Rattle.qoi.specs.Rectangles.{rectangle};
+ghost use Rattle.qoi.specs.Rectangles.{rectangle, row_bytes};
 ghost use Rattle.qoi.specs.declared.header.Header.{Header};
 ghost use Rattle.qoi.specs.pieces.PixelReader.{HasRows};
 ghost use Rattle.qoi.specs.pieces.RowIndex.{file_decoder, row_size, IsRowIndex};
 
-use crate::tests::library::rectangles::{Area, keep, next_row, paste, stride_of};
+use crate::tests::library::rectangles::{Area, keep, next_row, paste};
 use crate::tests::library::support::{assert_bytes, assert_count, assert_given, made};
 use qoi::laws::rectangles::{rectangles_are_parts, rows_are_put};
 use qoi::{Bytes, Channels, Error, Header, PixelReader, RowIndex, decode_header};
@@ -49,7 +49,7 @@ pub fn tile(alloc: Global, index: &RowIndex, file: &[u8], area: Area) -> Result<
     ensures size { IfOk result (λ tile. length tile.items ≡ area.size * area.rows) }
 {
     let header = decode_header(file)?;
-    let stride = stride_of(&header);
+    let stride = header.bytes_per_row();
     if !area.lies_within(header.height as usize, stride) {
         return Err(Error::UnexpectedBufferEnd);
     }
@@ -57,6 +57,19 @@ pub fn tile(alloc: Global, index: &RowIndex, file: &[u8], area: Area) -> Result<
     let mut row = vec![in alloc; 0u8; stride]?;
     let tile = tile_rows(alloc, &mut pixels, file, header, &mut row, area)?;
     Ok(tile)
+}
+
+/// One row of the image of a file, by an index, into a buffer of its size: no method of its own is
+/// needed for it.
+pub fn one_row(index: &RowIndex, file: &[u8], k: u32, row: &mut [u8]) -> Result<usize, Error>
+    requires { IsRowIndex file.now index.now }
+    ensures { (h : Header) → header_of file.now ≡ Ok h → length row.old ≡ row_size h.channels h
+        → IfOk result (λ size. length row.old ≤ size
+        → row.new ≡ row_bytes (row_size h.channels h) (file_image file.now) k) }
+{
+    let mut pixels = index.rows(file, k)?;
+    let size = pixels.read(row)?;
+    Ok(size)
 }
 
 // How many rows a tile has, but for the last one.
@@ -92,7 +105,7 @@ pub fn put_together(alloc: Global, file: &[u8], raw: &mut [u8]) -> Result<(), Er
 {
     rectangles_are_parts();
     let header = decode_header(file)?;
-    let (stride, height) = (stride_of(&header), header.height as usize);
+    let (stride, height) = (header.bytes_per_row(), header.height as usize);
     if !has_rows(raw, stride, height) {
         return Err(Error::UnexpectedBufferEnd);
     }
@@ -130,6 +143,9 @@ fn a_tile_by_an_index(rt: HostRuntime) {
     let mut picture = [0; 12];
     put_together(alloc, &file, &mut picture).expect(&rt, "refused");
     assert_bytes(&rt, &picture, &PICTURE);
+    let mut row = [0; 4];
+    assert_count(&rt, one_row(&index, &file, 2, &mut row), 4);
+    assert_bytes(&rt, &row, &PICTURE[8..]);
 }
 
 // Rows of four channels, read in three.

@@ -1,5 +1,4 @@
-//! Two images, one above the other, are encoded as one, in the memory of a piece. Only the loop has a
-//! proof file, with its invariant.
+//! Two images, one above the other, are encoded as one, in constant memory and without a loop.
 ghost use Rattle.std.specs.Prelude.{◌≡◌, ◌+◌, ◌++◌, ℕ, List, Option, Some, IfOk, IfSome, OnOk};
 ghost use Rattle.std.specs.Io.KnownBytes.{Appends};
 ghost use Rattle.qoi.specs.declared.types.Style.TheVariants.{Reference};
@@ -24,11 +23,8 @@ pub fn append_image<R: Reader + Drop, W: Write + Drop>(
         OnOk result (HasTaken W.contents
         (and_raw e (front_image decoder.channels decoder.header bytes)) before writer.new)) }
 {
-    let (mut pixels, mut row) = (decoder.into_pixels(), [0; 4096]);
-    while pixels.left() > 0 {
-        let size = pixels.read(&mut row)?;
-        writer.write(&row[..size])?;
-    }
+    let mut pixels = decoder.into_pixels();
+    pixels.copy_to(writer)?;
     Ok(())
 }
 

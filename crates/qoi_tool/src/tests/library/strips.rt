@@ -51,7 +51,7 @@ pub fn in_strips(
         (file_image file.now)) }
 {
     let mut pixels = Decoder::new(file)?.into_pixels();
-    let stride = pixels.header().width as usize * pixels.channels().as_u8() as usize;
+    let stride = pixels.bytes_per_row();
     let mut out = Vec::new(alloc);
     let mut done = 0;
     while done < height {

@@ -12,7 +12,7 @@ ghost use Rattle.qoi.specs.pieces.PixelWriter.{HasTaken};
 ghost use Rattle.qoi.specs.pieces.RowIndex.{row_size, IsRowIndex};
 ghost use Rattle.qoi_tool.specs.Pictures.{from_below};
 
-use crate::tests::library::rectangles::{next_row, stride_of};
+use crate::tests::library::rectangles::next_row;
 use crate::tests::library::support::{assert_decoded, made};
 use qoi::{Header, PixelWriter, Result, RowIndex, Style, decode_header};
 use std::alloc::Global;
@@ -82,7 +82,7 @@ pub fn upside_down<W: Write + Drop>(alloc: Global, file: &[u8], out: W) -> Resul
         (from_below (row_size h.channels h) h.height (file_image file.now) h.height))) }
 {
     let header = decode_header(file)?;
-    let mut row = vec![in alloc; 0u8; stride_of(&header)]?;
+    let mut row = vec![in alloc; 0u8; header.bytes_per_row()]?;
     let out = write_from_below(alloc, file, header, &mut row, out)?;
     Ok(out)
 }

@@ -1,10 +1,10 @@
 -- A piece more is given, or the image is refused.
 use Rattle.std.proofs.Common.{◌≡◌, ◌++◌, List, ℕ, ◌+◌, ◌≤◌, Bool, true, false, IsTrue, Option, Some, None, IfSome, MatchOption, take, drop, length, arith, refl, sym, ap, ◌∙◌, subst}
-use Rattle.std.proofs.lemmas.List.{length-append, length-drop, length-take, length-take-le, drop_at, drop-take, take_all}
+use Rattle.std.proofs.lemmas.List.{length-append, length-drop, length-take, length-take-le, take_all}
 use Rattle.std.proofs.Math.Nat.{mul-add}
 use lib.Seq.{take-append_seam}
 use Rattle.qoi.specs.Images.{front_image}
-use Rattle.qoi.specs.Qoi.{Error, Header, Channels, IsValid, channels_number, pixel_count}
+use Rattle.qoi.specs.Qoi.{Error, Header, IsValid, channels_number, pixel_count}
 use Rattle.qoi.specs.Decoding.{RefusesBytes}
 use Rattle.qoi.specs.DecoderState.{DecoderState}
 use Rattle.qoi.specs.Reading.{StandsAhead}
@@ -12,7 +12,7 @@ use Rattle.qoi.specs.pieces.PixelReader.{PixelsState, HasGiven, HasRows, Refuses
 use Rattle.qoi.specs.pieces.Unread.{KeepsPixels, IsUnread, AreEnough}
 use Rattle.qoi.specs.inner.Chunks.{RefusesChunks}
 use Rattle.qoi.proofs.format.RectangleLaws.{picture_row}
-use Rattle.qoi.proofs.decoding.PixelPieces.{byte_bounds, has_given, unread_of, refuses_pixels, rows_more, rows_next}
+use Rattle.qoi.proofs.decoding.PixelPieces.{byte_bounds, has_given, unread_of, refuses_pixels, piece_follows, rows_more, rows_next}
 use Rattle.qoi.proofs.decode.pixel_reader.PixelReader.read.Given.{Over}
 use Rattle.qoi.proofs.decode.pixel_reader.PixelReader.read.Goals.{After-refuse}
 use Rattle.qoi.proofs.decode.pixel_reader.PixelReader.read.Goals as goal
@@ -21,14 +21,6 @@ use Rattle.qoi.proofs.decode.pixel_reader.PixelReader.read.Goals as goal
 fault_is : (Why : Error → Type 0) (fault : Option Error) (e : Error) → IfSome fault (λ f. e ≡ f) → MatchOption fault ⊥ Why → Why e
 fault_is Why (Some f) e is why = subst Why (sym is) why
 fault_is Why None e is why = absurd why
-
--- of the front of an image the piece after the first bytes is the image's
-piece_follows : (channels : Channels) (h : Header) (bytes given piece : List ℕ) → given ++ piece ≡ take (length (given ++ piece)) (front_image channels h bytes)
-    → piece ≡ take (length piece) (drop (length given) (front_image channels h bytes))
-piece_follows channels h bytes given piece front =
-    sym (drop_at given piece (length given) refl) ∙ ap (drop (length given)) front
-    ∙ ap (λ n. drop (length given) (take n (front_image channels h bytes))) (length-append given piece)
-    ∙ drop-take (length given) (length piece) (front_image channels h bytes)
 
 -- an image that stands whole in memory isn't refused
 stays_whole : {R : Type 0} (in_memory : Bool) (d : DecoderState R) (bytes : List ℕ) (new : Option (List ℕ)) (e : Error) → RefusesPixels in_memory d (Some bytes) new e

@@ -1,0 +1,21 @@
+-- All but `rest` of the raw bytes went from the reader to the writer, or the image was refused before.
+use Rattle.std.proofs.Common.{◌≡◌, ◌+◌, List, ℕ, length}
+use Rattle.qoi.specs.pieces.Copying.{Gives, Takes}
+use Rattle.qoi.specs.pieces.PixelReader.{pixels_left, IsSpent}
+use Rattle.qoi.specs.pieces.PixelWriter.{raw_left}
+use Rattle.qoi.proofs.decode.pixel_reader.PixelReader.copy_bytes.Given as goal
+
+abbrev pub invariant-loop-rest : goal.invariant-loop-rest
+invariant-loop-rest g l = record {
+  more : List ℕ;
+  count : length more + l.rest ≡ l.count;
+  given : Gives g.R.Reader.ahead more l.initial.self l.self;
+  taken : Takes g.W.Write.contents more l.initial.writer l.writer;
+  left : pixels_left l.self + l.count ≡ pixels_left l.initial.self + l.rest;
+  room : raw_left l.writer + l.count ≡ raw_left l.initial.writer + l.rest;
+  same : (l.self.header ≡ l.initial.self.header) × (l.self.channels ≡ l.initial.self.channels);
+  spent : IsSpent l.initial.self → (l.self ≡ l.initial.self) × (l.writer ≡ l.initial.writer) × (l.rest ≡ l.count);
+}
+
+abbrev pub decreases-loop-rest : goal.decreases-loop-rest
+decreases-loop-rest g l = l.rest

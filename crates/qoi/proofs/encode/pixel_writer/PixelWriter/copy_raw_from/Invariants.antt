@@ -1,0 +1,16 @@
+-- The bytes that the reader gave so far came.
+use Rattle.std.proofs.Common.{List, ℕ, Option}
+use Rattle.std.specs.Io.KnownBytes.{Consumes}
+use Rattle.qoi.specs.EncoderState.{EncoderState}
+use Rattle.qoi.specs.pieces.PixelWriter.{raw_left, and_raw, HasTaken}
+use Rattle.qoi.proofs.encode.pixel_writer.PixelWriter.copy_raw_from.Given as goal
+
+abbrev pub invariant-loop-buf : goal.invariant-loop-buf
+invariant-loop-buf g l = record {
+  taken : (e : EncoderState) (before : Option (List ℕ)) → HasTaken g.W.Write.contents e before l.initial.self
+      → (raw : List ℕ) × Consumes (g.R.Read.remaining l.initial.input) (g.R.Read.remaining l.input) raw
+      × HasTaken g.W.Write.contents (and_raw e raw) before l.self;
+}
+
+abbrev pub decreases-loop-buf : goal.decreases-loop-buf
+decreases-loop-buf g l = raw_left l.self

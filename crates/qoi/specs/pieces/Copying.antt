@@ -1,0 +1,57 @@
+-- What a contract says of raw bytes that are copied from a pixel reader, or to a pixel writer.
+use Rattle.std.specs.Prelude.{◌≡◌, ℕ, ◌*◌, List, ◌++◌, Option, Bool, IsTrue, ◌⊎◌}
+use Rattle.std.specs.Io.KnownBytes.{Appends, Consumes, Keeps}
+use Rattle.qoi.specs.Qoi.{Error}
+use Rattle.qoi.specs.Rectangles.{row_size}
+use Rattle.qoi.specs.Errors.{IsIoError}
+use Rattle.qoi.specs.Writers.{AppendsBeginning}
+use Rattle.qoi.specs.DecoderState.{DecoderState}
+use Rattle.qoi.specs.EncoderState.{EncoderState}
+use Rattle.qoi.specs.pieces.PixelReader.{PixelsState, pixels_left, HasGiven, RefusesPixels, IsSpent}
+use Rattle.qoi.specs.pieces.PixelWriter.{WriterState, and_raw, HasTaken, HasFailed}
+
+-- how many raw bytes so many rows of the reader's image have
+abbrev pub rows_size : {R : Type 0} → PixelsState R → ℕ → ℕ
+rows_size p rows = row_size p.channels p.header * rows
+
+-- the reader gave these raw bytes of the image, behind those that it had given
+abbrev pub Gives : {R : Type 0} → (R → Option (List ℕ)) → List ℕ → PixelsState R → PixelsState R → Type 0
+Gives ahead more p q = (d : DecoderState _) (start : Option (List ℕ)) (given : List ℕ) → HasGiven d start (ahead p.reader) given p
+    → HasGiven d start (ahead q.reader) (given ++ more) q
+
+-- the writer took these raw bytes, behind those that it had taken
+abbrev pub Takes : {W : Type 0} → (W → Option (List ℕ)) → List ℕ → WriterState W → WriterState W → Type 0
+Takes contents more w v = (e : EncoderState) (before : Option (List ℕ)) → HasTaken contents e before w → HasTaken contents (and_raw e more) before v
+
+-- Of the decoder's image the raw bytes `given` were read, and then `more`. Behind them the image was
+-- refused, with this error, and the reader is p.
+pub record StopsBehind {R : Type 0} (in_memory : Bool) (ahead : R → Option (List ℕ)) (d : DecoderState R) (start : Option (List ℕ)) (given more : List ℕ) (p : PixelsState R) (error : Error) : Type 0 where
+  -- the reader as it stood before the call of `read` that was refused
+  pub was : PixelsState R
+  pub read : HasGiven d start (ahead was.reader) (given ++ more) was
+  -- and as it stands behind that call
+  pub why : RefusesPixels in_memory d start (ahead p.reader) error
+  pub spent : IsSpent p
+  pub left : pixels_left p ≡ pixels_left was
+  pub kept : IsTrue in_memory → Keeps (ahead was.reader) (ahead p.reader)
+
+-- A copy to a pixel writer broke off: the image was refused, behind bytes that the writer took, or the
+-- writer failed, with bytes that were read.
+abbrev pub BreaksCopy : {R W : Type 0} → Bool → (R → Option (List ℕ)) → (W → Option (List ℕ)) → DecoderState R → Option (List ℕ) → List ℕ → EncoderState → Option (List ℕ) → PixelsState R → WriterState W → Error → Type 0
+BreaksCopy in_memory ahead contents d start given e before p w error = (more : List ℕ)
+    × ((StopsBehind in_memory ahead d start given more p error × HasTaken contents (and_raw e more) before w)
+    ⊎ (IsIoError error × HasGiven d start (ahead p.reader) (given ++ more) p × HasFailed contents (and_raw e more) before w))
+
+-- A copy of raw bytes to any writer broke off: the image was refused, behind bytes that were written, or the
+-- writer failed, behind a beginning of those that were read.
+abbrev pub BreaksRaw : {R : Type 0} → Bool → (R → Option (List ℕ)) → DecoderState R → Option (List ℕ) → List ℕ → Option (List ℕ) → PixelsState R → Option (List ℕ) → Error → Type 0
+BreaksRaw in_memory ahead d start given old p new error = (more : List ℕ)
+    × ((StopsBehind in_memory ahead d start given more p error × Appends old new more)
+    ⊎ (IsIoError error × HasGiven d start (ahead p.reader) (given ++ more) p × AppendsBeginning old new more))
+
+-- A copy of raw bytes from any reader broke off: the reader failed, behind bytes that it gave and the pixel
+-- writer took, or the pixel writer failed with those that the reader gave.
+abbrev pub BreaksInput : {W : Type 0} → (W → Option (List ℕ)) → Option (List ℕ) → Option (List ℕ) → EncoderState → Option (List ℕ) → WriterState W → Error → Type 0
+BreaksInput contents old new e before w error = IsIoError error × (raw : List ℕ)
+    × (((later : Option (List ℕ)) × Consumes old later raw × HasTaken contents (and_raw e raw) before w)
+    ⊎ (Consumes old new raw × HasFailed contents (and_raw e raw) before w))

@@ -1,0 +1,251 @@
+//! The raw bytes of an image, from a reader of pieces to a writer of pieces.
+ghost use Rattle.std.specs.Prelude.{◌≡◌, ℕ, ◌+◌, ◌*◌, ◌-◌, ◌<◌, ◌≤◌, List, [], ◌++◌, length, take, drop, Option, Some, IfErr, OnOk, IsErrOf, IsErrAnd};
+ghost use Rattle.qoi.specs.Decoded.{HasDecoded};
+ghost use Rattle.qoi.specs.DecoderState.{DecoderState};
+ghost use Rattle.qoi.specs.EncoderState.{EncoderState};
+ghost use Rattle.qoi.specs.Errors.{IsIoError};
+ghost use Rattle.qoi.specs.Images.{front_image};
+ghost use Rattle.qoi.specs.Qoi.{Error, pixels_max};
+ghost use Rattle.qoi.specs.Rectangles.{rectangle, row_size};
+ghost use Rattle.qoi.specs.pieces.Copying.{rows_size, Gives, Takes, BreaksCopy};
+ghost use Rattle.qoi.specs.pieces.PixelReader.{pixels_left, HasGiven, HasRows, IsSpent};
+ghost use Rattle.qoi.specs.pieces.PixelWriter.{raw_left, and_raw, HasTaken, HasFailed};
+
+mod raw;
+
+use crate::decode::{PixelReader, Reader};
+use crate::encode::PixelWriter;
+use crate::error::{Error, Result};
+use std::io::Write;
+
+// How many raw bytes go at once.
+const PIECE: usize = 4096;
+
+impl<R: Reader> PixelReader<R> {
+    /// Copies all that is left of the image to a writer of pieces, by an array of 4,096 bytes: it
+    /// allocates nothing. It doesn't finish the writer, which may take further images. Raw bytes
+    /// are copied as they come: whether both sides have the same channels isn't asked.
+    ///
+    /// Refusals, in this order: `IoError` if the writer reported a fault before;
+    /// `InvalidImageLength` if more bytes are left than the writer takes; and then nothing is read.
+    /// Else those of `read`, behind which the writer has what was read before, and those of
+    /// `write`.
+    ///
+    /// ```
+    /// let mut pixels = Decoder::from_buf_read(reader)?.into_pixels();
+    /// let mut copy = PixelWriter::new(alloc, *pixels.header(), Style::Tight, writer)?;
+    /// pixels.copy_to(&mut copy)?;
+    /// let writer = copy.finish()?;
+    /// ```
+    pub fn copy_to<W: Write + Drop>(&mut self, writer: &mut PixelWriter<W>) -> Result<()>
+        // A success: the reader gave the rest of the image, and the writer took it. It is the whole
+        // image, if no byte was read before.
+        ensures copied { OnOk result ((rest : List ℕ) × Takes W.contents rest writer.old writer.new
+            × ((d : DecoderState R) (start : Option (List ℕ)) (bytes : List ℕ)
+            → HasGiven d start (R.ahead self.old.reader) [] self.old → start ≡ Some bytes
+            → rest ≡ front_image d.channels d.header bytes)
+            × Gives R.ahead rest self.old self.new) }
+        // Else it is the image but for the bytes that were read before.
+        ensures rest { (d : DecoderState R) (start : Option (List ℕ)) (bytes given : List ℕ)
+            (e : EncoderState) (before : Option (List ℕ))
+            → HasGiven d start (R.ahead self.old.reader) given self.old → start ≡ Some bytes
+            → HasTaken W.contents e before writer.old → OnOk result (HasTaken W.contents
+            (and_raw e (drop (length given) (front_image d.channels d.header bytes)))
+            before writer.new) }
+        ensures image { (d : DecoderState R) (start : Option (List ℕ)) (bytes : List ℕ)
+            (e : EncoderState) (before : Option (List ℕ))
+            → HasGiven d start (R.ahead self.old.reader) [] self.old → start ≡ Some bytes
+            → HasTaken W.contents e before writer.old → OnOk result (HasTaken W.contents
+            (and_raw e (front_image d.channels d.header bytes)) before writer.new) }
+        // So the image was decoded, and the reader stands behind its end marker.
+        ensures decoded { (d : DecoderState R) (start : Option (List ℕ)) (given : List ℕ)
+            → HasGiven d start (R.ahead self.old.reader) given self.old → OnOk result
+            ((rest : List ℕ) × HasDecoded d start (R.ahead self.new.reader) (given ++ rest)) }
+        ensures all { OnOk result (pixels_left self.new ≡ 0) }
+        ensures left { OnOk result
+            (raw_left writer.new + pixels_left self.old ≡ raw_left writer.old) }
+
+        // The refusals that leave both as they were: too many bytes, a writer that failed before,
+        // and an image that was refused before.
+        ensures many { (e : EncoderState) (before : Option (List ℕ))
+            → HasTaken W.contents e before writer.old → raw_left writer.old < pixels_left self.old
+            → IsErrOf result (Error.InvalidImageLength (length e.raw + pixels_left self.old)
+            e.header.width e.header.height)
+            × (self.new ≡ self.old) × (writer.new ≡ writer.old) }
+        ensures failed { (e : EncoderState) (before : Option (List ℕ))
+            → HasFailed W.contents e before writer.old → IsErrAnd result IsIoError
+            × (self.new ≡ self.old) × (writer.new ≡ writer.old) }
+        ensures spent { (e : EncoderState) (before : Option (List ℕ))
+            → HasTaken W.contents e before writer.old → pixels_left self.old ≤ raw_left writer.old
+            → IsSpent self.old → IsErrOf result Error.UnexpectedBufferEnd
+            × (self.new ≡ self.old) × (writer.new ≡ writer.old) }
+        // The others: the image is refused, or the writer fails.
+        ensures refused { (d : DecoderState R) (start : Option (List ℕ)) (given : List ℕ)
+            (e : EncoderState) (before : Option (List ℕ))
+            → HasGiven d start (R.ahead self.old.reader) given self.old
+            → HasTaken W.contents e before writer.old → pixels_left self.old ≤ raw_left writer.old
+            → IfErr result (BreaksCopy R.in_memory R.ahead W.contents d start given e before
+            self.new writer.new) }
+
+        // What stays: header and channels.
+        ensures unchanged { (self.new.header ≡ self.old.header)
+            × (self.new.channels ≡ self.old.channels) }
+    {
+        let left = self.left();
+        self.copy_bytes(writer, left)
+    }
+
+    /// Copies the next rows of the image to a writer of pieces, so many: `copy_to` for a part. It
+    /// counts from where the reader stands, which may be within a row.
+    ///
+    /// `UnexpectedBufferEnd` if fewer are left, and then nothing is read; else the refusals are
+    /// those of `copy_to`.
+    ///
+    /// ```
+    /// let mut pixels = index.rows(file, 4000)?;
+    /// pixels.copy_rows_to(&mut strip, 50)?; // rows 4000 to 4049
+    /// ```
+    pub fn copy_rows_to<W: Write + Drop>(
+        &mut self,
+        writer: &mut PixelWriter<W>,
+        rows: u32,
+    ) -> Result<()>
+        // A success: the reader gave the bytes of so many rows, and the writer took them. Behind k
+        // rows of the image they are the rows that follow.
+        ensures copied { OnOk result ((more : List ℕ) × Takes W.contents more writer.old writer.new
+            × ((d : DecoderState R) (bytes : List ℕ) (stride k : ℕ)
+            → HasRows d (Some bytes) (R.ahead self.old.reader) stride k self.old
+            → stride ≡ row_size d.channels d.header
+            → more ≡ rectangle stride k 0 rows stride (front_image d.channels d.header bytes))
+            × Gives R.ahead more self.old self.new × (length more ≡ rows_size self.old rows)) }
+        ensures rows { (d : DecoderState R) (start : Option (List ℕ)) (stride k : ℕ)
+            → HasRows d start (R.ahead self.old.reader) stride k self.old
+            → stride ≡ row_size d.channels d.header
+            → OnOk result (HasRows d start (R.ahead self.new.reader) stride (k + rows) self.new) }
+        ensures strip { (d : DecoderState R) (bytes : List ℕ) (stride k : ℕ)
+            (e : EncoderState) (before : Option (List ℕ))
+            → HasRows d (Some bytes) (R.ahead self.old.reader) stride k self.old
+            → stride ≡ row_size d.channels d.header → HasTaken W.contents e before writer.old
+            → OnOk result (HasTaken W.contents (and_raw e (rectangle stride k 0 rows stride
+            (front_image d.channels d.header bytes))) before writer.new) }
+        ensures left { OnOk result
+            (pixels_left self.new + rows_size self.old rows ≡ pixels_left self.old) }
+        ensures room { OnOk result
+            (raw_left writer.new + rows_size self.old rows ≡ raw_left writer.old) }
+
+        // The refusals that leave both as they were: too few rows, too many bytes, a writer that
+        // failed before, and an image that was refused before.
+        ensures few { pixels_left self.old < rows_size self.old rows
+            → IsErrOf result Error.UnexpectedBufferEnd
+            × (self.new ≡ self.old) × (writer.new ≡ writer.old) }
+        ensures many { (e : EncoderState) (before : Option (List ℕ))
+            → HasTaken W.contents e before writer.old
+            → rows_size self.old rows ≤ pixels_left self.old
+            → raw_left writer.old < rows_size self.old rows
+            → IsErrOf result (Error.InvalidImageLength
+            (length e.raw + rows_size self.old rows)
+            e.header.width e.header.height)
+            × (self.new ≡ self.old) × (writer.new ≡ writer.old) }
+        ensures failed { (e : EncoderState) (before : Option (List ℕ))
+            → HasFailed W.contents e before writer.old
+            → rows_size self.old rows ≤ pixels_left self.old
+            → IsErrAnd result IsIoError × (self.new ≡ self.old) × (writer.new ≡ writer.old) }
+        ensures spent { (e : EncoderState) (before : Option (List ℕ))
+            → HasTaken W.contents e before writer.old
+            → rows_size self.old rows ≤ raw_left writer.old
+            → 0 < rows_size self.old rows → rows_size self.old rows ≤ pixels_left self.old
+            → IsSpent self.old → IsErrOf result Error.UnexpectedBufferEnd
+            × (self.new ≡ self.old) × (writer.new ≡ writer.old) }
+        // The others: the image is refused, or the writer fails.
+        ensures refused { (d : DecoderState R) (start : Option (List ℕ)) (given : List ℕ)
+            (e : EncoderState) (before : Option (List ℕ))
+            → HasGiven d start (R.ahead self.old.reader) given self.old
+            → HasTaken W.contents e before writer.old
+            → rows_size self.old rows ≤ pixels_left self.old
+            → rows_size self.old rows ≤ raw_left writer.old
+            → IfErr result (BreaksCopy R.in_memory R.ahead W.contents d start given e before
+            self.new writer.new) }
+
+        // What stays: header and channels.
+        ensures unchanged { (self.new.header ≡ self.old.header)
+            × (self.new.channels ≡ self.old.channels) }
+    {
+        let count = self.bytes_per_row() * rows as usize;
+        if count > self.left() {
+            return Err(Error::UnexpectedBufferEnd);
+        }
+        self.copy_bytes(writer, count)
+    }
+
+    // Copies the next raw bytes, if the writer takes so many.
+    fn copy_bytes<W: Write + Drop>(
+        &mut self,
+        writer: &mut PixelWriter<W>,
+        count: usize,
+    ) -> Result<()>
+        requires fits { count ≤ pixels_left self.old }
+        requires few { count ≤ 4 * pixels_max }
+        ensures copied { OnOk result ((more : List ℕ) × Gives R.ahead more self.old self.new
+            × Takes W.contents more writer.old writer.new × (length more ≡ count)) }
+        ensures left { OnOk result (pixels_left self.new + count ≡ pixels_left self.old) }
+        ensures room { OnOk result (raw_left writer.new + count ≡ raw_left writer.old) }
+        ensures many { (e : EncoderState) (before : Option (List ℕ))
+            → HasTaken W.contents e before writer.old → raw_left writer.old < count
+            → IsErrOf result (Error.InvalidImageLength (length e.raw + count) e.header.width
+            e.header.height) × (self.new ≡ self.old) × (writer.new ≡ writer.old) }
+        ensures failed { (e : EncoderState) (before : Option (List ℕ))
+            → HasFailed W.contents e before writer.old → IsErrAnd result IsIoError
+            × (self.new ≡ self.old) × (writer.new ≡ writer.old) }
+        ensures spent { (e : EncoderState) (before : Option (List ℕ))
+            → HasTaken W.contents e before writer.old → count ≤ raw_left writer.old → 0 < count
+            → IsSpent self.old → IsErrOf result Error.UnexpectedBufferEnd
+            × (self.new ≡ self.old) × (writer.new ≡ writer.old) }
+        ensures refused { (d : DecoderState R) (start : Option (List ℕ)) (given : List ℕ)
+            (e : EncoderState) (before : Option (List ℕ))
+            → HasGiven d start (R.ahead self.old.reader) given self.old
+            → HasTaken W.contents e before writer.old → count ≤ raw_left writer.old
+            → IfErr result (BreaksCopy R.in_memory R.ahead W.contents d start given e before
+            self.new writer.new) }
+        ensures unchanged { (self.new.header ≡ self.old.header)
+            × (self.new.channels ≡ self.old.channels) }
+    {
+        writer.check_room(count)?;
+        let mut buf = [0; PIECE];
+        let mut rest = count;
+        while rest > 0 {
+            let size = rest.min(PIECE);
+            self.copy_piece(writer, &mut buf[..size])?;
+            rest -= size;
+        }
+        Ok(())
+    }
+
+    // Copies as many raw bytes as `piece` has.
+    fn copy_piece<W: Write + Drop>(
+        &mut self,
+        writer: &mut PixelWriter<W>,
+        piece: &mut [u8],
+    ) -> Result<()>
+        requires fits { length piece.old ≤ pixels_left self.old }
+        requires room { length piece.old ≤ raw_left writer.old }
+        ensures given { OnOk result (Gives R.ahead piece.new self.old self.new) }
+        ensures taken { OnOk result (Takes W.contents piece.new writer.old writer.new) }
+        ensures left { OnOk result
+            (pixels_left self.new + length piece.old ≡ pixels_left self.old) }
+        ensures room { OnOk result (raw_left writer.new + length piece.old ≡ raw_left writer.old) }
+        ensures spent { IsSpent self.old → 0 < length piece.old
+            → IsErrOf result Error.UnexpectedBufferEnd
+            × (self.new ≡ self.old) × (writer.new ≡ writer.old) }
+        ensures refused { (d : DecoderState R) (start : Option (List ℕ)) (given : List ℕ)
+            (e : EncoderState) (before : Option (List ℕ))
+            → HasGiven d start (R.ahead self.old.reader) given self.old
+            → HasTaken W.contents e before writer.old
+            → IfErr result (BreaksCopy R.in_memory R.ahead W.contents d start given e before
+            self.new writer.new) }
+        ensures unchanged { (self.new.header ≡ self.old.header)
+            × (self.new.channels ≡ self.old.channels) }
+    {
+        self.read(piece)?;
+        writer.write(piece)
+    }
+}

@@ -1,0 +1,152 @@
+//! Raw bytes from a reader of pieces to any writer, and from any reader to a writer of pieces.
+ghost use Rattle.std.specs.Prelude.{◌≡◌, ℕ, ◌+◌, ◌*◌, ◌≤◌, ◌<◌, List, [], ◌++◌, length, drop, Option, Some, IfErr, OnOk, IsErrOf, IsErrAnd};
+ghost use Rattle.std.specs.Io.KnownBytes.{Appends, Consumes};
+ghost use Rattle.qoi.specs.Decoded.{HasDecoded};
+ghost use Rattle.qoi.specs.DecoderState.{DecoderState};
+ghost use Rattle.qoi.specs.EncoderState.{EncoderState};
+ghost use Rattle.qoi.specs.Errors.{IsIoError};
+ghost use Rattle.qoi.specs.Images.{front_image};
+ghost use Rattle.qoi.specs.Qoi.{Error};
+ghost use Rattle.qoi.specs.pieces.Copying.{BreaksRaw, BreaksInput};
+ghost use Rattle.qoi.specs.pieces.PixelReader.{pixels_left, HasGiven, IsSpent};
+ghost use Rattle.qoi.specs.pieces.PixelWriter.{raw_left, and_raw, HasTaken, HasFailed};
+
+use crate::copying::PIECE;
+use crate::decode::{PixelReader, Reader};
+use crate::encode::{PixelWriter, send_bytes};
+use crate::error::Result;
+use std::io::{Read, Write};
+
+impl<R: Reader> PixelReader<R> {
+    /// Writes all raw bytes that are left of the image to a writer, by an array of 4,096 bytes: it
+    /// allocates nothing. It doesn't flush.
+    ///
+    /// Refusals are those of `read`, behind which the writer has what was read before, and
+    /// `IoError` if the writer reports a fault or takes no byte.
+    ///
+    /// ```
+    /// let mut pixels = Decoder::from_buf_read(reader)?.into_pixels();
+    /// pixels.copy_raw_to(&mut writer)?;
+    /// ```
+    pub fn copy_raw_to<W: Write>(&mut self, out: &mut W) -> Result<()>
+        // A success: the reader gave the rest of the image, and the writer has it.
+        ensures copied { (d : DecoderState R) (start : Option (List ℕ)) (given : List ℕ)
+            → HasGiven d start (R.ahead self.old.reader) given self.old
+            → OnOk result ((rest : List ℕ)
+            × HasGiven d start (R.ahead self.new.reader) (given ++ rest) self.new
+            × Appends (W.contents out.old) (W.contents out.new) rest) }
+        // It is the image but for the bytes that were read before; the whole one, if none were.
+        ensures rest { (d : DecoderState R) (start : Option (List ℕ)) (bytes given : List ℕ)
+            → HasGiven d start (R.ahead self.old.reader) given self.old → start ≡ Some bytes
+            → OnOk result (Appends (W.contents out.old) (W.contents out.new)
+            (drop (length given) (front_image d.channels d.header bytes))) }
+        ensures image { (d : DecoderState R) (start : Option (List ℕ)) (bytes : List ℕ)
+            → HasGiven d start (R.ahead self.old.reader) [] self.old → start ≡ Some bytes
+            → OnOk result (Appends (W.contents out.old) (W.contents out.new)
+            (front_image d.channels d.header bytes)) }
+        // So the image was decoded, and the reader stands behind its end marker.
+        ensures decoded { (d : DecoderState R) (start : Option (List ℕ)) (given : List ℕ)
+            → HasGiven d start (R.ahead self.old.reader) given self.old → OnOk result
+            ((rest : List ℕ) × HasDecoded d start (R.ahead self.new.reader) (given ++ rest)) }
+        ensures all { OnOk result (pixels_left self.new ≡ 0) }
+
+        // The refusals: the image is refused, or the writer fails; an image that was refused before
+        // leaves all as it was.
+        ensures refused { (d : DecoderState R) (start : Option (List ℕ)) (given : List ℕ)
+            → HasGiven d start (R.ahead self.old.reader) given self.old
+            → IfErr result (BreaksRaw R.in_memory R.ahead d start given (W.contents out.old)
+            self.new (W.contents out.new)) }
+        ensures spent { IsSpent self.old → IsErrOf result Error.UnexpectedBufferEnd
+            × (self.new ≡ self.old) × (out.new ≡ out.old) }
+
+        // What stays: header and channels.
+        ensures unchanged { (self.new.header ≡ self.old.header)
+            × (self.new.channels ≡ self.old.channels) }
+    {
+        let mut buf = [0; PIECE];
+        while self.left() > 0 {
+            self.copy_raw_piece(out, &mut buf)?;
+        }
+        Ok(())
+    }
+
+    // Writes the next raw bytes, as many as `buf` has or as are left.
+    fn copy_raw_piece<W: Write>(&mut self, out: &mut W, buf: &mut [u8]) -> Result<()>
+        requires some { 0 < length buf.old }
+        requires more { 0 < pixels_left self.old }
+        ensures copied { (d : DecoderState R) (start : Option (List ℕ)) (given : List ℕ)
+            → HasGiven d start (R.ahead self.old.reader) given self.old
+            → OnOk result ((piece : List ℕ)
+            × HasGiven d start (R.ahead self.new.reader) (given ++ piece) self.new
+            × Appends (W.contents out.old) (W.contents out.new) piece) }
+        ensures less { OnOk result (pixels_left self.new < pixels_left self.old) }
+        ensures refused { (d : DecoderState R) (start : Option (List ℕ)) (given : List ℕ)
+            → HasGiven d start (R.ahead self.old.reader) given self.old
+            → IfErr result (BreaksRaw R.in_memory R.ahead d start given (W.contents out.old)
+            self.new (W.contents out.new)) }
+        ensures spent { IsSpent self.old → IsErrOf result Error.UnexpectedBufferEnd
+            × (self.new ≡ self.old) × (out.new ≡ out.old) }
+        ensures unchanged { (self.new.header ≡ self.old.header)
+            × (self.new.channels ≡ self.old.channels) }
+    {
+        let size = self.read(buf)?;
+        send_bytes(out, &buf[..size])
+    }
+}
+
+impl<W: Write + Drop> PixelWriter<W> {
+    /// Takes all raw bytes that are missing from a reader, by an array of 4,096 bytes, and no byte
+    /// more: it allocates nothing. It doesn't finish the writer.
+    ///
+    /// Refusals: `IoError` if the reader reports a fault or ends before, behind which the writer
+    /// has whole pieces of what was read; and `IoError` as in `write`.
+    ///
+    /// ```
+    /// let mut pixels = PixelWriter::new(alloc, header, Style::Reference, writer)?;
+    /// pixels.copy_raw_from(&mut reader)?;
+    /// let writer = pixels.finish()?;
+    /// ```
+    pub fn copy_raw_from<R: Read>(&mut self, input: &mut R) -> Result<()>
+        // A success: the bytes that the reader gave came, and none is missing.
+        ensures taken { (e : EncoderState) (before : Option (List ℕ))
+            → HasTaken W.contents e before self.old → OnOk result ((raw : List ℕ)
+            × Consumes (R.remaining input.old) (R.remaining input.new) raw
+            × HasTaken W.contents (and_raw e raw) before self.new) }
+        ensures all { OnOk result (raw_left self.new ≡ 0) }
+
+        // The refusals: the reader or the writer fails; a writer that failed before stays as it
+        // was.
+        ensures refused { (e : EncoderState) (before : Option (List ℕ))
+            → HasTaken W.contents e before self.old
+            → IfErr result (BreaksInput W.contents (R.remaining input.old)
+            (R.remaining input.new) e before self.new) }
+        ensures spent { (e : EncoderState) (before : Option (List ℕ))
+            → HasFailed W.contents e before self.old → IsErrAnd result IsIoError
+            × (self.new ≡ self.old) × (input.new ≡ input.old) }
+    {
+        self.check_room(0)?;
+        let mut buf = [0; PIECE];
+        while self.left() > 0 {
+            let size = self.left().min(PIECE);
+            self.take_raw_piece(input, &mut buf[..size])?;
+        }
+        Ok(())
+    }
+
+    // Takes as many raw bytes as `piece` has.
+    fn take_raw_piece<R: Read>(&mut self, input: &mut R, piece: &mut [u8]) -> Result<()>
+        requires { length piece.old ≤ raw_left self.old }
+        ensures taken { (e : EncoderState) (before : Option (List ℕ))
+            → HasTaken W.contents e before self.old → OnOk result
+            (Consumes (R.remaining input.old) (R.remaining input.new) piece.new
+            × HasTaken W.contents (and_raw e piece.new) before self.new) }
+        ensures left { OnOk result (raw_left self.new + length piece.old ≡ raw_left self.old) }
+        ensures refused { (e : EncoderState) (before : Option (List ℕ))
+            → HasTaken W.contents e before self.old
+            → IfErr result (BreaksInput W.contents (R.remaining input.old)
+            (R.remaining input.new) e before self.new) }
+    {
+        input.read_exact(piece)?;
+        self.write(piece)
+    }
+}
