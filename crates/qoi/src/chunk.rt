@@ -1,4 +1,6 @@
-//! The chunks of the format (QOI specification 1.0, "Chunks").
+//! The chunks of the format (QOI specification 1.0, "Chunks"). No decoder takes its chunks by
+//! `read_chunk`, which would cost a jump for each: it is for callers that look at a file's chunks
+//! (by `parts`) and for tests. Contracts speak of `Chunk`.
 ghost use Rattle.std.specs.Prelude.{◌≡◌, ℕ, List, ◌++◌, IfSome, IfNone, IsNone, IsSomeAnd};
 ghost use Rattle.qoi.specs.declared.chunk.Chunk.{Chunk};
 ghost use Rattle.qoi.specs.Qoi.{IsChunk, bytes_of};

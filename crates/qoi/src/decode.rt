@@ -7,6 +7,7 @@ ghost use Rattle.qoi.specs.Decoded.{HasHeader, HasRefusedHeader, HasDecoded, Has
 ghost use Rattle.qoi.specs.Reading.{IsCutAhead, IsWrongAhead, SaysWhy};
 ghost use Rattle.qoi.specs.Raw.{capped_byte_count, image_byte_count};
 ghost use Rattle.qoi.specs.Sent.{IsFileFor};
+ghost use Rattle.qoi.specs.inner.Chunks.{conversion_of};
 
 mod buffered;
 mod chunks;
@@ -28,6 +29,7 @@ mod table;
 pub use crate::decode::pixel_reader::PixelReader;
 pub use crate::decode::pixel_reader::mark::Mark;
 pub use crate::decode::pixel_reader::row_index::RowIndex;
+use crate::decode::reader::Conversion;
 pub use crate::decode::reader::{Buffered, Bytes, Reader};
 use crate::error::{Error, Result};
 use crate::header::Header;
@@ -280,6 +282,18 @@ impl<R: Reader> Decoder<R> {
     {
         self.channels = channels;
         self
+    }
+
+    // The channels of the output and of the file.
+    #[inline(always)]
+    fn conversion(&self) -> Conversion
+        ensures { result ≡ conversion_of self.now }
+    {
+        let chosen = self.channels;
+        Conversion {
+            channels: chosen,
+            file_channels: self.header.channels,
+        }
     }
 
     /// A second decoder with the same header and channels, whose reader is a clone of this one's

@@ -286,6 +286,9 @@ impl<'a> Encoder<'a> {
         if self.data.len() < LEAST_BLOCK {
             return encode_in_one_piece::<_, LEAST_ROOM>(&mut writer, self);
         }
+        // For buffers only: when vectors went this way too, and files of up to 512 bytes, neither
+        // `encode_in_one_piece` nor `fill_piece` was inlined, and 4 by 4 pixels took a quarter
+        // longer.
         if required <= TINY_ROOM - SPARE {
             return encode_in_one_piece::<_, TINY_ROOM>(&mut writer, self);
         }

@@ -18,7 +18,8 @@ use crate::error::Result;
 /// By how many pixels a vector grows, before they are decoded: few enough to stay in the cache.
 const GROWTH: usize = 16384;
 
-/// What takes chunks, in `N` channels of output, from a file of `F` channels.
+/// What takes chunks, in `N` channels of output, from a file of `F` channels; in three of output
+/// `F` is 3 for any file (`in_channels` of `reader`).
 pub(super) trait Chunks<const N: usize, const F: usize>: Sized {
     /// The bytes that stand ahead, if the reader's contract states them.
     ghost ahead: { Self → Option (List ℕ) };
@@ -51,10 +52,9 @@ pub(super) trait Chunks<const N: usize, const F: usize>: Sized {
         ensures refused { IfErr result (RefusesRest F N in_memory
             (ahead self.old) (ahead self.new) (filling table.old from out.old)) };
 
-    /// Decodes chunks that stand in memory into a piece of an image, after what others reached, and
-    /// goes on near its end: a run that goes on past it is taken. Returns what it reached, and how
-    /// many bytes of that run are still to be given. By default, and so from a stream, none are
-    /// decoded.
+    /// Decodes chunks that stand in memory into a piece of an image, `out`, as `take_in_place` (of
+    /// `in_place`) does. Returns what was reached, and how many bytes of a run come behind it. By
+    /// default, and so from a stream, no chunk is decoded.
     fn chunks_in_place(
         &mut self,
         table: &mut TermTable,

@@ -36,9 +36,10 @@ macro_rules! step {
     };
 }
 
-// What first bytes add. The chunk of an index position adds nothing: it stands for the pixel there,
-// which is black and transparent at first. A difference adds two less than its bits say, modulo 256,
-// and a luma to red and blue eight less than to green, which gets 32 less than its bits say.
+// What a chunk adds to the last pixel, by its first byte. A difference adds two less than its bits
+// say, and a luma 32 less to green, and to red and blue eight less than to green, all modulo 256.
+// Runs, RGB and RGBA add nothing. An index position has 0, too: the number of transparent black,
+// which the table of a decoder, made of these, has there at first.
 macro_rules! added_table {
     ($($b:literal)*) => {
         [$(
@@ -79,7 +80,7 @@ macro_rules! byte_tables {
             $(step!($b / 16, 0, $b % 16),)*
             // What a first byte keeps of the last pixel's number: for an RGB chunk alpha alone.
             $(if $b < 64 || $b == 255 { 0 } else if $b == 254 { 0xff << 48 } else { KEEP },)*
-            // What counts of what is read after it: of an RGB chunk three lanes of 16 bits.
+            // Which bits count of what is read after it: of an RGB chunk three lanes of 16 bits.
             $(if $b / 64 == 2 || $b == 255 { ALL } else if $b == 254 { ALL >> 16 } else { 0 },)*
             // How many bytes the chunk's pixels have in three channels, and in four.
             $(3 * count!($b),)*
@@ -139,8 +140,9 @@ pub(super) fn kept_by(b1: usize) -> u64
     BYTE_TABLES[256 + b1]
 }
 
-/// What counts of what is read after the first byte: of a luma the number that the second byte
-/// adds, of an RGB or RGBA chunk four bytes in lanes of 16 bits.
+/// Which bits count of the number that is read after the first byte: for a luma all of what its
+/// second byte adds, for an RGBA chunk all of its four bytes in lanes of 16 bits, for an RGB chunk
+/// three of these lanes, and else none.
 #[inline(always)]
 pub(super) fn read_by(b1: usize) -> u64
     requires { b1 < 256 }

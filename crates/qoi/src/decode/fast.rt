@@ -19,12 +19,12 @@ pub(super) const INPUT_ROOM: usize = 22;
 /// Bytes of room for the vectors of eight short chunks and of a full one.
 pub(super) const OUTPUT_ROOM: usize = 144;
 
-/// An output of fewer bytes that isn't the end of an image is short: in memory, to enter the fast
-/// loop for its chunks would take longer than to decode them with every test.
+/// An output of fewer bytes that isn't the end of an image is short: in memory, to enter
+/// `fast_loop` for its chunks would take longer than to decode them with every test.
 pub(super) const SHORT_OUTPUT: usize = 528;
 
-/// What the loop has between two chunks, in `N` channels of output, of a file of `F` channels: the
-/// last pixel, how many bytes are taken, where the output stopped, and the byte that comes next.
+/// What `fast_loop` has between two chunks, in `N` channels of output, of a file of `F` channels:
+/// the last pixel, how many bytes are taken, where the output stopped, and the next byte.
 #[derive(Clone, Copy)]
 pub(super) struct Progress<const N: usize, const F: usize> {
     pub(super) last: Hashed,
@@ -85,9 +85,9 @@ impl<const N: usize, const F: usize> Progress<N, F> {
     // Decodes a short chunk, without a jump. Its vector of output is written whole, and what goes
     // past its pixels is written again later.
     //
-    // `taken` doesn't count the first bytes of the `DONE` chunks before it nor, after the call, its
-    // own: `short_chunks` adds them. So from chunk to chunk only the second byte of a luma is
-    // added, and the next byte's address is known a cycle sooner.
+    // `short_chunks` decoded `DONE` others before it. Their first bytes aren't counted in `taken`
+    // nor, after the call, its own: `short_chunks` adds them at last. So from chunk to chunk only
+    // the second byte of a luma is added, and the next byte's address is known a cycle sooner.
     #[inline(always)]
     fn short_chunk<const DONE: usize>(
         self,
@@ -116,17 +116,18 @@ impl<const N: usize, const F: usize> Progress<N, F> {
         }
     }
 
-    // Decodes short chunks, as many as come one after the other, but `MOST` at most: one or four.
+    // Decodes short chunks that follow each other, `AT_ONCE` at most: one or four. `short_series`
+    // has all of them that `fast_loop` tests room for.
     #[inline(always)]
-    fn short_chunks<const MOST: usize>(
+    fn short_chunks<const AT_ONCE: usize>(
         self,
         table: &mut TermTable,
         bytes: &[u8],
         out: &mut [u8],
     ) -> Self
-        requires most { (MOST ≡ 1) ⊎ (MOST ≡ 4) }
-        requires ahead { HasAhead 9 (16 * MOST) bytes.now out.old self }
-        ensures step { FastStep 0 8 (16 * MOST) bytes.now
+        requires most { (AT_ONCE ≡ 1) ⊎ (AT_ONCE ≡ 4) }
+        requires ahead { HasAhead 9 (16 * AT_ONCE) bytes.now out.old self }
+        ensures step { FastStep 0 8 (16 * AT_ONCE) bytes.now
             self.entry table.old out.old result table.new out.new }
         ensures some { result.next ≤ run_tag - 1 + 16 / N → self.entry.taken < result.taken }
     {
@@ -134,7 +135,7 @@ impl<const N: usize, const F: usize> Progress<N, F> {
             return self;
         }
         let one = self.short_chunk::<0>(table, bytes, out);
-        if MOST == 1 || !is_short::<N>(one.next) {
+        if AT_ONCE == 1 || !is_short::<N>(one.next) {
             return one.taken_further(1);
         }
         let two = one.short_chunk::<1>(table, bytes, out);
@@ -148,7 +149,8 @@ impl<const N: usize, const F: usize> Progress<N, F> {
         three.short_chunk::<3>(table, bytes, out).taken_further(4)
     }
 
-    // Decodes short chunks that follow each other, `AT_ONCE` at most: one or eight.
+    // Decodes short chunks that follow each other, `AT_ONCE` at most: one or, as twice four by
+    // `short_chunks`, eight.
     #[inline(always)]
     fn short_series<const AT_ONCE: usize>(
         self,
@@ -225,7 +227,7 @@ impl<const N: usize, const F: usize> Progress<N, F> {
     /// Decodes chunks while input and output have room ahead for `AT_ONCE` short ones and a full
     /// one, up to a run that has none.
     #[inline(always)]
-    pub(super) fn chunks_until<const AT_ONCE: usize>(
+    pub(super) fn fast_loop<const AT_ONCE: usize>(
         self,
         table: &mut TermTable,
         bytes: &[u8],
@@ -235,9 +237,9 @@ impl<const N: usize, const F: usize> Progress<N, F> {
         ensures { FastChunks bytes.now self.entry table.old out.old result table.new out.new }
     {
         let mut now = self.by_fields();
-        let near = bytes.len() - INPUT_ROOM;
+        let far = bytes.len() - INPUT_ROOM;
         let top = out.len() - (VECTOR * AT_ONCE + VECTOR);
-        while now.taken <= near && now.at <= top {
+        while now.taken <= far && now.at <= top {
             now = now.short_series::<AT_ONCE>(table, bytes, out);
             if is_short::<N>(now.next) {
                 continue;

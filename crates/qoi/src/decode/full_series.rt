@@ -105,11 +105,14 @@ pub(super) fn take_full_series<const N: usize, const F: usize>(
     requires { CanLoop 8 11 bytes.now out.old from }
     ensures { FastChunks bytes.now from.entry table.old out.old result table.new out.new }
 {
-    let at = from.taken;
-    if from.next == QOI_OP_RGB && bytes[at + 4] == QOI_OP_RGB && bytes[at + 8] == QOI_OP_RGB {
+    let taken = from.taken;
+    if from.next == QOI_OP_RGB && bytes[taken + 4] == QOI_OP_RGB && bytes[taken + 8] == QOI_OP_RGB {
         return series_of::<N, F, 0xfe>(from, table, bytes, out);
     }
-    if from.next == QOI_OP_RGBA && bytes[at + 5] == QOI_OP_RGBA && bytes[at + 10] == QOI_OP_RGBA {
+    if from.next == QOI_OP_RGBA
+        && bytes[taken + 5] == QOI_OP_RGBA
+        && bytes[taken + 10] == QOI_OP_RGBA
+    {
         return series_of::<N, F, 0xff>(from, table, bytes, out);
     }
     from

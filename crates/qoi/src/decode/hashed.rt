@@ -70,8 +70,8 @@ impl Hashed {
         requires { IsPlain lanes }
         ensures { pixel_of_lanes result ≡ pixel_of_lanes lanes }
     {
-        let place = lanes.wrapping_mul(LANES_FACTOR) >> 56;
-        Hashed((place << 56) + lanes)
+        let hash = lanes.wrapping_mul(LANES_FACTOR) >> 56;
+        Hashed((hash << 56) + lanes)
     }
 
     /// A pixel of four channels.

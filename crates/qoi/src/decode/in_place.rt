@@ -1,4 +1,4 @@
-//! A piece of an image that is decoded in place: by the fast loop (`chunks_ahead` of `stretches`),
+//! A piece of an image that is decoded in place: by `fast_loop` (`chunks_ahead` of `stretches`),
 //! near its end with room for one short chunk and a full one, up to a run that goes on past it.
 ghost use Rattle.std.specs.Prelude.{◌≡◌, ◌↔◌, IsTrue, false, ◌-◌, ◌*◌, ◌<◌, ◌≤◌, length, drop, Some};
 ghost use Rattle.qoi.specs.Qoi.{run_tag, rgb_tag};
@@ -57,10 +57,10 @@ fn last_run<const N: usize, const F: usize>(
     (now, advance::<N>(b1 as usize) - rest)
 }
 
-/// Decodes chunks from the front of the bytes into a piece of an image, after what others reached,
-/// and goes on near its end: a run that goes on past it is taken. Leaves less than 32 bytes of the
-/// piece, unless a run fills them or the bytes end. Returns what it reached, and how many bytes of
-/// that run are still to be given.
+/// Decodes chunks from the front of the bytes into a piece of an image, `out`, after what others
+/// reached: until less than 32 bytes of the piece are open, or the bytes end; but a run to the
+/// piece's end, or past it, is taken and fills it. Returns what was reached, and how many bytes of
+/// that run come after the piece.
 #[inline(always)]
 pub(super) fn take_in_place<const N: usize, const F: usize>(
     table: &mut TermTable,

@@ -7,11 +7,10 @@ ghost use Rattle.std.specs.Vec.{vec_len, vec_capacity};
 ghost use Rattle.qoi.specs.Qoi.{Error, channels_number};
 ghost use Rattle.qoi.specs.Raw.{AreChannels};
 ghost use Rattle.qoi.specs.Decoding.{ReadsImage, ReadsHeader, RefusesImage};
-ghost use Rattle.qoi.specs.inner.Chunks.{conversion_of, ReadsIn};
+ghost use Rattle.qoi.specs.inner.Chunks.{ReadsIn};
 ghost use Rattle.qoi.specs.pieces.Unread.{kept_count, Asks, Steps};
 
 use crate::consts::QOI_HEADER_SIZE;
-use crate::decode::Decoder;
 use crate::decode::chunks::{image_to_buf, image_to_vec};
 use crate::decode::pixel_reader::unread::{PieceResult, Unread};
 use crate::decode::slice::slice_image;
@@ -22,8 +21,9 @@ use crate::types::Channels;
 use std::io::{BufRead, Read};
 use std::marker::Model;
 
-// Calls a function of a kind of reader for the channels of output and file, which are constants of its
-// loops. Three channels don't show what the fourth is.
+// Calls a function of a kind of reader for the channels of output and file, `N` and `F`, which are
+// constants of its loops. For output of three channels `F` is 3 even for an RGBA file: no alpha is
+// written.
 macro_rules! in_channels {
     ($conversion:expr, $($name:ident)::+[$($reader:ty)?]($($arg:expr),*)) => {
         match ($conversion.channels, $conversion.file_channels) {
@@ -40,19 +40,6 @@ macro_rules! in_channels {
 pub struct Conversion {
     pub(super) channels: Channels,
     pub(super) file_channels: Channels,
-}
-
-impl<R> Decoder<R> {
-    /// The channels of the output and of the file.
-    #[inline(always)]
-    pub(super) fn conversion(&self) -> Conversion
-        ensures { result ≡ conversion_of self.now }
-    {
-        Conversion {
-            channels: self.channels,
-            file_channels: self.header.channels,
-        }
-    }
 }
 
 /// Where a decoder takes its bytes from: `Bytes`, any `R: Read`, or a `Buffered` reader. No other type

@@ -19,8 +19,8 @@ use crate::decode::table::{SizedTerms, SmallTermTable, TermTable};
 use crate::error::{Error, Result};
 use std::simd::prelude::*;
 
-// A whole image of fewer bytes is decoded chunk by chunk, with every test: to fill the fast loop's
-// table of 256 numbers would take longer.
+// A whole image of fewer bytes is decoded chunk by chunk, with every test: to fill the
+// table of 256 numbers that `fast_loop` takes would take longer.
 const SMALL_IMAGE: usize = 160;
 
 // What is left between two chunks: what they reached, and the bytes ahead.
@@ -30,10 +30,10 @@ struct Left<'a> {
     rest: &'a [u8],
 }
 
-// Decodes chunks one by one, with every test, after what others reached: if `RUN_FITS`, where the
-// image goes on behind `out`, as long as any run's vectors have room there, else until it is full.
-// `None` if fewer than eight bytes are left before that: the file is cut, since its end marker
-// alone has eight.
+// Decodes chunks one by one, with every test, after what others reached. If `RUN_FITS`, the image
+// goes on behind `out`, and this stops once `out` has no room for any run's vectors (`RUN_ROOM`);
+// else once `out` is full. `None` if fewer than eight bytes of the file are left before it stops:
+// the file is cut, since its end marker alone has eight.
 #[inline(never)]
 fn careful_chunks<'a, const N: usize, const F: usize, const RUN_FITS: bool, const SIZE: usize>(
     table: &mut SizedTerms<SIZE>,
@@ -80,6 +80,7 @@ fn slice_chunks<'a, const N: usize, const F: usize, const RUN_FITS: bool>(
         (Some «data».entry.now) (Some «data».entry.now)
         (filling table.old from out.old) Error.UnexpectedBufferEnd) }
 {
+    // Where the image goes on behind `out`, a short output is left (`LEAVES_SHORT`).
     let now = fast_chunks::<N, F, RUN_FITS>(table, from, data, out);
     let (_, rest) = data.split_at(now.taken);
     careful_chunks::<N, F, RUN_FITS, _>(table, now.reached, rest, out)

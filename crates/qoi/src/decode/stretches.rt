@@ -1,6 +1,6 @@
 //! Chunks in memory while input and output have room ahead, from any pixel on: in stretches, after
-//! each of which a series of RGB or of RGBA chunks is looked for (`full_series`): so it costs the
-//! fast loop no test a chunk. `AT_ONCE` is for how many short chunks room is tested at once.
+//! each of which a series of RGB or of RGBA chunks is looked for (`full_series`): so it costs
+//! `fast_loop` no test a chunk. `AT_ONCE` is for how many short chunks room is tested at once.
 ghost use Rattle.std.specs.Prelude.{◌≡◌, ◌⊎◌, ◌+◌, ◌*◌, ◌<◌, ◌≤◌, length, drop, Some, true};
 ghost use Rattle.qoi.specs.inner.Filling.{INPUT_ROOM, IsFillable, filling, CanLoop, FastChunks};
 ghost use Rattle.qoi.specs.inner.Chunks.{TakesMore};
@@ -22,7 +22,7 @@ const LONG_SERIES: usize = 32;
 const SHORT_STRETCH: usize = 8;
 
 // `chunks_ahead` from a state of the loop: in stretches, and in series of full chunks, if
-// `AT_ONCE` is 8, else by `chunks_until`. States are copied `by_fields`: a load of sixteen
+// `AT_ONCE` is 8, else by `fast_loop`. States are copied `by_fields`: a load of sixteen
 // bytes would wait until the two numbers in them, just stored, are in the cache.
 #[inline(always)]
 fn chunks_by_stretches<const N: usize, const F: usize, const AT_ONCE: usize>(
@@ -35,13 +35,13 @@ fn chunks_by_stretches<const N: usize, const F: usize, const AT_ONCE: usize>(
     ensures { FastChunks bytes.now from.entry table.old out.old result table.new out.new }
 {
     if AT_ONCE == 1 {
-        return from.chunks_until::<1>(table, bytes, out);
+        return from.fast_loop::<1>(table, bytes, out);
     }
     let mut now = from.by_fields();
     let far = bytes.len() - INPUT_ROOM;
     let mut near = far.min(now.taken + FIRST_STRETCH);
     while now.taken <= far {
-        let stretch = now.chunks_until::<8>(table, &bytes[..near + INPUT_ROOM], out);
+        let stretch = now.fast_loop::<8>(table, &bytes[..near + INPUT_ROOM], out);
         // Before the stretch's end: the output has no room for what comes, or the input ends.
         if stretch.taken <= near || far < stretch.taken {
             return stretch.by_fields();
@@ -102,13 +102,13 @@ pub(super) fn fast_chunks<const N: usize, const F: usize, const LEAVES_SHORT: bo
         (filling table.old from out.old) (filling table.new result.reached out.new) }
     ensures within { result.taken ≤ length bytes.now }
 {
-    let none = Decoded {
+    let start = Decoded {
         taken: 0,
         reached: from,
     };
-    let is_short = out.len() < OUTPUT_ROOM || LEAVES_SHORT && out.len() < SHORT_OUTPUT;
-    if is_short || bytes.len() < INPUT_ROOM {
-        return none;
+    let has_no_room = out.len() < OUTPUT_ROOM || LEAVES_SHORT && out.len() < SHORT_OUTPUT;
+    if has_no_room || bytes.len() < INPUT_ROOM {
+        return start;
     }
-    chunks_ahead::<N, F, 8>(table, none, bytes, out)
+    chunks_ahead::<N, F, 8>(table, start, bytes, out)
 }

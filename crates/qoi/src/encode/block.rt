@@ -199,6 +199,8 @@ pub(super) fn write_in_lanes<
     let style = style_in::<STYLE>(block.style);
     let Piece { bytes, end } = piece.piece;
     let indices = index_positions(block.planes);
+    // The run's byte is stored between the two others, so that index positions are read from memory
+    // (`store_indices`).
     store_indices::<ROOM, ALL_RGBA>(indices, bytes);
     carry.store_run(style, bytes, end);
     let lanes = indices.to_array();

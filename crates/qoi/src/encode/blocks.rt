@@ -20,9 +20,9 @@ use crate::encode::table::PixelTable;
 use crate::packed::Packed;
 use crate::types::Style::{self, Places, Reference, Tight};
 
-/// Whether the front goes by blocks: once a fresh pixel came or, except in style `Tight`, if no
-/// repeats wait and the next pixel is fresh; but not if over `FRONT_CARRIED` repeats wait and
-/// another follows.
+/// Whether the front goes by blocks, for which both must hold:
+/// - a fresh pixel came or, except in style `Tight`, no repeats wait and the next pixel is fresh;
+/// - at most `FRONT_CARRIED` repeats wait, or the next pixel is fresh.
 #[inline(always)]
 pub(super) fn goes_by_blocks<const N: usize>(style: Style, last: LastPixel, raw: Pixels<N>) -> bool
     requires some { 16 ≤ length (pixels_in raw) }
@@ -30,8 +30,8 @@ pub(super) fn goes_by_blocks<const N: usize>(style: Style, last: LastPixel, raw:
     ensures { IsTrue result
         → GoesByBlocks style last (length (pixels_in raw.entry)) (pixels_in raw.entry) }
 {
-    // In `Tight`, `write_front_block` may make a coder even of the first block's carry
-    // (`coder_after`), as after a fresh pixel.
+    // Not in `Tight`: there `write_front_block` may make a coder of even the first block's carry,
+    // and `coder_after` makes it as one after a fresh pixel.
     let may_open = match style {
         Reference | Places => last.repeats == 0,
         Tight => false,
@@ -124,10 +124,15 @@ fn write_full_runs<'a, 'p, const N: usize, const ROOM: usize>(
     (raw.skip(ahead), after, piece)
 }
 
-// Writes what is at the front: a block, but for the repeats at its end, from one fresh pixel to the
-// next if few are fresh; if all repeat, the full runs of the repeats there, if any; or repeats and
-// the fresh pixel after them, if in style `Tight` a pixel may be given by another index position
-// than its own. Returns the rest, and what is carried.
+// Writes what is at the front, in one of four ways:
+// - if the block repeats whole, the full runs of the repeats there, if any (`write_full_runs`);
+// - if few of its pixels are fresh, the block, from one of these to the next;
+// - if in style `Tight` a pixel may be given by another index position than its own, repeats and
+//   the fresh pixel after them;
+// - else the block, in lanes.
+//
+// The repeats at the end of what it wrote are carried. Returns the rest, what is carried, and the
+// piece.
 #[inline(always)]
 fn write_front_block<
     'a,

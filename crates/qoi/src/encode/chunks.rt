@@ -19,9 +19,9 @@ use crate::types::Channels::{self, Rgb, Rgba};
 use crate::types::Style::{self, Places, Reference, Tight};
 use crate::writers::Writer;
 
-/// What is known between two calls: the table, channels and style of the image, and its last pixel,
-/// with the repeats that wait and whether a fresh one came. Channels and style stand between table
-/// and pixel, since the zeros of both at the start would be cleared by a call.
+/// What is known of an image between two calls: the table, channels and style, and the last pixel,
+/// with the repeats of it that wait. Channels and style stand between table and last pixel: if
+/// these stood side by side, the zeros that both begin with would be cleared by a call.
 #[derive(Drop)]
 pub(super) struct Pending {
     pub(super) table: PixelTable,
@@ -99,8 +99,8 @@ fn fill_with_blocks<
     write_blocks::<N, STYLE, ROOM, ALL_RGBA>(&mut pending.last, &mut pending.table, piece, front)
 }
 
-// `fill_piece` in `N` channels. A copy of the last pixel would wait until its parts, just stored,
-// are in the cache.
+// `fill_piece` in `N` channels. The loops are lent the last pixel (`&mut`): a copy of it would wait
+// until its parts, just stored, are in the cache.
 #[inline(always)]
 fn fill_in_channels<'a, 'p, const N: usize, const ROOM: usize>(
     pending: &mut Pending,
@@ -131,9 +131,10 @@ fn fill_in_channels<'a, 'p, const N: usize, const ROOM: usize>(
     fill_with_blocks::<N, 0, ROOM, false>(pending, piece, front.raw)
 }
 
-// Writes some whole pixels, a block or more, into the piece: blocks, until it is full or fewer
-// pixels than a block has are left; or the repeats and the fresh pixel at the front. Returns the
-// piece, and the rest. Which way is asked only here, so mostly once a piece.
+// Writes the front of whole pixels, which are a block or more, into the piece: by blocks, until it
+// is full or fewer pixels than a block has are left (`fill_with_blocks`); or only the repeats and the
+// fresh pixel at the front (`fill_with_opening`). Returns the piece, and the rest. Which of the two is
+// asked only here, so mostly once a piece.
 #[inline(always)]
 fn fill_piece<'a, 'p, const ROOM: usize>(
     pending: &mut Pending,
@@ -150,8 +151,8 @@ fn fill_piece<'a, 'p, const ROOM: usize>(
     }
 }
 
-/// Writes whole pixels through the piece, which the writer is sent each time it is full (and else
-/// not), but for fewer than a block has at their end. Returns those, and the piece.
+/// Writes whole pixels into the piece, and sends it to the writer each time it is full, and only
+/// then. Fewer pixels than a block has are left at their end. Returns those, and the piece.
 pub(super) fn write_pixels<'a, 'p, W: Writer, const ROOM: usize>(
     writer: &mut W,
     pending: &mut Pending,
@@ -219,8 +220,8 @@ pub(super) fn write_last_pixels<const ROOM: usize>(
     }
 }
 
-/// Writes the file of an image, and returns how many bytes it has. They go through a piece with
-/// this room, which the writer is sent each time it is full.
+/// Writes the file of an image, and returns how many bytes it has. These go through a piece in a
+/// room of `ROOM` bytes: it is sent to the writer each time it is full, and at last.
 pub(super) fn encode_file<W: Writer, const ROOM: usize>(
     writer: &mut W,
     encoder: &Encoder,

@@ -27,11 +27,14 @@ pub(super) fn style_in<const STYLE: u8>(told: Style) -> Style
     if STYLE == 0 { Reference } else { told }
 }
 
-/// The last pixel that was written or repeated, `px`; `repeats`, how many repeats of it came that
-/// aren't written yet: fewer than a full run has; `begun`, whether a fresh pixel came, one that
-/// differs from the pixel before it; and `placed`, in style `Places` whether the chunk before those
-/// repeats names `px`'s index position. The count stands first: else the zeros of the start are
-/// stored in other widths than they are read in, which is slower.
+/// What a coder has after some pixels:
+/// - `px`, the last one, written or a repeat;
+/// - `repeats`, how many repeats of it aren't written yet: fewer than a full run has;
+/// - `begun`, whether a fresh pixel came, one that differs from the pixel before it;
+/// - `placed`, in style `Places` whether the chunk before those repeats names `px`'s position.
+///
+/// `repeats` stands first: else the zeros of the start are stored in other widths than they are
+/// read in, which is slower.
 #[derive(Clone, Copy)]
 pub(super) struct LastPixel {
     pub(super) repeats: usize,
@@ -287,8 +290,8 @@ impl<const N: usize> Coder<N> {
         ensures written { CoderPasses self.old table.old piece.old (pixels_in raw.entry)
             self.new table.new piece.new (pixels_in result) }
     {
-        let count = self.write_runs(table, piece, raw);
-        let after = raw.skip(count);
+        let ahead = self.write_runs(table, piece, raw);
+        let after = raw.skip(ahead);
         if after.is_empty() || after.begin_with(self.last.px) {
             return after;
         }

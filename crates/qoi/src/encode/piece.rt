@@ -237,15 +237,15 @@ pub(crate) fn store_chunk<const N: usize>(
 {
     if N == 4 {
         // All four bytes, of which alpha stays: no shift is needed.
-        store_four(out, at + 1, px);
+        store_number(out, at + 1, px);
     }
-    store_four(out, at, number);
+    store_number(out, at, number);
     at + size as usize
 }
 
 // Stores the bytes of a number, the lowest first.
 #[inline(always)]
-fn store_four(out: &mut [u8], at: usize, number: u32)
+fn store_number(out: &mut [u8], at: usize, number: u32)
     requires { at + 4 ≤ length out.old }
     ensures { out.new ≡ take at out.old ++ (digits_l 256 4 number ++ drop (at + 4) out.old) }
 {

@@ -18,9 +18,10 @@ fn are_two_at_most(marks: u64) -> bool {
     others & others.wrapping_sub(1) == 0
 }
 
-/// Whether a block with these marks goes pixel by pixel: if at most two are fresh. Not in three
-/// channels, where photographs take longer for it; nor the first block that a loop meets, before
-/// which there may be no fresh one.
+/// Whether a block with these marks goes from one fresh pixel to the next: if at most two are
+/// fresh, and the carried repeats and those at its front surely fit into one run. Not in three
+/// channels, where photographs take longer for it; nor the first block of a loop, before which
+/// maybe no fresh pixel came.
 #[inline(always)]
 pub(super) fn goes_by_marks<const N: usize>(
     marks: u64,

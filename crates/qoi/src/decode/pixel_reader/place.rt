@@ -49,7 +49,7 @@ impl Model for Place {
     ghost invariant = { λ p. (length p.table ≡ 64) × (p.run < p.left) × (p.run ≤ run_max) };
 }
 
-// The pixel of a number.
+// The pixel of such a number, without its index position.
 fn packed(px: Hashed) -> Packed
     ensures { result ≡ pixel_of_lanes px }
 {
@@ -57,7 +57,7 @@ fn packed(px: Hashed) -> Packed
     Packed::new(bytes[0], bytes[1], bytes[2], bytes[3])
 }
 
-// The number of a pixel.
+// The number of a pixel, with its index position.
 fn hashed(px: Packed) -> Hashed
     ensures { pixel_of_lanes result ≡ px }
 {
@@ -99,18 +99,18 @@ pub(super) fn size_in(channels: Channels, pixels: usize) -> usize
 
 impl Place {
     /// The place behind what a reader of the file keeps, which isn't the end of the image.
-    pub(super) fn of(file: &[u8], pixels: &PixelReader<Bytes<'_>>) -> Place
-        requires going { pixels.now.refused ≡ false }
-        requires some { 0 < pixels.now.unread.undecoded }
-        ensures { IsPlaceOf file.now pixels.now result }
+    pub(super) fn of(file: &[u8], reader: &PixelReader<Bytes<'_>>) -> Place
+        requires going { reader.now.refused ≡ false }
+        requires some { 0 < reader.now.unread.undecoded }
+        ensures { IsPlaceOf file.now reader.now result }
     {
-        let channels = pixels.decoder.channels.as_u8() as usize;
+        let channels = reader.decoder.channels.as_u8() as usize;
         Place {
-            table: pixels_of(&pixels.unread.table),
-            last: packed(pixels.unread.last),
-            at: file.len().saturating_sub(pixels.decoder.reader.0.len()),
-            left: pixels.unread.undecoded / channels,
-            run: pixels.unread.run / channels,
+            table: pixels_of(&reader.unread.table),
+            last: packed(reader.unread.last),
+            at: file.len().saturating_sub(reader.decoder.reader.0.len()),
+            left: reader.unread.undecoded / channels,
+            run: reader.unread.run / channels,
         }
     }
 

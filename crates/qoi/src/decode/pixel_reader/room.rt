@@ -19,8 +19,9 @@ pub(super) const DECODED_AHEAD: usize = 3072;
 /// A piece of at least so many bytes is decoded in place.
 pub(super) const IN_PLACE: usize = 512;
 
-/// Room to decode into for a piece of `size` bytes, so many of them done, if more is left of the
-/// image: all that can be kept or, if some are done, what the piece lacks and what a run may take.
+/// How many bytes to decode ahead, if as many are left of the image, for a piece of `size` bytes of
+/// which the first `done` are decoded: all that can be kept if none are, else those that the piece
+/// lacks and room for a run.
 #[inline]
 pub(super) fn kept_room(size: usize, done: usize) -> usize
     requires within { done ≤ size }

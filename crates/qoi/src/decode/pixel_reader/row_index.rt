@@ -52,8 +52,8 @@ impl Model for RowIndex {
     ghost invariant = { λ i. 0 < i.every };
 }
 
-// How many pixels of an image are to come before a row, none from the last on.
-fn pixels_behind(header: &Header, row: u32) -> usize
+// How many pixels an image has from this row on; none from its height on.
+fn pixels_from(header: &Header, row: u32) -> usize
     requires { IsValid header.now }
     ensures behind { result ≡ header.now.width * (header.now.height - row) }
     ensures most { result ≤ pixel_count header.now }
@@ -61,46 +61,47 @@ fn pixels_behind(header: &Header, row: u32) -> usize
     header.width as usize * header.height.saturating_sub(row) as usize
 }
 
-// How many raw bytes those are.
-fn bytes_behind(header: &Header, channels: Channels, row: u32) -> usize
+// How many raw bytes `pixels_from` this row are, in these channels.
+fn bytes_from(header: &Header, channels: Channels, row: u32) -> usize
     requires { IsValid header.now }
     ensures { result
         ≡ header.now.width * (header.now.height - row) * channels_number channels }
 {
-    size_in(channels, pixels_behind(header, row))
+    size_in(channels, pixels_from(header, row))
 }
 
 // Reads raw bytes of a file's image until no more than so many are unread.
-fn skip_to(pixels: &mut PixelReader<Bytes<'_>>, left: usize) -> Result<()>
+fn skip_to(reader: &mut PixelReader<Bytes<'_>>, bytes_left: usize) -> Result<()>
     ensures file { (channels : Channels) (h : Header) (file : List ℕ)
-        → ReadsFile channels h file pixels.old
-        → OnOk result (ReadsFile channels h file pixels.new) }
-    ensures left { OnOk result (pixels_left pixels.new ≡ min left (pixels_left pixels.old)) }
+        → ReadsFile channels h file reader.old
+        → OnOk result (ReadsFile channels h file reader.new) }
+    ensures left { OnOk result
+        (pixels_left reader.new ≡ min bytes_left (pixels_left reader.old)) }
     ensures refused { (channels : Channels) (h : Header) (file : List ℕ)
-        → ReadsFile channels h file pixels.old → IfErr result (HasRefusedFile file) }
+        → ReadsFile channels h file reader.old → IfErr result (HasRefusedFile file) }
     ensures accepts { (channels : Channels) (h : Header) (file : List ℕ)
-        → ReadsFile channels h file pixels.old → StandsAhead h (drop header_size file)
+        → ReadsFile channels h file reader.old → StandsAhead h (drop header_size file)
         → IsOk result }
 {
     let mut buf = [0; SKIPPED];
-    while pixels.left() > left {
-        let size = buf.len().min(pixels.left() - left);
-        pixels.read(&mut buf[..size])?;
+    while reader.left() > bytes_left {
+        let size = buf.len().min(reader.left() - bytes_left);
+        reader.read(&mut buf[..size])?;
     }
     Ok(())
 }
 
 // Keeps the place of a reader, unless the image ends there.
-fn keep_place(places: &mut Vec<Place>, file: &[u8], pixels: &PixelReader<Bytes<'_>>) -> Result<()>
-    requires { pixels.now.refused ≡ false }
-    ensures places { (channels : Channels) (h : Header) → ReadsFile channels h file.now pixels.now
+fn keep_place(places: &mut Vec<Place>, file: &[u8], reader: &PixelReader<Bytes<'_>>) -> Result<()>
+    requires { reader.now.refused ≡ false }
+    ensures places { (channels : Channels) (h : Header) → ReadsFile channels h file.now reader.now
         → ArePlaces (pixel_count h) file.now places.old.items
         → OnOk result (ArePlaces (pixel_count h) file.now places.new.items) }
     ensures few { OnOk result (length places.new.items ≤ length places.old.items + 1) }
     ensures refused { IfErr result (λ e. e ≡ Error.OutOfMemory) }
 {
-    if pixels.unread.undecoded > 0 {
-        places.push(Place::of(file, pixels))?;
+    if reader.unread.undecoded > 0 {
+        places.push(Place::of(file, reader))?;
     }
     Ok(())
 }
@@ -131,13 +132,13 @@ impl RowIndex {
         let count = header.height.saturating_sub(1) / every;
         let mut places = Vec::with_capacity(alloc, count as usize)?;
         let decoder = Decoder::new(file)?;
-        let mut pixels = decoder.into_pixels();
+        let mut reader = decoder.into_pixels();
         for k in 0..count {
             let row = every.saturating_mul(k + 1);
-            skip_to(&mut pixels, bytes_behind(&header, header.channels, row))?;
-            keep_place(&mut places, file, &pixels)?;
+            skip_to(&mut reader, bytes_from(&header, header.channels, row))?;
+            keep_place(&mut places, file, &reader)?;
         }
-        skip_to(&mut pixels, 0)?;
+        skip_to(&mut reader, 0)?;
         Ok(RowIndex { every, places })
     }
 
@@ -156,12 +157,13 @@ impl RowIndex {
             * (decoder.entry.header.height - first) * channels_number decoder.entry.channels
             ≤ pixels_left p) }
     {
-        let left = pixels_behind(decoder.header(), first);
+        let pixels_wanted = pixels_from(decoder.header(), first);
         let mut at = self.places.len().min((first / self.every) as usize);
+        // A place may lie past its row, since a reader decodes ahead: then one above it serves.
         while at > 0 {
             at -= 1;
             let place = &self.places[at];
-            if left <= place.left() {
+            if pixels_wanted <= place.left() {
                 return place.resume(file, decoder);
             }
         }
@@ -228,8 +230,8 @@ impl RowIndex {
         if first > header.height {
             return Err(Error::UnexpectedBufferEnd);
         }
-        let mut pixels = self.above(file, decoder.with_channels(channels), first)?;
-        skip_to(&mut pixels, bytes_behind(&header, channels, first))?;
-        Ok(pixels)
+        let mut reader = self.above(file, decoder.with_channels(channels), first)?;
+        skip_to(&mut reader, bytes_from(&header, channels, first))?;
+        Ok(reader)
     }
 }

@@ -298,7 +298,10 @@ impl Unread {
     }
 
     /// Decodes an image's next bytes, while none are kept. Returns how many are in `out`, maybe
-    /// none; what it lacks, and more, is kept.
+    /// none; what `out` lacks, and more, is kept. They come in three ways, one after the other:
+    /// - the rest of a run, and behind it chunks in memory, in place (`piece_front`);
+    /// - chunks of any reader, in place, as long as any run has room (`long_piece`);
+    /// - chunks that are decoded ahead, and kept (`decode_ahead`).
     pub(in crate::decode) fn decode_more<R: Chunks<N, F>, const N: usize, const F: usize>(
         &mut self,
         reader: &mut R,

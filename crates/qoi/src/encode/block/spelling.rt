@@ -9,6 +9,7 @@ ghost use Rattle.qoi.specs.inner.block.Vectors.{firsts_in, sizes, counts, AreAll
 ghost use Rattle.qoi.specs.inner.block.Lanes.{Lane, mask, step_of, as_diff, as_luma, same_alpha, fits_luma, first_of, second_of, size_of, State, lanes_of, is_rep};
 ghost use Rattle.qoi.specs.inner.block.Planes.{AreSixteen};
 
+use crate::consts::{QOI_OP_DIFF, QOI_OP_LUMA, QOI_OP_RGBA, QOI_OP_RUN};
 use crate::encode::block::counting::count_repeats;
 use crate::encode::block::lanes::{all_set, greater, lesser, where_is};
 use crate::encode::block::planes::Planes;
@@ -87,19 +88,23 @@ fn diffs(steps: Planes) -> u8x16
     let t = steps.r + steps.r;
     let t = t + t + steps.g;
     let t = t + t;
-    t + t + steps.b + u8x16::splat(0x40)
+    t + t + steps.b + u8x16::splat(QOI_OP_DIFF)
 }
 
 // The first byte of each fresh pixel's chunk: as numbers, index position, difference, luma, RGB and
-// RGBA stand in this order, so it is the least that applies.
+// RGBA stand in this order, so it is the least that applies. As a number a set mask is 255, or -1:
+// RGBA's byte and `same_alpha` make RGB's, and what doesn't apply is 255, the greatest.
 #[inline(always)]
 fn first_bytes(diff: Planes, luma: Planes, fits: Fits, indices: u8x16, stands: u8x16) -> u8x16
     ensures { (ls : List Lane) → ArePlanesBy ls as_diff diff → ArePlanesBy ls as_luma luma
         → AreFits ls fits → AreBy ls (λ l. hash l.px) indices
         → AreMasks ls (λ l. l.stands) stands → AreBy ls first_of result }
 {
-    let rgb_or_rgba = u8x16::splat(0xff) + fits.same_alpha;
-    let first = lesser((luma.g + u8x16::splat(0x80)) | !fits.luma, rgb_or_rgba);
+    let rgb_or_rgba = u8x16::splat(QOI_OP_RGBA) + fits.same_alpha;
+    let first = lesser(
+        (luma.g + u8x16::splat(QOI_OP_LUMA)) | !fits.luma,
+        rgb_or_rgba,
+    );
     lesser(lesser(first, diffs(diff) | !fits.diff), indices | !stands)
 }
 
@@ -113,7 +118,9 @@ fn second_bytes(luma: Planes, red: u8x16, fits: u8x16) -> u8x16
     (fits & second) | (!fits & red)
 }
 
-// How many bytes each fresh pixel's chunk has.
+// How many bytes each fresh pixel's chunk has. As a number a set mask is -1, so a luma has
+// 4 - 1 - 1. Of an index position or a difference (`one`) the lesser is 1. RGBA has one more than
+// RGB.
 #[inline(always)]
 fn sizes_of(fits: Fits, stands: u8x16) -> u8x16
     ensures { (ls : List Lane) → AreFits ls fits → AreMasks ls (λ l. l.stands) stands
@@ -127,15 +134,16 @@ fn sizes_of(fits: Fits, stands: u8x16) -> u8x16
     size + (!fits.same_alpha & !one & u8x16::splat(1))
 }
 
-// The first bytes, with those of runs for repeats. The lesser of a mask and a byte is the byte
-// where the mask is set, else 0; of `&` the compiler would make a blend, which takes longer.
+// The first bytes of fresh pixels' chunks, as they are passed, and of runs for repeats. The lesser
+// of `rep` and a run's byte is that byte for a repeat, else 0; of `&` the compiler would make a
+// blend, which takes longer. What was passed for a repeat is less than a run's byte.
 #[inline(always)]
 fn with_runs(first: u8x16, rep: u8x16, count: u8x16) -> u8x16
     ensures { (ls : List Lane) (c : ℕ) (q : Bool) → AreBy ls first_of first
         → AreMasks ls is_rep rep → count ≡ counts c (map is_rep ls)
         → result ≡ firsts_in Reference q c ls }
 {
-    greater(first, lesser(rep, count + u8x16::splat(0xbf)))
+    greater(first, lesser(rep, count + u8x16::splat(QOI_OP_RUN - 1)))
 }
 
 // The sizes, with 0 for a repeat before another one, or in the last lane. As for `with_runs`, `&`
@@ -206,7 +214,7 @@ pub(in crate::encode) fn spell_rgba(rep: u8x16, red: u8x16) -> Spelled
 {
     Spelled {
         rep,
-        first: u8x16::splat(0xff),
+        first: u8x16::splat(QOI_OP_RGBA),
         second: red,
         size: u8x16::splat(5),
         count: u8x16::splat(0),

@@ -52,10 +52,10 @@ pub(in crate::encode) fn store_sixteen<const N: usize>(
     }
     let p = block.planes;
     // A lane's four bytes: the first, the second (a luma's, or red), green and blue.
-    let words = join_lanes(x.first, x.second, p.g, p.b);
+    let chunks = join_lanes(x.first, x.second, p.g, p.b);
     if are_short::<N>(x.size) {
-        store_shuffled(out, at, x.size, words)
+        store_shuffled(out, at, x.size, chunks)
     } else {
-        store_each(out, at, x.size, words, p.a)
+        store_each(out, at, x.size, chunks, p.a)
     }
 }

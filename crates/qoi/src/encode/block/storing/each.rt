@@ -87,27 +87,28 @@ fn store_eight(out: &mut [u8], at: usize, sizes: u64, one: [u64; 4], two: [u64; 
     at + after(e, 7)
 }
 
-/// Stores the chunks of sixteen pixels from `at` on, and returns where they end.
+/// Stores the chunks of sixteen pixels from `at` on, and returns where they end. Of each four bytes
+/// stand in `chunks`, the fifth is `alpha`, and `size` says how many it has.
 #[inline(always)]
 pub(in crate::encode) fn store_each(
     out: &mut [u8],
     at: usize,
     size: u8x16,
-    words: Words,
+    chunks: Words,
     alpha: u8x16,
 ) -> usize
     requires room { at + 83 ≤ length out.old }
     ensures same { length out.new ≡ length out.old }
     ensures near { (at ≤ result) × (result ≤ at + 80) }
     ensures written { ((k : ℕ) → slice_index size k ≤ 5)
-        → take result out.new ≡ take at out.old ++ sixteen_chunks size words alpha }
+        → take result out.new ≡ take at out.old ++ sixteen_chunks size chunks alpha }
 {
     let none = u8x16::splat(0);
     let a = join_lanes(alpha, none, none, none);
-    let one = with_alphas(words.one, a.one);
-    let two = with_alphas(words.two, a.two);
-    let three = with_alphas(words.three, a.three);
-    let four = with_alphas(words.four, a.four);
+    let one = with_alphas(chunks.one, a.one);
+    let two = with_alphas(chunks.two, a.two);
+    let three = with_alphas(chunks.three, a.three);
+    let four = with_alphas(chunks.four, a.four);
     // A chunk has at most five bytes, so this changes no size; but it bounds them.
     let sizes = halves(lesser(size, u8x16::splat(5)));
     let end = store_eight(out, at, sizes[0], one, two);

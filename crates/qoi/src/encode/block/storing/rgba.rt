@@ -27,16 +27,16 @@ fn store_four_rgba(out: &mut [u8], at: usize, four: u32x4)
 
 /// Stores the RGBA chunks of sixteen pixels from `at` on, and returns where they end.
 #[inline(always)]
-pub(in crate::encode) fn store_rgba(out: &mut [u8], at: usize, words: Words) -> usize
-    requires packed { ArePacked words }
+pub(in crate::encode) fn store_rgba(out: &mut [u8], at: usize, pixels: Words) -> usize
+    requires packed { ArePacked pixels }
     requires room { at + 83 ≤ length out.old }
     ensures same { length out.new ≡ length out.old }
     ensures end { result ≡ at + 80 }
-    ensures written { take result out.new ≡ take at out.old ++ rgba_bytes (block_pixels words) }
+    ensures written { take result out.new ≡ take at out.old ++ rgba_bytes (block_pixels pixels) }
 {
-    store_four_rgba(out, at, words.one);
-    store_four_rgba(out, at + 20, words.two);
-    store_four_rgba(out, at + 40, words.three);
-    store_four_rgba(out, at + 60, words.four);
+    store_four_rgba(out, at, pixels.one);
+    store_four_rgba(out, at + 20, pixels.two);
+    store_four_rgba(out, at + 40, pixels.three);
+    store_four_rgba(out, at + 60, pixels.four);
     at + 80
 }

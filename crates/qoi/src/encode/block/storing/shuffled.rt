@@ -106,24 +106,24 @@ fn join(codes: u64) -> [u8; 2]
 }
 
 /// Stores the chunks of sixteen pixels from `at` on, and returns where they end, if each has at
-/// most four bytes.
+/// most four bytes. These stand in `chunks`, and `size` says how many each has.
 #[inline(always)]
 pub(in crate::encode) fn store_shuffled(
     out: &mut [u8],
     at: usize,
     size: u8x16,
-    words: Words,
+    chunks: Words,
 ) -> usize
     requires room { at + 64 ≤ length out.old }
     ensures same { length out.new ≡ length out.old }
     ensures near { (at ≤ result) × (result ≤ at + 64) }
     ensures written { (alphas : List ℕ) → HaveCodes size
-        → take result out.new ≡ take at out.old ++ sixteen_chunks size words alphas }
+        → take result out.new ≡ take at out.old ++ sixteen_chunks size chunks alphas }
 {
     let codes = halves(lesser(size, u8x16::splat(3)));
     let (first, second) = (join(codes[0]), join(codes[1]));
-    let end = store_four_shuffled(out, at, first[0], words.one);
-    let end = store_four_shuffled(out, end, first[1], words.two);
-    let end = store_four_shuffled(out, end, second[0], words.three);
-    store_four_shuffled(out, end, second[1], words.four)
+    let end = store_four_shuffled(out, at, first[0], chunks.one);
+    let end = store_four_shuffled(out, end, first[1], chunks.two);
+    let end = store_four_shuffled(out, end, second[0], chunks.three);
+    store_four_shuffled(out, end, second[1], chunks.four)
 }

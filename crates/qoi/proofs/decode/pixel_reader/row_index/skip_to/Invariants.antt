@@ -7,10 +7,10 @@ use Rattle.qoi.proofs.decode.pixel_reader.row_index.skip_to.Given as goal
 
 abbrev pub invariant-loop-buf : goal.invariant-loop-buf
 invariant-loop-buf l = record {
-  reads : (channels : Channels) (h : Header) (file : List ℕ) → ReadsFile channels h file l.initial.pixels → ReadsFile channels h file l.pixels;
-  left : min l.left (pixels_left l.initial.pixels) ≤ pixels_left l.pixels;
-  within : pixels_left l.pixels ≤ pixels_left l.initial.pixels;
+  reads : (channels : Channels) (h : Header) (file : List ℕ) → ReadsFile channels h file l.initial.reader → ReadsFile channels h file l.reader;
+  left : min l.bytes_left (pixels_left l.initial.reader) ≤ pixels_left l.reader;
+  within : pixels_left l.reader ≤ pixels_left l.initial.reader;
 }
 
 abbrev pub decreases-loop-buf : goal.decreases-loop-buf
-decreases-loop-buf l = pixels_left l.pixels
+decreases-loop-buf l = pixels_left l.reader

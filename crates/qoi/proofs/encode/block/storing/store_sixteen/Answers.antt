@@ -79,7 +79,7 @@ returns-then-are_short-clause-written g c = λ style s last spelled carry few.
     let ps = block_pixels block.words in
     let sixteen = block_sixteen block.words block.packed in
     c.store_shuffled.ensures.written block.planes.a (have_codes style s ps c.args.x sixteen spelled (c.are_short.ensures c.if-are_short.true few))
-    ∙ ap (λ z. take c.args.at c.args.out.now ++ z) (block_is style s ps c.args.x block.planes c.join_lanes-words.result sixteen last block.planes_are spelled carry c.join_lanes-words.ensures)
+    ∙ ap (λ z. take c.args.at c.args.out.now ++ z) (block_is style s ps c.args.x block.planes c.join_lanes-chunks.result sixteen last block.planes_are spelled carry c.join_lanes-chunks.ensures)
 
 pub returns-else-are_short-clause-written : goal.returns-else-are_short-clause-written
 returns-else-are_short-clause-written g c = λ style s last spelled carry few.
@@ -87,4 +87,4 @@ returns-else-are_short-clause-written g c = λ style s last spelled carry few.
     let ps = block_pixels block.words in
     let sixteen = block_sixteen block.words block.packed in
     c.store_each.ensures.written (λ k. omega (arith, few k, c.requires.channels))
-    ∙ ap (λ z. take c.args.at c.args.out.now ++ z) (block_is style s ps c.args.x block.planes c.join_lanes-words.result sixteen last block.planes_are spelled carry c.join_lanes-words.ensures)
+    ∙ ap (λ z. take c.args.at c.args.out.now ++ z) (block_is style s ps c.args.x block.planes c.join_lanes-chunks.result sixteen last block.planes_are spelled carry c.join_lanes-chunks.ensures)

@@ -5,24 +5,24 @@ use Rattle.qoi.proofs.decoding.Places.{goes_on_in_file, goes_on_left, place_with
 use Rattle.qoi.proofs.decoding.RowIndexes.{place_found, enough_left, reads_first, first_left}
 use Rattle.qoi.proofs.decode.pixel_reader.row_index.RowIndex.above.Goals as goal
 
-pub returns-then-left-clause-file : goal.returns-then-left-clause-file
-returns-then-left-clause-file c index =
+pub returns-then-pixels_wanted-left-clause-file : goal.returns-then-pixels_wanted-left-clause-file
+returns-then-pixels_wanted-left-clause-file c index =
     let same : c.args.self.now ≡ c.self.inside.places.items = cc c.self.view_is in
     goes_on_in_file _ _ _ _ _ c.resume.ensures.goes c.requires.0 (place_found _ _ c.self.inside.places.items c.args.self.now (c.loop-at.at - 1) _ same c.requires.0 index
     (omega (arith, c.loop-at.invariant, c.loop-at-test.true, ap length same)) c.index-place.ensures)
 
-pub returns-then-left-clause-accepts : goal.returns-then-left-clause-accepts
-returns-then-left-clause-accepts c index =
+pub returns-then-pixels_wanted-left-clause-accepts : goal.returns-then-pixels_wanted-left-clause-accepts
+returns-then-pixels_wanted-left-clause-accepts c index =
     let same : c.args.self.now ≡ c.self.inside.places.items = cc c.self.view_is in
     let (at, left) = place_within _ _ _ c.requires.0 (place_found _ _ c.self.inside.places.items c.args.self.now (c.loop-at.at - 1) _ same c.requires.0 index
     (omega (arith, c.loop-at.invariant, c.loop-at-test.true, ap length same)) c.index-place.ensures) in
     c.resume.ensures.accepts at left
 
-pub returns-then-left-clause-left : goal.returns-then-left-clause-left
-returns-then-left-clause-left c =
+pub returns-then-pixels_wanted-left-clause-left : goal.returns-then-pixels_wanted-left-clause-left
+returns-then-pixels_wanted-left-clause-left c =
     let d = c.args.decoder in
-    let behind : c.pixels_behind-left.result ≡ d.header.width * (d.header.height - c.args.first) =
-    c.pixels_behind-left.ensures.behind ∙ ap (λ (z : Header). z.width * (z.height - c.args.first)) c.header.ensures in
+    let behind : c.pixels_from-pixels_wanted.result ≡ d.header.width * (d.header.height - c.args.first) =
+    c.pixels_from-pixels_wanted.ensures.behind ∙ ap (λ (z : Header). z.width * (z.height - c.args.first)) c.header.ensures in
     enough_left (d.header.width * (d.header.height - c.args.first)) _ (channels_number d.channels) c.resume.result (omega (arith, behind)) (goes_on_left _ _ _ _ _ c.resume.ensures.goes)
 
 pub returns-clause-file : goal.returns-clause-file
@@ -31,9 +31,9 @@ returns-clause-file c index = reads_first c.args.decoder c.args.file.now _ c.req
 pub returns-clause-left : goal.returns-clause-left
 returns-clause-left c =
     let d = c.args.decoder in
-    let many = c.pixels_behind-left.result in
+    let many = c.pixels_from-pixels_wanted.result in
     let behind : many ≡ d.header.width * (d.header.height - c.args.first) =
-    c.pixels_behind-left.ensures.behind ∙ ap (λ (z : Header). z.width * (z.height - c.args.first)) c.header.ensures in
-    let most : many ≤ pixel_count d.header = subst (λ (z : Header). many ≤ pixel_count z) c.header.ensures c.pixels_behind-left.ensures.most in
+    c.pixels_from-pixels_wanted.ensures.behind ∙ ap (λ (z : Header). z.width * (z.height - c.args.first)) c.header.ensures in
+    let most : many ≤ pixel_count d.header = subst (λ (z : Header). many ≤ pixel_count z) c.header.ensures c.pixels_from-pixels_wanted.ensures.most in
     enough_left (d.header.width * (d.header.height - c.args.first)) _ (channels_number d.channels) (Ok c.into_pixels.result)
     (omega (arith, behind, most)) (first_left d _ c.into_pixels.ensures.start)

@@ -10,7 +10,7 @@ pub loop-k-init : goal.loop-k-init
 loop-k-init c =
     let h = c.in_ok-header.header in
     record {
-      reads = reads_start h c.in_ok-decoder.decoder c.args.file.now c.into_pixels-pixels.result c.in_ok-decoder.ensures.accepted (sym c.in_ok-header.ensures.read) c.into_pixels-pixels.ensures.start;
+      reads = reads_start h c.in_ok-decoder.decoder c.args.file.now c.into_pixels-reader.result c.in_ok-decoder.ensures.accepted (sym c.in_ok-header.ensures.read) c.into_pixels-reader.ensures.start;
       are = subst (ArePlaces (pixel_count h) c.args.file.now) (sym c.in_ok-places.ensures.items) (no_places (pixel_count h) c.args.file.now);
       few = omega (arith, ap length c.in_ok-places.ensures.items);
     }
@@ -18,14 +18,14 @@ loop-k-init c =
 pub keep_place-requires : goal.keep_place-requires
 keep_place-requires c =
     let h = c.in_ok-header.header in
-    still_going h.channels h c.args.file.now c.skip_to.new.pixels (c.in_ok-skip_to.ensures.file h.channels h c.args.file.now c.loop-k.invariant.reads)
+    still_going h.channels h c.args.file.now c.skip_to.new.reader (c.in_ok-skip_to.ensures.file h.channels h c.args.file.now c.loop-k.invariant.reads)
 
 pub returns-clause-index : goal.returns-clause-index
 returns-clause-index c =
     let h = c.in_ok-header.header in
     let read = c.in_ok-skip_to-2.ensures.file h.channels h c.args.file.now c.loop-k.invariant.reads in
     row_index h c.args.file.now c.loop-k.places.items (sym c.in_ok-header.ensures.read) c.loop-k.invariant.are
-    (stands_whole h.channels h c.args.file.now c.skip_to-2.new.pixels read (omega (arith, c.in_ok-skip_to-2.ensures.left)))
+    (stands_whole h.channels h c.args.file.now c.skip_to-2.new.reader read (omega (arith, c.in_ok-skip_to-2.ensures.left)))
 
 pub returns-clause-index_then : goal.returns-clause-index_then
 returns-clause-index_then c more = row_index_then c.args.file.now more c.loop-k.places.items (returns-clause-index c)

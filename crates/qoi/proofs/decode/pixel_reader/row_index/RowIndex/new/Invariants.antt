@@ -6,7 +6,7 @@ use Rattle.qoi.proofs.decode.pixel_reader.row_index.RowIndex.new.Given as goal
 
 abbrev pub invariant-loop-k : goal.invariant-loop-k
 invariant-loop-k l = record {
-  reads : ReadsFile l.header.channels l.header l.file l.pixels;
+  reads : ReadsFile l.header.channels l.header l.file l.reader;
   are : ArePlaces (pixel_count l.header) l.file l.places.items;
   few : length l.places.items ≤ l.k;
 }

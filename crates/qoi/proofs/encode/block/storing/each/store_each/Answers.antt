@@ -29,7 +29,7 @@ store_eight-requires-clause-sizes c =
 pub returns-clause-written : goal.returns-clause-written
 returns-clause-written c = λ few.
     let ss : List ℕ = c.args.size in
-    let w = c.args.words in
+    let w = c.args.chunks in
     let alphas : List ℕ = c.args.alpha in
     let m1 : List ℕ = c.with_alphas-one.result in
     let m2 : List ℕ = c.with_alphas-two.result in

@@ -14,7 +14,7 @@ after (p ∷ ps) qs = ap (λ z. 255 ∷ p.r ∷ p.g ∷ p.b ∷ p.a ∷ z) (afte
 pub returns-clause-written : goal.returns-clause-written
 returns-clause-written c =
     let at = c.args.at in
-    let w = c.args.words in
+    let w = c.args.pixels in
     let one = map pixel_of_word w.one in
     let two = map pixel_of_word w.two in
     let three = map pixel_of_word w.three in

@@ -27,7 +27,7 @@ returns-clause-written c = λ alphas have.
       few = drop_few 8 3 cs most;
       is = ap (λ z. slice_index z 1) numbers;
     }) in
-    let w = c.args.words in
+    let w = c.args.chunks in
     four_stored c.args.at c.store_four_shuffled-end.result c.store_four_shuffled-end-2.result c.store_four_shuffled-end-3.result c.store_four_shuffled.result
     c.args.out.now c.store_four_shuffled-end.new.out c.store_four_shuffled-end-2.new.out c.store_four_shuffled-end-3.new.out c.store_four_shuffled.new.out _ _ _ _
     c.store_four_shuffled-end.ensures.written c.store_four_shuffled-end-2.ensures.written c.store_four_shuffled-end-3.ensures.written c.store_four_shuffled.ensures.written

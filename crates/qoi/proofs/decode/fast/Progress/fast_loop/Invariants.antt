@@ -1,10 +1,10 @@
 -- Chunks were taken, and their pixels written and seen.
 use Rattle.std.proofs.Common.{◌+◌, ◌-◌}
 use Rattle.qoi.specs.inner.Filling.{FastChunks}
-use Rattle.qoi.proofs.decode.fast.Progress.chunks_until.Given as goal
+use Rattle.qoi.proofs.decode.fast.Progress.fast_loop.Given as goal
 
 abbrev pub invariant-loop-now : goal.invariant-loop-now
 invariant-loop-now g l = FastChunks l.bytes l.fn.self l.initial.table l.initial.out l.now l.table l.out
 
 abbrev pub decreases-loop-now : goal.decreases-loop-now
-decreases-loop-now g l = l.near + 1 - l.now.taken
+decreases-loop-now g l = l.far + 1 - l.now.taken

@@ -2,9 +2,9 @@
 use Rattle.std.proofs.Common.{arith}
 use Rattle.qoi.specs.inner.Filling.{FastChunks}
 use Rattle.qoi.proofs.decoding.FastSteps.{step_more}
-use Rattle.qoi.proofs.decode.fast.Progress.chunks_until.Given.{Over}
-use Rattle.qoi.proofs.decode.fast.Progress.chunks_until.Goals.{After-short_series-now}
-use Rattle.qoi.proofs.decode.fast.Progress.chunks_until.Goals as goal
+use Rattle.qoi.proofs.decode.fast.Progress.fast_loop.Given.{Over}
+use Rattle.qoi.proofs.decode.fast.Progress.fast_loop.Goals.{After-short_series-now}
+use Rattle.qoi.proofs.decode.fast.Progress.fast_loop.Goals as goal
 
 -- after a series of short chunks
 series : (g : Over) (c : After-short_series-now g) → FastChunks c.args.bytes.now c.args.self c.args.table.now c.args.out.now
