@@ -72,7 +72,8 @@ pub fn shrink<R: Reader, W: Write + Drop>(
 ) -> Result<()>
     requires fits { length half.old + length half.old ≤ length row.old }
     requires some { 0 < length half.old }
-    ensures { (e : EncoderState) (before : Option (List ℕ)) → HasTaken W.contents e before writer.old
+    ensures { (e : EncoderState) (before : Option (List ℕ))
+        → HasTaken W.contents e before writer.old
         → OnOk result ((f : EncoderState) × (f.header ≡ e.header) × (f.style ≡ e.style)
         × HasTaken W.contents f before writer.new) }
 {
