@@ -93,7 +93,8 @@ static GIVEN: [&str; 13] = [
     // Pixels of runs are seen.
     "black_returns_rgba - 4 c0ff6566676835 000000656667000000 000000ff65666768000000ff",
     // Position 17 was never written.
-"blank_without_place - 4 ff4000000011fe40000011 400000000000400000000000 40000000000000004000000000000000",
+    "blank_without_place - 4 ff4000000011fe40000011 400000000000400000000000 \
+     40000000000000004000000000000000",
     // The pixel from an empty position is seen.
     "empty_place - 4 ff400000001100 400000000000000000 400000000000000000000000",
     "chunks_under_rgb_header - 3 11 000000 000000ff",
