@@ -95,3 +95,19 @@ void check_header(struct header header, const struct answer *answer) {
     same("channels", header.channels, answer->channels);
     same("color space", header.colorspace, answer->colorspace);
 }
+
+/* Readers and writers */
+
+struct plan make_plan(struct random *random, size_t size) {
+    struct plan plan = {.most = ONE_OF(random, 1, 2, 3, 7, 100, 1000, 100000, 100000), .end = below(random, 4)};
+    size_t likely = 4 + size / (plan.most < 4096 ? plan.most : 4096);
+    plan.bad = chance(random, 600) ? 0 : 1 + below(random, likely);
+    return plan;
+}
+
+int is_bad(const struct plan *plan, size_t calls) { return plan->bad && calls >= plan->bad; }
+
+struct refusal fault(const struct plan *plan, enum io_kind none) {
+    const uint64_t kinds[] = {BROKEN, INTERRUPTED, LATE, none};
+    return (struct refusal){IO, kinds[plan->end], 0, 0};
+}

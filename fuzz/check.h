@@ -35,6 +35,12 @@ extern int has_failed;
 int refused_as(struct refusal why, const struct answer *answer);
 void check_header(struct header header, const struct answer *answer);
 
+/* How a writer goes that gets so many bytes. */
+struct plan make_plan(struct random *random, size_t size);
+/* Whether a plan's bad call was made, and its error: `none` if that call gives or takes no byte. */
+int is_bad(const struct plan *plan, size_t calls);
+struct refusal fault(const struct plan *plan, enum io_kind none);
+
 void check_file(struct random *random, const struct bytes *file);
 void check_image(struct random *random, struct header header, const uint8_t *raw);
 void check_other_sizes(struct random *random);

@@ -7,6 +7,8 @@
 #define ACTS 48
 /* A `PixelReader` decodes so many raw bytes ahead of those that it gives, at most. */
 #define AHEAD 3072
+/* So many raw bytes are copied at once. */
+#define PIECE 4096
 
 /* What the model reads at one place of a file: pixels, and their raw bytes in three and in four channels. */
 struct image_at {
@@ -124,7 +126,7 @@ struct session {
     struct plan plan;
     struct act acts[ACTS];
     struct answer answers[ACTS + 1];
-    size_t count;
+    size_t count, size;
     uint8_t *out;
     /* How the model's decoder stands. */
     uint32_t channels;
@@ -135,8 +137,12 @@ struct session {
     struct image_at *image;
     size_t total, given;
     int is_refused;
-    size_t refused_act;
+    size_t refused_act; /* or ACTS, if it gave bytes before it was refused */
     int had_no_memory;
+    /* A writer beside it: how many raw bytes its image has, how many came, and were offered at the last. */
+    struct target target;
+    size_t wanted, came, offered;
+    int is_open, is_broken, is_finished;
 };
 
 static const char *const way_names[] = {
@@ -152,11 +158,6 @@ static int has_plan(enum way way) {
 static int is_hit(const struct session *it, size_t i) {
     size_t before = i > 0 ? it->answers[i - 1].calls : 0;
     return has_plan(it->way) && it->plan.bad > before && it->plan.bad <= it->answers[i].calls;
-}
-
-static struct refusal fault_refusal(const struct session *it) {
-    static const uint64_t kinds[] = {BROKEN, INTERRUPTED, LATE, EARLY_END};
-    return (struct refusal){IO, kinds[it->plan.end], 0, 0};
 }
 
 /* Why the image at a place is refused, by the kind of reader. */
@@ -201,7 +202,7 @@ static void check_whole(struct session *it, size_t i, size_t size) {
     struct reading reading = image->reading;
     if (size > needed) untouched("later bytes", out + needed, size - needed);
     if (is_hit(it, i + 1)) {
-        refused_as(fault_refusal(it), answer);
+        refused_as(fault(&it->plan, EARLY_END), answer);
         stands(it, answer, 0, reading.taken);
         it->has_fault = 1;
         return;
@@ -240,11 +241,16 @@ static void check_refused_piece(struct session *it, size_t i, size_t size) {
     }
 }
 
+/* Whether the image can give so many bytes, the last ones before a whole end marker. */
+static int can_give(const struct session *it, size_t count) {
+    struct reading reading = it->image->reading;
+    return count <= reading.pixels * it->channels && (count < it->total || reading.verdict == WHOLE);
+}
+
 static void check_piece(struct session *it, size_t i) {
     const struct answer *answer = &it->answers[i + 1];
     const struct act *act = &it->acts[i];
     size_t left = it->total - it->given, size = act->size < left ? act->size : left;
-    size_t known = it->image->reading.pixels * it->channels;
     uint8_t *out = it->out + act->at;
     int is_done = 0;
     untouched("later bytes", out + size, act->size - size);
@@ -256,12 +262,12 @@ static void check_piece(struct session *it, size_t i) {
         untouched("the buffer", out, size);
         if (i > 0) same("calls of the reader", it->answers[i].calls, answer->calls);
     } else if (is_hit(it, i + 1)) {
-        refused_as(fault_refusal(it), answer);
+        refused_as(fault(&it->plan, EARLY_END), answer);
         it->has_fault = it->is_refused = 1;
     } else if (answer->error) {
         check_refused_piece(it, i, size);
         it->is_refused = 1, it->refused_act = i;
-    } else if (it->given + size > known || (it->given + size == it->total && it->image->reading.verdict == WRONG)) {
+    } else if (!can_give(it, it->given + size)) {
         differ("a piece isn't refused, size", 0, answer->size);
     } else {
         same("size", size, answer->size);
@@ -276,12 +282,11 @@ static void check_piece(struct session *it, size_t i) {
 static size_t ahead_before(const struct session *it, size_t i) {
     static struct act acts[ACTS];
     static struct answer answers[ACTS + 1];
-    size_t room = it->acts[it->count - 1].at + it->acts[it->count - 1].size;
     memcpy(acts, it->acts, sizeof acts);
     memset(answers, 0, sizeof answers);
     acts[i] = (struct act){.kind = INTO};
-    uint8_t *out = malloc(room + 1);
-    fuzz_decode(it->way, &it->plan, it->file->bytes, it->file->len, acts, i + 1, out, room, answers, i + 2);
+    uint8_t *out = malloc(it->size + 1);
+    fuzz_decode(it->way, &it->plan, &it->target, it->file->bytes, it->file->len, acts, i + 1, out, it->size, answers, i + 2);
     free(out);
     return answers[i + 1].ahead;
 }
@@ -295,7 +300,7 @@ static void check_into(struct session *it, size_t i) {
     if (it->given == it->total) stands(it, answer, taken, taken);
     else if (it->given == 0 && !it->is_refused) stands(it, answer, 0, 0);
     else stands(it, answer, 0, taken);
-    if (in_memory(it) && it->is_refused && !it->had_no_memory)
+    if (in_memory(it) && it->is_refused && it->refused_act < ACTS && !it->had_no_memory)
         same("bytes ahead after a piece that was refused", ahead_before(it, it->refused_act), answer->ahead);
 }
 
@@ -304,11 +309,226 @@ static void check_finish(struct session *it, size_t i) {
     struct reading reading = it->image->reading;
     struct refusal why = refusal_here(it, reading);
     if (it->is_refused) why = (struct refusal){BUFFER_END, 0, 0, 0};
-    else if (is_hit(it, i + 1)) why = fault_refusal(it);
+    else if (is_hit(it, i + 1)) why = fault(&it->plan, EARLY_END);
     if (why.error == PADDING && counts_bytes(it)) same("bytes taken", it->at + reading.taken, answer->bytes);
     it->is_pieces = 0;
     it->is_over = refused_as(why, answer);
     if (!it->is_over) stands(it, answer, reading.taken, reading.taken);
+}
+
+/* Copies: raw bytes from the reader of pieces to a writer beside it. */
+
+/* The raw bytes that a session's writer was offered. */
+static uint8_t offered[4 * (size_t)IMAGE_PIXELS];
+
+static const struct refusal too_few = {BUFFER_END, 0, 0, 0}, broken = {IO, BROKEN, 0, 0};
+
+static struct refusal wrong_length(const struct session *it, size_t length) {
+    return (struct refusal){LENGTH, length, it->target.image.width, it->target.image.height};
+}
+
+/* Whether the writer's bad call came in this act. */
+static int breaks(const struct session *it, size_t i) {
+    return !is_bad(&it->target.plan, it->answers[i].sent.calls) && is_bad(&it->target.plan, it->answers[i + 1].sent.calls);
+}
+
+/* The last piece of bytes that went by pieces. */
+static size_t last_piece(size_t count) { return count ? (count - 1) % PIECE + 1 : 0; }
+
+static void same_reader(const struct session *it, size_t i) {
+    same("left", it->total - it->given, it->answers[i + 1].left);
+    same("calls of the reader", it->answers[i].calls, it->answers[i + 1].calls);
+}
+
+static void same_writer(const struct session *it, size_t i) {
+    if (!it->is_open) return;
+    same("raw bytes missing", it->wanted - it->came, it->answers[i + 1].missing);
+    same("calls of the writer", it->answers[i].sent.calls, it->answers[i + 1].sent.calls);
+}
+
+/* A refusal that changes nothing. */
+static void check_unchanged(const struct session *it, size_t i, struct refusal why) {
+    refused_as(why, &it->answers[i + 1]);
+    same_reader(it, i);
+    same_writer(it, i);
+    same("calls of raw bytes", 0, it->answers[i + 1].raw.calls);
+}
+
+/* How many bytes the reader gave of those to be copied. If the other side didn't fail, it gave all or was refused. */
+static size_t check_gave(struct session *it, size_t i, size_t count, int has_failed) {
+    const struct answer *answer = &it->answers[i + 1];
+    size_t gave = it->total - it->given - answer->left;
+    if (gave > count || (gave < count && gave % PIECE > 0) || !can_give(it, it->given + gave)) {
+        differ("raw bytes read", count, gave);
+        return 0;
+    }
+    it->given += gave;
+    if (has_failed) return gave;
+    if (is_hit(it, i + 1)) {
+        refused_as(fault(&it->plan, EARLY_END), answer);
+        /* At its end a reader may be asked again. */
+        if (it->plan.end < 3) same("calls of the reader", it->plan.bad, answer->calls);
+        it->has_fault = it->is_refused = 1;
+    } else if (answer->error && gave < count) {
+        check_refused_piece(it, i, count - gave < PIECE ? count - gave : PIECE);
+        it->is_refused = 1, it->refused_act = gave ? ACTS : i;
+    } else {
+        refused_as((struct refusal){0}, answer);
+        same("raw bytes read", count, gave);
+    }
+    return gave;
+}
+
+/* The writer was offered bytes: it took them, or failed at the last ones, so many. */
+static void check_took(struct session *it, size_t i, const uint8_t *bytes, size_t count, size_t last) {
+    const struct answer *answer = &it->answers[i + 1];
+    memcpy(offered + it->came, bytes, count);
+    it->offered = it->came + count;
+    it->came = it->offered;
+    if (breaks(it, i)) {
+        refused_as(fault(&it->target.plan, NO_BYTE_TAKEN), answer);
+        same("calls of the writer", it->target.plan.bad, answer->sent.calls);
+        it->came -= last;
+        it->is_broken = 1;
+    }
+    same("raw bytes missing", it->wanted - it->came, answer->missing);
+}
+
+static void check_copy(struct session *it, size_t i) {
+    const struct act *act = &it->acts[i];
+    size_t left = it->total - it->given, row = (size_t)it->file->header.width * it->channels;
+    size_t count = act->kind == COPY ? left : row * act->row;
+    if (count > left) check_unchanged(it, i, too_few);
+    else if (it->is_broken) check_unchanged(it, i, broken);
+    else if (count > it->wanted - it->came) check_unchanged(it, i, wrong_length(it, it->came + count));
+    else if (count > 0 && it->is_refused) check_unchanged(it, i, too_few);
+    else {
+        size_t from = it->given, gave = check_gave(it, i, count, breaks(it, i));
+        check_took(it, i, raw_of(it->file, it->image, it->channels) + from, gave, last_piece(gave));
+    }
+}
+
+/* Raw bytes to a writer of `act->size` bytes. */
+static void check_to_raw(struct session *it, size_t i) {
+    const struct act *act = &it->acts[i];
+    const struct answer *answer = &it->answers[i + 1];
+    size_t left = it->total - it->given, from = it->given, sent = answer->raw.bytes;
+    int is_full = sent == act->size && answer->error == IO && answer->first == NO_BYTE_TAKEN;
+    int has_failed = is_bad(&it->target.raw, answer->raw.calls) || is_full;
+    if (left > 0 && it->is_refused) {
+        check_unchanged(it, i, too_few);
+        untouched("the raw bytes", it->out + act->at, act->size);
+        return;
+    }
+    size_t gave = check_gave(it, i, left, has_failed);
+    if (sent > gave || (has_failed ? sent == gave || sent < gave - last_piece(gave) : sent < gave)) {
+        differ("raw bytes sent", gave, sent);
+        return;
+    }
+    if (is_bad(&it->target.raw, answer->raw.calls)) {
+        refused_as(fault(&it->target.raw, NO_BYTE_TAKEN), answer);
+        same("calls of the raw bytes' writer", it->target.raw.bad, answer->raw.calls);
+    }
+    same_bytes("raw bytes", raw_of(it->file, it->image, it->channels) + from, it->out + act->at, sent);
+    untouched("later bytes", it->out + act->at + sent, act->size - sent);
+    same_writer(it, i);
+}
+
+/* How many of the file's bytes an act gets as raw ones. */
+static size_t raw_size(const struct session *it, size_t i) {
+    return it->acts[i].row < it->file->len ? it->acts[i].row : it->file->len;
+}
+
+/* Raw bytes from a reader that has as many as the writer lacks, or fewer, or more. */
+static void check_from_raw(struct session *it, size_t i) {
+    const struct answer *answer = &it->answers[i + 1];
+    size_t missing = it->wanted - it->came, size = raw_size(it, i), gave = answer->raw.bytes;
+    same_reader(it, i);
+    if (it->is_broken) {
+        check_unchanged(it, i, broken);
+        return;
+    }
+    /* A reader that is interrupted is asked again. */
+    int ends = is_bad(&it->target.raw, answer->raw.calls) && it->target.raw.end != 1, is_done = gave == missing;
+    if (gave > size || gave > missing || (breaks(it, i) && !is_done && gave % PIECE > 0)) {
+        differ("raw bytes read", missing, gave);
+        return;
+    }
+    if (ends) same("calls of the raw bytes' reader", it->target.raw.bad, answer->raw.calls);
+    if (!breaks(it, i)) {
+        struct refusal early = {IO, EARLY_END, 0, 0}, none = {0};
+        refused_as(ends ? fault(&it->target.raw, EARLY_END) : size < missing ? early : none, answer);
+        if (!ends) same("raw bytes read", size < missing ? size : missing, gave);
+    }
+    /* Bytes of a piece that isn't whole are lost. */
+    gave = is_done ? gave : gave / PIECE * PIECE;
+    check_took(it, i, it->file->bytes, gave, last_piece(gave));
+}
+
+static void check_write(struct session *it, size_t i) {
+    size_t size = raw_size(it, i);
+    same_reader(it, i);
+    if (it->is_broken) check_unchanged(it, i, broken);
+    else if (size > it->wanted - it->came) check_unchanged(it, i, wrong_length(it, it->came + size));
+    else {
+        if (!breaks(it, i)) refused_as((struct refusal){0}, &it->answers[i + 1]);
+        check_took(it, i, it->file->bytes, size, size);
+    }
+}
+
+static void check_close(struct session *it, size_t i) {
+    const struct answer *answer = &it->answers[i + 1];
+    struct refusal none = {0};
+    same_reader(it, i);
+    it->is_open = 0;
+    if (breaks(it, i)) {
+        refused_as(fault(&it->target.plan, NO_BYTE_TAKEN), answer);
+        return;
+    }
+    int is_done = it->came == it->wanted;
+    it->is_finished = !refused_as(it->is_broken ? broken : is_done ? none : wrong_length(it, it->came), answer);
+    if (!it->is_finished) same("calls of the writer", it->answers[i].sent.calls, answer->sent.calls);
+}
+
+static void check_beside(struct session *it, size_t i) {
+    uint32_t kind = it->acts[i].kind;
+    if (kind == TO_RAW) check_to_raw(it, i);
+    else if (!it->is_open) return;
+    else if (kind == COPY || kind == COPY_ROWS) check_copy(it, i);
+    else if (kind == FROM_RAW) check_from_raw(it, i);
+    else if (kind == WRITE) check_write(it, i);
+    else if (kind == CLOSE) check_close(it, i);
+}
+
+/* The making of the writer, before the decoder. */
+static void check_opened(struct session *it) {
+    const struct answer *answer = &it->answers[0];
+    struct picture image = it->target.image;
+    it->wanted = (size_t)image.width * image.height * image.channels;
+    it->is_open = it->wanted > 0 && answer->missing > 0;
+    if (it->is_open) same("raw bytes missing", it->wanted, answer->missing);
+    if (it->is_open || it->wanted == 0 || is_bad(&it->target.plan, answer->sent.calls)) return;
+    if (!has_failed) differ("a writer is made", 1, 0);
+    has_failed = 0, it->had_no_memory = 1;
+}
+
+/* The writer sent a beginning of each file whose image begins with what it was offered, or all of it. */
+static void check_sent(const struct session *it) {
+    static struct pixel pixels[IMAGE_PIXELS];
+    static uint8_t file[22 + 5 * (size_t)IMAGE_PIXELS];
+    struct picture image = it->target.image;
+    struct header header = {image.width, image.height, image.channels, image.colorspace};
+    size_t sent = it->answers[it->count].sent.bytes, room = it->size - it->target.at;
+    const uint8_t *out = it->out + it->target.at;
+    memset(offered + it->offered, 0, it->wanted - it->offered);
+    model_pixels(offered, pixel_count(header), header.channels, pixels);
+    size_t size = model_file(header, pixels, image.style, file);
+    if (sent > size || (it->is_finished && sent < size)) {
+        differ("bytes sent", size, sent);
+        return;
+    }
+    same_bytes("the file's beginning", file, out, sent);
+    untouched("bytes behind those sent", out + sent, room - sent + GUARD);
 }
 
 static void check_act(struct session *it, size_t i) {
@@ -317,6 +537,7 @@ static void check_act(struct session *it, size_t i) {
         if (act->kind == READ) check_piece(it, i);
         else if (act->kind == INTO) check_into(it, i);
         else if (act->kind == FINISH) check_finish(it, i);
+        else check_beside(it, i);
     } else if (act->kind == TO_BUF || act->kind == TO_VEC) {
         check_whole(it, i, act->size);
     } else {
@@ -332,7 +553,7 @@ static int check_making(struct session *it) {
     const struct answer *answer = &it->answers[0];
     struct refusal why = it->file->why;
     if (!in_memory(it) && it->file->len < 14) why = (struct refusal){IO, EARLY_END, 0, 0};
-    if (is_hit(it, 0)) why = fault_refusal(it);
+    if (is_hit(it, 0)) why = fault(&it->plan, EARLY_END);
     /* A reader's buffer found no memory. */
     if (has_failed && answer->error == IO && answer->first == NO_MEMORY) return 0;
     if (counts_bytes(it) && it->file->len >= 14 && !is_hit(it, 0)) same("bytes of the header", 14, answer->bytes);
@@ -343,6 +564,7 @@ static int check_making(struct session *it) {
 }
 
 static void check_session(struct session *it) {
+    check_opened(it);
     if (!check_making(it)) return;
     for (size_t i = 0; i < it->count && !it->is_over; i++) {
         check_act(it, i);
@@ -378,6 +600,14 @@ static void add_act(struct session *it, uint32_t kind, size_t size, size_t *at) 
     *at += size + GUARD;
 }
 
+static void plan_reader(struct random *random, struct session *it) {
+    it->plan.most = ONE_OF(random, 1, 2, 3, 5, 14, 100, 100000, 100000);
+    it->plan.capacity = ONE_OF(random, 1, 2, 3, 7, 16, 64, 100, 1000, 8192);
+    it->plan.end = below(random, 4);
+    size_t likely = 4 + it->file->len / (it->plan.most < 100 ? it->plan.most : 5);
+    it->plan.bad = chance(random, 700) ? 0 : 1 + below(random, chance(random, 500) ? 4 : likely);
+}
+
 /* Plans a session: which calls are made, and how the reader goes. */
 static size_t plan_session(struct random *random, struct session *it) {
     struct header header = it->file->header;
@@ -400,25 +630,101 @@ static size_t plan_session(struct random *random, struct session *it) {
             add_act(it, chance(random, 500) ? INTO : FINISH, 0, &at);
         }
     }
-    it->plan.most = ONE_OF(random, 1, 2, 3, 5, 14, 100, 100000, 100000);
-    it->plan.capacity = ONE_OF(random, 1, 2, 3, 7, 16, 64, 100, 1000, 8192);
-    it->plan.end = below(random, 4);
-    size_t likely = 4 + it->file->len / (it->plan.most < 100 ? it->plan.most : 5);
-    it->plan.bad = chance(random, 700) ? 0 : 1 + below(random, chance(random, 500) ? 4 : likely);
-    return at;
+    plan_reader(random, it);
+    return it->target.at = at;
+}
+/* Acts without a part of the buffer: rows that are copied, or bytes of the file. */
+static void add_count(struct session *it, uint32_t kind, uint32_t count, size_t *at) {
+    size_t i = it->count;
+    add_act(it, kind, 0, at);
+    if (it->count > i) it->acts[i].row = count;
 }
 
-static void run_session(struct random *random, struct subject_file *file, enum way way) {
+/* A writer's image, mostly of the reader's size. */
+static struct target plan_writer(struct random *random, struct header header) {
+    struct picture image = {header.width, header.height, between(random, 3, 4), below(random, 2), below(random, 3)};
+    if (pixel_count(header) > IMAGE_PIXELS || chance(random, 300))
+        image.width = between(random, 1, 60), image.height = between(random, 1, 100);
+    size_t pixels = (size_t)image.width * image.height;
+    return (struct target){image, make_plan(random, pixels * 3), make_plan(random, pixels * 3), 0};
+}
+
+/* What is left of a session's reader, and missing to its writer, if no call was refused. */
+struct sides { size_t left, row, missing; };
+
+/* Adds a call that copies, or one before it of reader or writer. */
+static void plan_copy(struct random *random, struct session *it, struct sides *sides, size_t *at) {
+    size_t len = it->file->len, left = sides->left, missing = sides->missing, size;
+    switch (below(random, 6)) {
+    case 0:
+        /* As many bytes left as missing. */
+        size = left > missing ? left - missing : missing - left < len ? missing - left : len;
+        if (left <= missing) add_count(it, WRITE, size, at), sides->missing -= size;
+        else if (size < OUT_ROOM / 16) add_act(it, READ, size, at), sides->left -= size;
+        return;
+    case 1:
+        size = below(random, left < 9000 ? left + 2 : 9000);
+        add_act(it, READ, size, at), sides->left -= size < left ? size : left;
+        return;
+    case 2:
+        size = below(random, missing < len ? missing + 2 : len + 1);
+        add_count(it, WRITE, size, at), sides->missing -= size < missing ? size : 0;
+        return;
+    case 3:
+        size = below(random, left / sides->row + 2);
+        add_count(it, COPY_ROWS, size, at);
+        size *= sides->row;
+        if (size <= left && size <= missing) sides->left -= size, sides->missing -= size;
+        return;
+    case 4:
+        if (chance(random, 500)) add_count(it, FROM_RAW, below(random, len + 1), at);
+        else if (left < OUT_ROOM / 16) add_act(it, TO_RAW, buffer_size(random, left + 1), at), sides->left = 0;
+        return;
+    default:
+        add_count(it, COPY, 0, at);
+        if (left <= missing) sides->missing -= left, sides->left = 0;
+    }
+}
+
+/* Plans a session that copies, to a writer whose bytes stand behind the others in the buffer. */
+static size_t plan_copies(struct random *random, struct session *it) {
+    struct header header = it->file->header;
+    uint32_t channels = between(random, 3, 4);
+    struct sides sides = {pixel_count(header) * channels, (size_t)header.width * channels, 0};
+    size_t at = 0;
+    it->target = plan_writer(random, header);
+    sides.missing = (size_t)it->target.image.width * it->target.image.height * it->target.image.channels;
+    add_act(it, channels == 3 ? IN_RGB : IN_RGBA, 0, &at);
+    add_act(it, PIXELS, 0, &at);
+    for (size_t n = between(random, 1, 7); n > 0; n--) plan_copy(random, it, &sides, &at);
+    if (chance(random, 500)) add_count(it, FROM_RAW, it->file->len, &at);
+    if (chance(random, 800)) add_act(it, CLOSE, 0, &at);
+    add_act(it, chance(random, 500) ? INTO : FINISH, 0, &at);
+    plan_reader(random, it);
+    it->target.at = at;
+    return at + 22 + 5 * (size_t)it->target.image.width * it->target.image.height;
+}
+
+/* A session that copies makes two allocations at most, before its calls: a third one fails. */
+static void run_session(struct random *random, struct subject_file *file, enum way way, int is_copy) {
     static struct session session;
     memset(&session, 0, sizeof session);
     session.file = file, session.way = way;
-    size_t size = plan_session(random, &session);
-    session.out = fresh(size);
-    begin(way_names[way], chance(random, 60) ? between(random, 1, 3) : 0);
-    fuzz_decode(way, &session.plan, file->bytes, file->len, session.acts, session.count, session.out, size, session.answers,
-                session.count + 1);
+    session.size = is_copy ? plan_copies(random, &session) : plan_session(random, &session);
+    session.out = fresh(session.size);
+    begin(way_names[way], chance(random, 60) ? between(random, 1, 3) : is_copy ? 3 : 0);
+    fuzz_decode(way, &session.plan, &session.target, file->bytes, file->len, session.acts, session.count, session.out,
+                session.size, session.answers, session.count + 1);
     end();
     check_session(&session);
+    if (is_copy) check_sent(&session);
+}
+
+/* Images of more than a piece come more often. */
+static void check_copies(struct random *random, struct subject_file *file) {
+    if (file->why.error) return;
+    int is_long = image_at(file, 14)->reading.pixels > PIECE / 4;
+    for (int k = is_long ? 3 : chance(random, 150); k > 0; k--) run_session(random, file, below(random, WAYS), 1);
 }
 
 /* Rows by an index, marks and clones */
@@ -596,6 +902,7 @@ void check_file(struct random *random, const struct bytes *bytes) {
     check_free_buffer(random, &file);
     check_free_vector(random, &file);
     for (enum way way = 0; way < WAYS; way++)
-        if (way == OF_SLICE || chance(random, 350)) run_session(random, &file, way);
+        if (way == OF_SLICE || chance(random, 350)) run_session(random, &file, way, 0);
     check_places(random, &file);
+    check_copies(random, &file);
 }

@@ -107,20 +107,6 @@ static void check_vector(struct random *random, struct subject_image *image, con
 
 /* Writers */
 
-static struct plan make_plan(struct random *random, size_t size) {
-    struct plan plan = {.most = ONE_OF(random, 1, 2, 3, 7, 100, 1000, 100000, 100000), .end = below(random, 4)};
-    size_t likely = 4 + size / (plan.most < 4096 ? plan.most : 4096);
-    plan.bad = chance(random, 600) ? 0 : 1 + below(random, likely);
-    return plan;
-}
-
-static int is_hit(const struct plan *plan, const struct answer *answer) { return plan->bad && answer->calls >= plan->bad; }
-
-static struct refusal fault(const struct plan *plan) {
-    static const uint64_t kinds[] = {BROKEN, INTERRUPTED, LATE, NO_BYTE_TAKEN};
-    return (struct refusal){IO, kinds[plan->end], 0, 0};
-}
-
 /* A writer got a beginning of the file, and nothing else was written. */
 static void check_beginning(const struct wanted *it, const uint8_t *out, size_t size, size_t sent) {
     if (sent > it->size || sent > size) {
@@ -140,9 +126,9 @@ static void check_writer(struct random *random, struct subject_image *image, con
     fuzz_encode(2, &it->picture, &plan, image->raw, image->len, out, size, &answer);
     end();
     check_beginning(it, out, size, answer.bytes);
-    if (is_hit(&plan, &answer)) {
+    if (is_bad(&plan, answer.calls)) {
         same("calls of the writer", plan.bad, answer.calls);
-        refused_as(fault(&plan), &answer);
+        refused_as(fault(&plan, NO_BYTE_TAKEN), &answer);
     } else if (size < it->size) {
         refused_as((struct refusal){IO, NO_BYTE_TAKEN, 0, 0}, &answer);
         same("bytes sent", size, answer.bytes);
@@ -248,7 +234,7 @@ static void check_given(struct pieces *it, size_t i) {
         refused_as((struct refusal){LENGTH, all, it->it->picture.width, it->it->picture.height}, answer);
         same("calls of the writer", it->answers[i].calls, answer->calls);
     } else if (is_hit_now(it, i + 1)) {
-        refused_as(fault(&it->plan), answer);
+        refused_as(fault(&it->plan, NO_BYTE_TAKEN), answer);
         it->has_fault = 1;
     } else if (has_failed && answer->error == IO && answer->first == NO_MEMORY) {
         it->has_fault = 1;
@@ -269,7 +255,7 @@ static void check_finished(struct pieces *it, size_t i) {
         refused_as((struct refusal){LENGTH, it->came, picture->width, picture->height}, answer);
         same("calls of the writer", it->answers[i].calls, answer->calls);
     } else if (is_hit_now(it, i + 1)) {
-        refused_as(fault(&it->plan), answer);
+        refused_as(fault(&it->plan, NO_BYTE_TAKEN), answer);
     } else if (!has_failed || answer->error != IO || answer->first != NO_MEMORY) {
         refused_as((struct refusal){0}, answer);
         if (it->sink == TO_SINK) same("bytes sent", it->it->size, answer->bytes);
@@ -288,7 +274,7 @@ static void check_acts(struct pieces *it) {
     const struct answer *made = &it->answers[0];
     size_t last = it->count - 1;
     if (is_hit_now(it, 0)) {
-        refused_as(fault(&it->plan), made);
+        refused_as(fault(&it->plan, NO_BYTE_TAKEN), made);
     } else if (has_failed && made->error == MEMORY) {
         refused_as((struct refusal){MEMORY, 0, 0, 0}, made);
     } else if (has_failed && made->error == IO) {

@@ -4,16 +4,21 @@
 #include <stddef.h>
 #include <stdint.h>
 
+struct count { size_t calls, bytes; };
 struct answer {
     uint64_t error, first, second, third;
     size_t size, left, ahead, calls, bytes;
     uint32_t width, height, channels, colorspace;
+    size_t missing;
+    struct count sent, raw;
 };
 struct act { uint32_t kind, row; size_t at, size; };
 struct plan { size_t most, bad; uint32_t end; size_t capacity; };
 struct picture { uint32_t width, height, channels, colorspace, style; };
+struct target { struct picture image; struct plan plan, raw; size_t at; };
 
-enum act_kind { TO_BUF, TO_VEC, IN_RGB, IN_RGBA, PIXELS, READ, INTO, FINISH, ROWS };
+enum act_kind { TO_BUF, TO_VEC, IN_RGB, IN_RGBA, PIXELS, READ, INTO, FINISH, ROWS, COPY, COPY_ROWS, TO_RAW, FROM_RAW, WRITE,
+                CLOSE };
 enum error { NONE, MAGIC, CHANNELS, COLORSPACE, DIMENSIONS, LENGTH, TOO_SMALL, BUFFER_END, PADDING, IO, MEMORY };
 enum io_kind { BROKEN = 1, INTERRUPTED, LATE, EARLY_END, NO_BYTE_TAKEN, NO_MEMORY, OTHER };
 /* Ways to make a decoder: of a slice; of a stream: a slice, a source, a source behind a buffer; of a reader with a buffer:
@@ -21,8 +26,9 @@ enum io_kind { BROKEN = 1, INTERRUPTED, LATE, EARLY_END, NO_BYTE_TAKEN, NO_MEMOR
 enum way { OF_SLICE, STREAM_SLICE, STREAM_SOURCE, STREAM_BUFFER, SHOWN_SLICE, SHOWN_SOURCE, SHOWN_BUFFER, SHOWN_CURSOR, WAYS };
 enum sink { TO_SINK, TO_SLICE, TO_VECTOR };
 
-void fuzz_decode(uint32_t way, const struct plan *plan, const uint8_t *file, size_t len, const struct act *acts, size_t count,
-                 uint8_t *out, size_t room, struct answer *answers, size_t answer_count);
+void fuzz_decode(uint32_t way, const struct plan *plan, const struct target *target, const uint8_t *file, size_t len,
+                 const struct act *acts, size_t count, uint8_t *out, size_t room, struct answer *answers,
+                 size_t answer_count);
 void fuzz_decode_free(uint32_t way, const uint8_t *file, size_t len, uint8_t *out, size_t room, struct answer *answer);
 void fuzz_rows(const uint8_t *indexed, size_t indexed_len, uint32_t every, const uint8_t *file, size_t len,
                const struct act *acts, size_t count, uint8_t *out, size_t room, struct answer *made,

@@ -1,6 +1,6 @@
-//! Two files are compared by their pixels, in the memory of two pieces. The loops have proof files, with
-//! their invariants, and `difference` an answer.
-ghost use Rattle.std.specs.Prelude.{◌≡◌, ◌+◌, ◌-◌, ◌<◌, ℕ, List, ◌++◌, length, Option, None, Some, IsOk, IfOk, OnOk, IfSome, IsTrue};
+//! Two files are compared by their pixels, in the memory of two pieces. Only the loops have proof
+//! files, with their invariants.
+ghost use Rattle.std.specs.Prelude.{◌≡◌, ◌+◌, ◌^◌, ◌<◌, ◌≤◌, ℕ, List, ◌++◌, length, take, drop, None, Some, IsOk, IfOk, OnOk, IfSome, IsTrue};
 ghost use Rattle.qoi.specs.declared.header.Header.{Header};
 ghost use Rattle.qoi.specs.DecoderState.{DecoderState, output_byte_count};
 ghost use Rattle.qoi.specs.Images.{file_image, front_image, HasFrontFile};
@@ -28,28 +28,58 @@ fn first_unequal(one: &[u8], other: &[u8]) -> Option<usize>
     None
 }
 
-/// The first byte in which the next pieces of two images differ.
+// The first of the next `count` bytes in which two images differ, behind the bytes `given` that
+// both begin with.
+fn unequal_ahead(here: &[u8], there: &[u8], count: usize) -> Option<usize>
+    requires here { count ≤ length here.now }
+    requires there { count ≤ length there.now }
+    ensures equal { result ≡ None → take count here.now ≡ take count there.now }
+    ensures first { (one other given : List ℕ) → given ≡ take (length given) one
+        → given ≡ take (length given) other
+        → take count here.now ≡ take count (drop (length given) one)
+        → take count there.now ≡ take count (drop (length given) other)
+        → IfSome result (λ k. DiffersAt one other (length given + k)) }
+    ensures within { IfSome result (λ k. k < count) }
+{
+    pieces_that_come();
+    first_unequal(&here[..count], &there[..count])
+}
+
+// The same as a byte of the images, behind `at` bytes that both begin with.
+fn unequal_behind(at: usize, here: &[u8], there: &[u8], count: usize) -> Option<usize>
+    requires here { count ≤ length here.now }
+    requires there { count ≤ length there.now }
+    requires fits { at + count < 2 ^ 64 }
+    ensures equal { result ≡ None → take count here.now ≡ take count there.now }
+    ensures first { (one other given : List ℕ) → at ≡ length given
+        → given ≡ take (length given) one → given ≡ take (length given) other
+        → take count here.now ≡ take count (drop (length given) one)
+        → take count there.now ≡ take count (drop (length given) other)
+        → IfSome result (DiffersAt one other) }
+{
+    let k = unequal_ahead(here, there, count)?;
+    Some(at + k)
+}
+
+/// The first byte in which two images of `size` bytes differ, if it stands in their next pieces.
 fn next_difference(
     first: &mut PixelReader<Bytes<'_>>,
     second: &mut PixelReader<Bytes<'_>>,
-    here: &mut [u8],
-    there: &mut [u8],
+    size: usize,
 ) -> Result<Option<usize>>
-    requires { length here.old ≡ length there.old }
     ensures equal { (d e : DecoderState (List ℕ)) (bytes others given : List ℕ)
         → HasGiven d (Some bytes) (Some first.old.reader) given first.old
         → HasGiven e (Some others) (Some second.old.reader) given second.old
         → IfOk result (λ o. o ≡ None → (more : List ℕ)
         × HasGiven d (Some bytes) (Some first.new.reader) (given ++ more) first.new
         × HasGiven e (Some others) (Some second.new.reader) (given ++ more) second.new) }
-    ensures first { (d e : DecoderState (List ℕ)) (bytes others given : List ℕ) (at : ℕ)
+    ensures first { (d e : DecoderState (List ℕ)) (bytes others given : List ℕ)
         → HasGiven d (Some bytes) (Some first.old.reader) given first.old
         → HasGiven e (Some others) (Some second.old.reader) given second.old
-        → at ≡ length given
-        → IfOk result (λ o. IfSome o (λ k. DiffersAt (front_image d.channels d.header bytes)
-        (front_image e.channels e.header others) (at + k))) }
-    ensures within { IfOk result (λ o. IfSome o (λ k. k < pixels_left first.old)) }
-    ensures fewer { 0 < pixels_left first.old → 0 < length here.old
+        → size ≡ output_byte_count d
+        → IfOk result (λ o. IfSome o (DiffersAt (front_image d.channels d.header bytes)
+        (front_image e.channels e.header others))) }
+    ensures fewer { 0 < pixels_left first.old
         → OnOk result (pixels_left first.new < pixels_left first.old) }
     ensures whole { (d e : DecoderState (List ℕ)) (bytes others given : List ℕ)
         → HasGiven d (Some bytes) (Some first.old.reader) given first.old
@@ -57,24 +87,14 @@ fn next_difference(
         → output_byte_count d ≡ output_byte_count e
         → StandsAhead d.header bytes → StandsAhead e.header others → IsOk result }
 {
-    pieces_that_come();
-    first.left();
+    let (mut here, mut there) = ([0; 4096], [0; 4096]);
+    let at = size.saturating_sub(first.left());
     second.left();
-    let size = first.read(here)?;
-    if second.read(there)? != size {
+    let count = first.read(&mut here)?;
+    if second.read(&mut there)? != count {
         return Err(Error::UnexpectedBufferEnd);
     }
-    Ok(first_unequal(&here[..size], &there[..size]))
-}
-
-// How many bytes were read of an image of so many.
-fn bytes_read(pixels: &PixelReader<Bytes<'_>>, size: usize) -> usize
-    ensures read { (d : DecoderState (List ℕ)) (start : Option (List ℕ)) (given : List ℕ)
-        → HasGiven d start (Some pixels.now.reader) given pixels.now
-        → size ≡ output_byte_count d → result ≡ length given }
-    ensures left { result ≡ size - pixels_left pixels.now }
-{
-    size.saturating_sub(pixels.left())
+    Ok(unequal_behind(at, &here, &there, count))
 }
 
 /// The first byte in which two images of `size` bytes differ.
@@ -95,11 +115,10 @@ fn difference(
         → StandsAhead other.entry.header other.entry.reader → IsOk result }
 {
     let (mut first, mut second) = (one.into_pixels(), other.into_pixels());
-    let (mut here, mut there) = ([0; 4096], [0; 4096]);
     while first.left() > 0 {
-        let at = bytes_read(&first, size);
-        if let Some(k) = next_difference(&mut first, &mut second, &mut here, &mut there)? {
-            return Ok(Some(at + k));
+        let found = next_difference(&mut first, &mut second, size)?;
+        if found.is_some() {
+            return Ok(found);
         }
     }
     if second.left() > 0 {
@@ -116,8 +135,8 @@ fn have_one_shape(one: &Header, other: &Header) -> bool
     one.width == other.width && one.height == other.height && one.channels == other.channels
 }
 
-/// The first byte in which the images of two files differ; none if all are the same. Two files of one
-/// shape are never refused.
+/// The first byte in which the images of two files differ; none if all are the same. Two files of
+/// one shape are never refused.
 pub fn first_difference(one: &[u8], other: &[u8]) -> Result<Option<usize>>
     ensures equal { IfOk result (λ o. o ≡ None → file_image one.now ≡ file_image other.now) }
     ensures first { IfOk result (λ o. IfSome o
