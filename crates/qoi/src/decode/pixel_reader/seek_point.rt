@@ -1,4 +1,4 @@
-//! Places in the image of a file, between two chunks.
+//! Points in the image of a file, between two chunks, from which decoding goes on.
 ghost use Rattle.std.specs.Prelude.{◌≡◌, ◌*◌, ◌<◌, ◌≤◌, length, drop, false, IsOk, IfOk};
 ghost use Rattle.qoi.specs.Qoi.{Past, channels_number, pixel_count, pixels_max};
 ghost use Rattle.qoi.specs.inner.Hashed.{pixel_of_lanes, HoldsSeen};
@@ -8,7 +8,6 @@ ghost use Rattle.qoi.specs.pieces.RowIndex.{IsPlaceOf, GoesOnAt};
 use crate::decode::Decoder;
 use crate::decode::hashed::Hashed;
 use crate::decode::pixel_reader::PixelReader;
-use crate::decode::pixel_reader::room::DECODED_AHEAD;
 use crate::decode::pixel_reader::unread::Unread;
 use crate::decode::reader::Bytes;
 use crate::decode::table::TermTable;
@@ -17,13 +16,13 @@ use crate::packed::Packed;
 use crate::types::Channels;
 use std::marker::Model;
 
-/// A place between two chunks of a file's image: the pixels that the index positions hold, the last
-/// pixel, how many bytes of the file stand before the place, how many pixels are to come, and how
-/// many of those are copies of the last pixel, from the run before the place.
+/// A point between two chunks of a file's image: the pixels that the index positions hold, the last
+/// pixel, how many bytes of the file stand before the point, how many pixels are to come, and how
+/// many of those are copies of the last pixel, from the run before the point.
 ///
 /// It has 288 bytes. A contract sees these five.
 #[derive(Drop)]
-pub(super) struct Place {
+pub(super) struct SeekPoint {
     table: [Packed; 64],
     last: Packed,
     at: usize,
@@ -31,7 +30,7 @@ pub(super) struct Place {
     run: usize,
 }
 
-impl Model for Place {
+impl Model for SeekPoint {
     ghost use Rattle.std.specs.Prelude.{◌≡◌, ◌≤◌, ◌<◌, length};
     ghost use Rattle.qoi.specs.Qoi.{run_max};
     ghost use Rattle.qoi.specs.pieces.RowIndex.{PlaceState};
@@ -97,15 +96,15 @@ pub(super) fn size_in(channels: Channels, pixels: usize) -> usize
     }
 }
 
-impl Place {
-    /// The place behind what a reader of the file keeps, which isn't the end of the image.
-    pub(super) fn of(file: &[u8], reader: &PixelReader<Bytes<'_>>) -> Place
+impl SeekPoint {
+    /// The point behind what a reader of the file keeps, which isn't the end of the image.
+    pub(super) fn of(file: &[u8], reader: &PixelReader<Bytes<'_>>) -> SeekPoint
         requires going { reader.now.refused ≡ false }
         requires some { 0 < reader.now.unread.undecoded }
         ensures { IsPlaceOf file.now reader.now result }
     {
         let channels = reader.decoder.channels.as_u8() as usize;
-        Place {
+        SeekPoint {
             table: pixels_of(&reader.unread.table),
             last: packed(reader.unread.last),
             at: file.len().saturating_sub(reader.decoder.reader.0.len()),
@@ -140,16 +139,12 @@ impl Place {
         let channels = decoder.channels;
         Ok(PixelReader {
             decoder,
-            unread: Unread {
-                table: table_of(&self.table),
-                last: hashed(self.last),
-                bytes: [0; DECODED_AHEAD],
-                from: 0,
-                to: 0,
-                run: size_in(channels, self.run),
-                undecoded: size_in(channels, self.left),
-                fault: None,
-            },
+            unread: Unread::behind(
+                table_of(&self.table),
+                hashed(self.last),
+                size_in(channels, self.run),
+                size_in(channels, self.left),
+            ),
             refused: false,
         })
     }

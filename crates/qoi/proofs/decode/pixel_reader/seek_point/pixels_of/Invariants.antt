@@ -2,7 +2,7 @@
 use Rattle.std.proofs.Common.{◌≡◌, ◌<◌, ℕ, length, get_or}
 use Rattle.qoi.specs.Qoi.{Past, blank, seen}
 use Rattle.qoi.specs.inner.Hashed.{HoldsSeen}
-use Rattle.qoi.proofs.decode.pixel_reader.place.pixels_of.Given as goal
+use Rattle.qoi.proofs.decode.pixel_reader.seek_point.pixels_of.Given as goal
 
 abbrev pub invariant-loop-i : goal.invariant-loop-i
 invariant-loop-i l = record {
