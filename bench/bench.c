@@ -5,7 +5,7 @@
                                                   least of each; before it "wrong", row, who, and of how many
                                                   pictures it made other bytes or pixels, if of any
    bench chunks - - PICTURE..                     how many chunks the files have, and how many RGB and RGBA ones
-   bench index ROUNDS - PICTURE..                 a line for each picture and index of its rows: rows between two places,
+   bench index ROUNDS - PICTURE..                 a line for each picture and index of its rows: rows between two points,
                                                   bytes, seconds of the last row with all rows above, of making the
                                                   index, of the last row by it
    bench keep WHO COUNT PICTURE                   kilobytes that COUNT files take, which are made and kept, and the bytes
@@ -111,7 +111,7 @@ encode port_encode_buffer, port_encode_vector, port_encode_slice, port_encode_gr
 decode port_decode_buffer, port_decode_vector, port_decode_stream, port_decode_stream_buffered, port_decode_buf_read,
     port_decode_rows, port_decode_rows_buf_read, port_copy, port_copy_by_loop, port_copy_tight, port_copy_tight_by_loop;
 keep port_keep;
-/* The last row, so many times: by an index with a place each `every` rows, which is made first, or if that is 0 with all
+/* The last row, so many times: by an index with a point each `every` rows, which is made first, or if that is 0 with all
    rows above. */
 size_t port_last_row(uint8_t *out, size_t room, const uint8_t *file, size_t len, uint32_t every, uint32_t times);
 

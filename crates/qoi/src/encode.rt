@@ -12,18 +12,18 @@ ghost use Rattle.qoi.specs.inner.Sending.{WritesImage};
 mod block;
 mod blocks;
 mod carry;
-mod chunks;
 mod coder;
 pub(crate) mod fresh;
+mod image;
 pub(crate) mod piece;
 mod pixel_writer;
 mod pixels;
-pub(crate) mod runs;
+pub(crate) mod repeats;
 mod sparse;
 mod table;
 
 use crate::consts::{QOI_HEADER_SIZE, QOI_PADDING_SIZE};
-use crate::encode::chunks::{LEAST_BLOCK, encode_file, encode_in_one_piece};
+use crate::encode::image::{LEAST_BLOCK, encode_file, encode_in_one_piece};
 use crate::encode::piece::{FULL_ROOM, LEAST_ROOM, SMALL_ROOM, SPARE, TINY_ROOM};
 pub use crate::encode::pixel_writer::PixelWriter;
 pub(crate) use crate::encode::pixel_writer::send_bytes;
@@ -241,8 +241,7 @@ impl<'a> Encoder<'a> {
         self.header.encode_max_len()
     }
 
-    // Writes the file of the image to memory, and returns how many bytes it has: through a piece
-    // with little room, if the image has no block, or fewer raw bytes than a full piece.
+    // Writes the file of the image to memory, and returns how many bytes it has.
     #[inline(always)]
     fn write_to_memory<W: Writer>(&self, writer: &mut W) -> Result<usize>
         requires room { max_file_len self.now.header ≤ W.room writer.old }
@@ -251,6 +250,16 @@ impl<'a> Encoder<'a> {
         if self.data.len() < LEAST_BLOCK {
             return encode_in_one_piece::<W, LEAST_ROOM>(writer, self);
         }
+        self.write_blocks_to_memory(writer)
+    }
+
+    // `write_to_memory` of an image that isn't below `LEAST_BLOCK`: through a piece with little room,
+    // if there are fewer raw bytes than a full piece has.
+    #[inline(always)]
+    fn write_blocks_to_memory<W: Writer>(&self, writer: &mut W) -> Result<usize>
+        requires room { max_file_len self.now.header ≤ W.room writer.old }
+        ensures { WritesImage W.wrote W.IsFault self.now writer.old writer.new result }
+    {
         if self.data.len() < FULL_ROOM - SPARE {
             return encode_file::<W, SMALL_ROOM>(writer, self);
         }
@@ -282,7 +291,8 @@ impl<'a> Encoder<'a> {
             });
         }
         let mut writer = BytesMut::new(buf);
-        // Asked here first: each call that passes a `Result` on copies the room of an error.
+        // Asked here, not by `write_to_memory`: each call that passes a `Result` on copies the room
+        // of an error.
         if self.data.len() < LEAST_BLOCK {
             return encode_in_one_piece::<_, LEAST_ROOM>(&mut writer, self);
         }
@@ -292,7 +302,7 @@ impl<'a> Encoder<'a> {
         if required <= TINY_ROOM - SPARE {
             return encode_in_one_piece::<_, TINY_ROOM>(&mut writer, self);
         }
-        self.write_to_memory(&mut writer)
+        self.write_blocks_to_memory(&mut writer)
     }
 
     /// Encodes the image into a new vector, which holds only the file.

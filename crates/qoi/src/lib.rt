@@ -14,7 +14,7 @@
 //!   that it reads from: [`Bytes`] of a slice, [`Buffered`], any `Read`.
 //! - [`PixelReader`], of `Decoder::into_pixels`, and [`PixelWriter`] decode and encode images that
 //!   needn't fit into memory, piece by piece.
-//! - [`RowIndex`] reads the image of a file in memory from any row on; a [`Mark`] is one place in it,
+//! - [`RowIndex`] reads the image of a file in memory from any row on; a [`Mark`] is one point in it,
 //!   from which a `PixelReader` goes on as often as you like.
 //! - A function of [`laws`] does nothing: its contract states a fact, for a caller's proof.
 //! - [`decode_header`] looks at the first fourteen bytes alone; [`encode_max_len`] is the most

@@ -3,6 +3,6 @@
 //! stand in the crate's root, too.
 pub use crate::chunk::{Chunk, read_chunk};
 pub use crate::decode::{Buffered, Bytes, Reader, Reader as PieceReader};
-pub use crate::encode::runs::repeats;
+pub use crate::encode::repeats::repeats;
 pub use crate::pixel::{Pixel, SupportedChannels};
 pub use crate::writers::{BytesMut, GenericWriter, Writer};

@@ -88,7 +88,7 @@ from_none : (n : ℕ) → n ≡ 0 + n
 from_none n = omega arith
 
 -- no bytes, no copies
-no_copies : (c run last : ℕ) (gone : Past) → IsChannels c → run ≡ 0 → copies c run last ++ gone ≡ gone
+pub no_copies : (c run last : ℕ) (gone : Past) → IsChannels c → run ≡ 0 → copies c run last ++ gone ≡ gone
 no_copies c run last gone is none = ap (λ z. z ++ gone) (by_channels (λ d. run ≡ 0 → copies d run last ≡ []) is (λ e. rw e refl) (λ e. rw e refl) none)
 
 -- the whole pixels in so many bytes

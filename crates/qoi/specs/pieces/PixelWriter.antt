@@ -6,7 +6,7 @@ use Rattle.qoi.specs.Raw.{image_byte_count}
 use Rattle.qoi.specs.Errors.{IsIoError}
 use Rattle.qoi.specs.Sent.{SendsPart}
 use Rattle.qoi.specs.EncoderState.{EncoderState}
-use Rattle.qoi.specs.inner.Sending.{appended, ImageBetween, Pending}
+use Rattle.qoi.specs.inner.Sending.{appended, ImageBetween, ImageState}
 
 -- the writer as it stands, header and style of the file, how many raw bytes haven't come, whether the
 -- writer reported a fault, the raw bytes that are held, and what stands between two blocks
@@ -17,7 +17,7 @@ pub record WriterState (W : Type 0) : Type 0 where
   pub left : ℕ
   pub failed : Bool
   pub held : List ℕ
-  pub pending : Pending
+  pub pending : ImageState
 
 -- how many raw bytes of the image haven't come yet
 abbrev pub raw_left : {W : Type 0} → WriterState W → ℕ

@@ -21,9 +21,9 @@ IsFileDecoder file d = (header_of file ≡ Ok d.header) × (d ≡ file_decoder d
 abbrev pub row_size : Channels → Header → ℕ
 row_size channels h = rectangles.row_size channels h
 
--- A place between two chunks of a file: what its index positions hold, the last pixel, how many bytes of
--- the file stand before it, how many pixels are to come, and how many of those are copies of the last
--- pixel, from the run before the place.
+-- A point between two chunks of a file, from which decoding goes on: what its index positions hold, the
+-- last pixel, how many bytes of the file stand before it, how many pixels are to come, and how many of
+-- those are copies of the last pixel, from the run before the point.
 pub record PlaceState : Type 0 where
   pub table : List RgbaPixel
   pub last : RgbaPixel
@@ -31,7 +31,7 @@ pub record PlaceState : Type 0 where
   pub left : ℕ
   pub run : ℕ
 
--- the place is one of the file's image of n pixels: it stands behind these chunks, of whose pixels all but
+-- the point is one of the file's image of n pixels: it stands behind these chunks, of whose pixels all but
 -- those of the run are `gone`
 pub record StandsAt (n : ℕ) (file : List ℕ) (m : PlaceState) : Type 0 where
   pub cs : List Chunk
@@ -45,11 +45,11 @@ pub record StandsAt (n : ℕ) (file : List ℕ) (m : PlaceState) : Type 0 where
   pub last : m.last ≡ previous (then_chunks [] cs)
   pub left : length gone + m.left ≡ n
 
--- all places are such
+-- all points are such
 unfoldable pub ArePlaces : ℕ → List ℕ → List PlaceState → Type 0
 ArePlaces n file places = All (StandsAt n file) places
 
--- An image stands in the file, whole, and these are places of it.
+-- An image stands in the file, whole, and these are points of it.
 pub record IndexesFile (file : List ℕ) (places : List PlaceState) : Type 0 where
   pub h : Header
   pub header : header_of file ≡ Ok h
@@ -64,7 +64,7 @@ IsRowIndex file places = IndexesFile file places
 unfoldable pub ReadsFile : Channels → Header → List ℕ → PixelsState (List ℕ) → Type 0
 ReadsFile channels h file p = (header_of file ≡ Ok h) × (given : List ℕ) × HasGiven (file_decoder channels h file) (Some (drop header_size file)) (Some p.reader) given p
 
--- the place behind what a reader keeps, of which some pixels are to come
+-- the point behind what a reader keeps, of which some pixels are to come
 pub record IsPlaceOf (file : List ℕ) (p : PixelsState (List ℕ)) (m : PlaceState) : Type 0 where
   pub some : 0 < p.unread.undecoded
   pub within : KeepsWithin p.unread
@@ -75,7 +75,7 @@ pub record IsPlaceOf (file : List ℕ) (p : PixelsState (List ℕ)) (m : PlaceSt
   pub left : m.left ≡ p.unread.undecoded / channels_number p.channels
   pub run : m.run ≡ p.unread.run / channels_number p.channels
 
--- a reader that goes on at a place, with these bytes ahead and into these channels
+-- a reader that goes on at a point, with these bytes ahead and into these channels
 pub record GoesOnAt (c : Channels) (h : Header) (rest : List ℕ) (m : PlaceState) (q : PixelsState (List ℕ)) : Type 0 where
   pub valid : IsValid h
   pub header : q.header ≡ h

@@ -35,7 +35,7 @@ KeepsPixels channels p = KeepsWithin p × (p.undecoded % channels ≡ 0) × (p.r
     × (0 < p.run → p.run < p.undecoded)
 
 -- it is of an image of this header in these channels: no more than all of it, whole pixels unless it was
--- refused, and no error stands in its place
+-- refused, and `fault` has no error
 abbrev pub IsRestOf : Header → Channels → Bool → Unread → Type 0
 IsRestOf h channels refused p = IsValid h × KeepsWithin p × (bytes_left p ≤ byte_count h (channels_number channels))
     × (refused ≡ false → KeepsPixels (channels_number channels) p) × (p.fault ≡ None)
@@ -62,14 +62,14 @@ pub record GivesMore (file_channels channels : ℕ) (ahead rest : Option (List �
   pub pixels : KeepsPixels channels new
   -- as many bytes fewer are left
   pub left : size + bytes_left new ≡ bytes_left old
-  -- and the place for an error is as before
+  -- and `fault` is as before
   pub fault : new.fault ≡ old.fault
 
 -- of an image of n pixels the first `all` have so many raw bytes and 3,072 more, or are all there are
 abbrev pub AreEnough : ℕ → ℕ → ℕ → ℕ → Type 0
 AreEnough channels n bytes all = (all ≤ n) × (min (bytes + 3072) (n * channels) ≤ all * channels)
 
--- A step that was to give `size` bytes was refused: the place for the error has one, and of each image it
+-- A step that was to give `size` bytes was refused: `fault` has an error, and of each image it
 -- says why chunks are refused, also if the image had no more pixels than are enough.
 pub record RefusesMore (file_channels channels size : ℕ) (in_memory : Bool) (ahead rest : Option (List ℕ)) (old : Unread) (fault : Option Error) : Type 0 where
   pub refused : (n : ℕ) (start : Option (List ℕ)) (given : List ℕ) → IsUnread file_channels channels n start ahead given old

@@ -242,6 +242,7 @@ impl<const N: usize, const F: usize> Progress<N, F> {
         while now.taken <= far && now.at <= top {
             now = now.short_series::<AT_ONCE>(table, bytes, out);
             if is_short::<N>(now.next) {
+                // `AT_ONCE` were decoded, and room for others isn't known.
                 continue;
             }
             if now.next >= QOI_OP_RGB {

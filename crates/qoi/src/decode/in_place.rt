@@ -74,14 +74,15 @@ pub(super) fn take_in_place<const N: usize, const F: usize>(
     ensures sizes { IsInPlace N (length out.new) result.0.reached result.1 }
     ensures within { result.0.taken ≤ length bytes.now }
 {
-    let none = Decoded {
+    let start = Decoded {
         taken: 0,
         reached: from,
     };
+    // A piece that is decoded in place has the room (`IN_PLACE`).
     if bytes.len() < INPUT_ROOM || out.len() < OUTPUT_ROOM {
-        return (none, 0);
+        return (start, 0);
     }
-    let front = chunks_ahead::<N, F, 8>(table, none, bytes, out);
+    let front = chunks_ahead::<N, F, 8>(table, start, bytes, out);
     if is_run_to_end::<N>(bytes[front.taken], out.len() - front.reached.at) {
         // Not joined with the other way: what the loops return would be copied, and the copy
         // waits for the stores before it.

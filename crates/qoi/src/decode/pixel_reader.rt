@@ -12,9 +12,9 @@ ghost use Rattle.qoi.specs.Reading.{StandsAhead, IsCutAhead, IsWrongAhead, SaysW
 ghost use Rattle.qoi.specs.Rectangles.{row_bytes, rectangle, row_size};
 
 pub(super) mod mark;
-mod place;
 mod room;
 pub(super) mod row_index;
+mod seek_point;
 pub(super) mod unread;
 
 use crate::decode::Decoder;

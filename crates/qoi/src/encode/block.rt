@@ -31,9 +31,8 @@ use crate::encode::block::spelling::{Spelled, are_all_rgba, spell_block, spell_r
 use crate::encode::block::steps::{Changes, find_changes};
 use crate::encode::block::storing::store_sixteen;
 use crate::encode::carry::Carry;
-use crate::encode::coder::style_in;
 use crate::encode::piece::{OpenPiece, Piece};
-use crate::encode::pixels::FrontBlock;
+use crate::encode::pixels::{FrontBlock, style_in};
 use crate::encode::table::PixelTable;
 use crate::packed::Packed;
 use crate::types::Style::{self, Places, Reference, Tight};

@@ -1,20 +1,19 @@
 //! Writes what is at the front of an image's pixels into a piece: blocks of sixteen, and between
 //! two of them repeats are carried (QOI specification 1.0, "Data" and "Chunks").
-ghost use Rattle.std.specs.Prelude.{◌≡◌, ℕ, ◌<◌, ◌≤◌, true, List, Some, length, slice_get, IsTrue};
+ghost use Rattle.std.specs.Prelude.{◌≡◌, ℕ, ◌<◌, ◌≤◌, List, Some, length, slice_get, IsTrue};
 ghost use Rattle.qoi.specs.Qoi.{RgbaPixel};
 ghost use Rattle.qoi.specs.Styles.{Style, style_in};
-ghost use Rattle.qoi.specs.inner.BlockLoop.{GoesByBlocks, IsCarried, WritesBlocks};
+ghost use Rattle.qoi.specs.inner.BlockLoop.{GoesByBlocks, WritesBlocks};
 ghost use Rattle.qoi.specs.inner.block.Planes.{last_pixel};
 ghost use Rattle.qoi.specs.inner.Coder.{pixels_in, WritesSome};
 
 use crate::consts::QOI_RUN_MAX;
-use crate::encode::block::planes::Planes;
 use crate::encode::block::{Block, write_in_lanes};
 use crate::encode::carry::{Carry, FRONT_CARRIED};
-use crate::encode::coder::{Coder, LastPixel, style_in};
+use crate::encode::coder::{Coder, LastPixel};
 use crate::encode::piece::{OpenPiece, Piece, REPEATS_AT_ONCE};
-use crate::encode::pixels::{FrontBlock, PixelOf, Pixels};
-use crate::encode::runs::repeats_of;
+use crate::encode::pixels::{FrontBlock, Pixels, style_in};
+use crate::encode::repeats::repeats_of;
 use crate::encode::sparse::{goes_by_marks, write_marked_pixels};
 use crate::encode::table::PixelTable;
 use crate::packed::Packed;
@@ -31,7 +30,7 @@ pub(super) fn goes_by_blocks<const N: usize>(style: Style, last: LastPixel, raw:
         → GoesByBlocks style last (length (pixels_in raw.entry)) (pixels_in raw.entry) }
 {
     // Not in `Tight`: there `write_front_block` may make a coder of even the first block's carry,
-    // and `coder_after` makes it as one after a fresh pixel.
+    // and `Carry::last_pixel` gives it as after a fresh pixel.
     let may_open = match style {
         Reference | Places => last.repeats == 0,
         Tight => false,
@@ -68,35 +67,6 @@ pub(super) fn begin_with_rgba<const N: usize>(
     let (second, third) = (raw.skip(1), raw.skip(2));
     let (one, two) = (raw.first().px, second.first().px);
     is_rgba(table, last, one) && is_rgba(table, one, two) && is_rgba(table, two, third.first().px)
-}
-
-// What is carried after the coder's last pixel. `begun` isn't: a fresh pixel came, or the block
-// opens with one (`goes_by_blocks`).
-#[inline(always)]
-fn carried<const N: usize>(coder: &Coder<N>) -> Carry<N>
-    ensures { IsCarried coder.now.last result }
-{
-    Carry {
-        before: Planes::splat::<N>(PixelOf { px: coder.last.px }),
-        count: coder.last.repeats as u8,
-        placed: coder.last.placed,
-    }
-}
-
-// The coder after a fresh pixel and the repeats that are carried.
-#[inline(always)]
-fn coder_after<const N: usize>(style: Style, carry: Carry<N>) -> Coder<N>
-    ensures style { result.style ≡ style }
-    ensures begun { result.last.begun ≡ true }
-    ensures carried { IsCarried result.last carry.entry }
-{
-    let last = LastPixel {
-        px: carry.before.last(),
-        begun: true,
-        placed: carry.placed,
-        repeats: usize::from(carry.count),
-    };
-    Coder::new(style, last)
 }
 
 // Writes the full runs of the carried repeats and those at the front; the others are carried.
@@ -159,15 +129,15 @@ fn write_front_block<
     }
     if goes_by_marks(marks, front, carry) {
         let mut piece = piece.piece;
-        let mut coder = coder_after::<N>(style, carry);
+        let mut coder = Coder::<N>::new(style, carry.last_pixel());
         let rest = write_marked_pixels(&mut coder, table, &mut piece, front, marks);
-        return (rest, carried(&coder), piece);
+        return (rest, Carry::of(coder.last), piece);
     }
     if block.may_miss_blank(style, table) {
         let mut piece = piece.piece;
-        let mut coder = coder_after::<N>(style, carry);
+        let mut coder = Coder::<N>::new(style, carry.last_pixel());
         let rest = coder.write_next_group(table, &mut piece, front.raw);
-        return (rest, carried(&coder), piece);
+        return (rest, Carry::of(coder.last), piece);
     }
     let (after, piece) = write_in_lanes::<N, STYLE, ROOM, ALL_RGBA>(table, piece, block, carry);
     (front.raw.skip(16), after, piece)
@@ -199,9 +169,8 @@ pub(super) fn write_blocks<
     ensures { WritesSome (style_in STYLE front.entry.style) front.entry.raw
         table.old last.old piece.entry.piece result.1.now table.new last.new result.0 }
 {
-    let style = style_in::<STYLE>(front.style);
     let raw = front.raw;
-    let mut carry = carried(&Coder::<N>::new(style, *last));
+    let mut carry = Carry::<N>::of(*last);
     let mut piece = piece.piece;
     let mut rest = raw;
     while !piece.is_full() && rest.has_block() {
@@ -212,7 +181,7 @@ pub(super) fn write_blocks<
             carry,
         );
     }
-    *last = coder_after::<N>(style, carry).last;
+    *last = carry.last_pixel();
     (piece, rest.bytes)
 }
 

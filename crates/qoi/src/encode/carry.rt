@@ -1,6 +1,6 @@
 //! What is carried from one block of sixteen pixels to the next, and the byte of a run that ends
 //! where a block begins. If it ends within the block, `block/spelling` gives the byte.
-ghost use Rattle.std.specs.Prelude.{◌≡◌, ◌+◌, ◌<◌, nat_lt, if◌then◌else◌, ◌++◌, length, take, drop, slice_index};
+ghost use Rattle.std.specs.Prelude.{◌≡◌, ◌+◌, ◌<◌, true, nat_lt, if◌then◌else◌, ◌++◌, length, take, drop, slice_index};
 ghost use Rattle.qoi.specs.Qoi.{run_max};
 ghost use Rattle.qoi.specs.Raw.{IsChannels, IsChannels-prop};
 ghost use Rattle.qoi.specs.inner.block.Lanes.{group_bytes};
@@ -8,6 +8,8 @@ ghost use Rattle.qoi.specs.inner.block.Planes.{last_pixel};
 
 use crate::consts::QOI_OP_RUN;
 use crate::encode::block::planes::Planes;
+use crate::encode::coder::LastPixel;
+use crate::encode::pixels::PixelOf;
 use crate::types::Style::{self, Places, Reference, Tight};
 use crate::utils::pick;
 
@@ -15,9 +17,10 @@ use crate::utils::pick;
 /// blocks: with a block's repeats they are fewer than 62.
 pub(super) const FRONT_CARRIED: usize = 45;
 
-/// What is carried from block to block: planes whose last pixel came last; how many repeats of it
-/// came that aren't stored yet; and, in style `Places`, whether the chunk before them names its
-/// index position.
+/// What is carried from block to block: a `LastPixel` as lanes need it. It has planes whose last
+/// pixel came last; how many repeats of it wait; and, in style `Places`, whether the chunk before
+/// them names its index position. It has no `begun`: a fresh pixel came, or the next block opens
+/// with one (`goes_by_blocks`).
 #[derive(Clone, Copy)]
 pub(super) struct Carry<const N: usize> {
     pub(super) before: Planes,
@@ -29,6 +32,37 @@ pub(super) struct Carry<const N: usize> {
 }
 
 impl<const N: usize> Carry<N> {
+    ghost use Rattle.qoi.specs.inner.BlockLoop.{IsCarried};
+
+    /// What is carried after this last pixel.
+    #[inline(always)]
+    pub(super) fn of(last: LastPixel) -> Carry<N>
+        requires channels { IsChannels N }
+        requires opaque { N ≡ 3 → last.px.a ≡ 255 }
+        ensures { IsCarried last result }
+    {
+        Carry {
+            before: Planes::splat::<N>(PixelOf { px: last.px }),
+            count: last.repeats as u8,
+            placed: last.placed,
+        }
+    }
+
+    /// The last pixel after which this is carried, once a fresh one came.
+    #[inline(always)]
+    pub(super) fn last_pixel(self) -> LastPixel
+        ensures begun { result.begun ≡ true }
+        ensures carried { IsCarried result self.entry }
+        ensures opaque { N ≡ 3 → result.px.a ≡ 255 }
+    {
+        LastPixel {
+            px: self.before.last(),
+            begun: true,
+            placed: self.placed,
+            repeats: usize::from(self.count),
+        }
+    }
+
     /// Stores at `at` the byte of the run that goes over from the blocks before. In style `Places`
     /// a single repeat has the byte of its index position, if the chunk before it isn't that
     /// position. It is stored in any case; whether it is kept is known later (`run_end`).

@@ -5,27 +5,18 @@ ghost use Rattle.qoi.specs.Qoi.{Chunk, RgbaPixel, Past, run_max, chunk_max, mark
 ghost use Rattle.qoi.specs.Raw.{IsChannels, IsChannels-prop};
 ghost use Rattle.qoi.specs.Runs.{runs_by};
 ghost use Rattle.qoi.specs.Written.{IsFirst};
-ghost use Rattle.qoi.specs.Styles.{Style, choice_in, style_in};
+ghost use Rattle.qoi.specs.Styles.{Style, choice_in};
 ghost use Rattle.qoi.specs.inner.Table.{Holds};
 
 use crate::consts::{QOI_OP_RUN, QOI_RUN_MAX};
 use crate::encode::fresh::spell_pixel;
 use crate::encode::piece::{Piece, REPEATS_AT_ONCE};
 use crate::encode::pixels::{PixelOf, Pixels};
-use crate::encode::runs::repeats_of;
+use crate::encode::repeats::repeats_of;
 use crate::encode::table::PixelTable;
 use crate::packed::Packed;
 use crate::types::Style::{self, Places, Reference, Tight};
 use crate::utils::pick;
-
-/// The style of a loop, by its number: `Reference`, if that is 0, which is then a constant for the
-/// compiler, or the one that the loop is told.
-#[inline(always)]
-pub(super) fn style_in<const STYLE: u8>(told: Style) -> Style
-    ensures { result ≡ style_in STYLE told }
-{
-    if STYLE == 0 { Reference } else { told }
-}
 
 /// What a coder has after some pixels:
 /// - `px`, the last one, written or a repeat;

@@ -14,7 +14,7 @@ mod sending;
 mod workspace;
 
 use crate::consts::QOI_HEADER_SIZE;
-use crate::encode::chunks::Pending;
+use crate::encode::image::ImageState;
 use crate::encode::piece::FULL_ROOM;
 pub(crate) use crate::encode::pixel_writer::sending::send_bytes;
 use crate::encode::pixel_writer::sending::{take_raw, write_end};
@@ -31,7 +31,7 @@ use std::marker::Model;
 /// them, in memory that doesn't grow with the image.
 ///
 /// A contract sees the writer, header and style of the file, how many raw bytes haven't come,
-/// whether the writer reported a fault, the raw bytes that are held, and what stands between two
+/// whether the writer reported a fault, the raw bytes that are held, and the state between two
 /// blocks.
 ///
 /// ```
@@ -57,16 +57,16 @@ impl<W> Model for PixelWriter<W> {
     ghost view = { λ p. record {
       writer = p.writer;
       header = p.header;
-      style = p.workspace.value.pending.style;
+      style = p.workspace.value.state.style;
       left = p.left;
       failed = p.failed;
       held = p.workspace.value.held;
-      pending = p.workspace.value.pending;
+      pending = p.workspace.value.state;
     } };
 
     ghost invariant = { λ p. IsValid p.header × (p.left ≤ image_byte_count p.header)
-        × (p.failed ≡ false → EndsOpaque p.workspace.value.pending
-        × ((length p.workspace.value.held + p.left) % pixel_size p.workspace.value.pending ≡ 0)) };
+        × (p.failed ≡ false → EndsOpaque p.workspace.value.state
+        × ((length p.workspace.value.held + p.left) % pixel_size p.workspace.value.state ≡ 0)) };
 }
 
 impl<W: Write + Drop> PixelWriter<W> {
@@ -89,7 +89,7 @@ impl<W: Write + Drop> PixelWriter<W> {
             header.colorspace,
         )?;
         let workspace = Workspace {
-            pending: Pending::new(header.channels, style),
+            state: ImageState::new(header.channels, style),
             held: Held::new(),
             piece_bytes: [0; FULL_ROOM],
         };
@@ -121,7 +121,7 @@ impl<W: Write + Drop> PixelWriter<W> {
             → HasTaken W.contents e before self.now ⊎ HasFailed W.contents e before self.now
             → result ≡ e.style }
     {
-        self.workspace.pending.style
+        self.workspace.state.style
     }
 
     /// How many raw bytes of the image haven't come yet.

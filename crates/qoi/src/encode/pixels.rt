@@ -1,10 +1,11 @@
 //! Raw bytes of whole pixels.
 ghost use Rattle.std.specs.Prelude.{◌≡◌, ◌≢◌, ◌↔◌, ◌+◌, ◌*◌, ◌%◌, ◌≤◌, ◌<◌, [], ◌∷◌, length, take, drop, IsTrue, slice_get, Some};
 ghost use Rattle.qoi.specs.Raw.{IsChannels, IsChannels-prop, pixels_of};
+ghost use Rattle.qoi.specs.Styles.{style_in};
 
 use crate::encode::piece::REPEATS_AT_ONCE;
 use crate::packed::Packed;
-use crate::types::Style;
+use crate::types::Style::{self, Reference};
 use crate::utils::skip;
 
 /// Raw bytes of whole pixels, which have `N` bytes each.
@@ -22,8 +23,9 @@ pub(super) struct PixelOf<const N: usize> {
     ghost opaque: { N ≡ 3 → px.a ≡ 255 },
 }
 
-/// Pixels that begin with a block, sixteen or more: what is left of `whole`, a loop's pixels, and the
-/// style that the loop is told.
+/// Pixels that begin with a block, sixteen or more: what is left of `whole`, a loop's pixels, by
+/// which `goes_by_marks` knows the loop's first block; and the style that the loop is told
+/// (`style_in`).
 #[derive(Clone, Copy)]
 pub(super) struct FrontBlock<'a, const N: usize> {
     pub(super) raw: Pixels<'a, N>,
@@ -31,6 +33,15 @@ pub(super) struct FrontBlock<'a, const N: usize> {
     pub(super) style: Style,
     ghost enough: { 16 ≤ length (pixels_of N raw.bytes.now) },
     ghost long: { N * 16 ≤ length raw.bytes.now },
+}
+
+/// The style of a loop over blocks, by its number: `Reference`, if that is 0, which is then a
+/// constant for the compiler, or the one that the loop is told.
+#[inline(always)]
+pub(super) fn style_in<const STYLE: u8>(told: Style) -> Style
+    ensures { result ≡ style_in STYLE told }
+{
+    if STYLE == 0 { Reference } else { told }
 }
 
 impl<'a, const N: usize> Pixels<'a, N> {

@@ -2,20 +2,20 @@
 use Rattle.std.proofs.Common.{◌≡◌, inl, inr, ℕ, ◌+◌, ◌%◌, ◌<◌, ◌≤◌, List, [], ◌++◌, length, refl, sym, ap, ◌∙◌, subst, arith, length-append, append_assoc, append-nil}
 use Rattle.qoi.specs.Qoi.{channels_number, marker_size, end_marker}
 use Rattle.qoi.specs.Writers.{WroteBut, WroteBeginning}
-use Rattle.qoi.specs.inner.Sending.{pixel_size, EndsOpaque, Between, CoderGoes, GoesByPixels, GoesOn, BreaksOff, Ends, IsReady, Pending}
+use Rattle.qoi.specs.inner.Sending.{pixel_size, EndsOpaque, Between, CoderGoes, GoesByPixels, GoesOn, BreaksOff, Ends, IsReady, ImageState}
 use Rattle.qoi.proofs.format.WholePixels.{by_channels}
 use Rattle.qoi.proofs.decoding.ImageSize.{channels_are}
 use Rattle.qoi.proofs.encoding.coder.CoderLink.{coder_sent}
 use Rattle.qoi.proofs.encoding.piece.WriterProgress.{Follows, none_but, but_on, but_all, but_more, begins}
 
 -- if no raw bytes follow
-pub none_follow : (p : Pending) (raw : List ℕ) {ahead kept : List ℕ} → Between ahead p kept raw → Between ahead p kept (raw ++ [])
+pub none_follow : (p : ImageState) (raw : List ℕ) {ahead kept : List ℕ} → Between ahead p kept raw → Between ahead p kept (raw ++ [])
 none_follow p raw {ahead} {kept} s = subst (Between ahead p kept) (sym (append-nil raw)) s
 
-module _ {W : Type 0} {wrote : W → List ℕ → W → Type 0} {a b : W} {p q : Pending} {kept kept' raw raw' : List ℕ}
+module _ {W : Type 0} {wrote : W → List ℕ → W → Type 0} {a b : W} {p q : ImageState} {kept kept' raw raw' : List ℕ}
     (both : Follows wrote wrote) (g : GoesOn wrote a p kept raw b q kept' raw') where
   -- it went on, and goes on
-  pub then_on : {c : W} {r : Pending} {kept'' raw'' : List ℕ} → GoesOn wrote b q kept' raw' c r kept'' raw'' → GoesOn wrote a p kept raw c r kept'' raw''
+  pub then_on : {c : W} {r : ImageState} {kept'' raw'' : List ℕ} → GoesOn wrote b q kept' raw' c r kept'' raw'' → GoesOn wrote a p kept raw c r kept'' raw''
   then_on h = record {
     opaque = h.opaque;
     part = h.part ∙ g.part;
@@ -35,19 +35,19 @@ module _ {W : Type 0} {wrote : W → List ℕ → W → Type 0} {a b : W} {p q :
   }
 
 -- the coder stands still
-pub stands : {p : Pending} {kept raw : List ℕ} → CoderGoes p kept raw p kept raw
+pub stands : {p : ImageState} {kept raw : List ℕ} → CoderGoes p kept raw p kept raw
 stands = record { on = λ ahead more s. s }
 
 -- nothing came
-pub stays : {W : Type 0} {wrote : W → List ℕ → W → Type 0} {a : W} {p : Pending} {kept raw : List ℕ} → wrote a [] a → EndsOpaque p → GoesOn wrote a p kept raw a p kept raw
+pub stays : {W : Type 0} {wrote : W → List ℕ → W → Type 0} {a : W} {p : ImageState} {kept raw : List ℕ} → wrote a [] a → EndsOpaque p → GoesOn wrote a p kept raw a p kept raw
 stays nothing opaque = record { opaque = opaque; part = refl; on = λ ahead more s. (ahead, none_but nothing, s) }
 
-module _ {W : Type 0} {wrote : W → List ℕ → W → Type 0} {a b : W} {p : Pending} {kept raw : List ℕ} where
+module _ {W : Type 0} {wrote : W → List ℕ → W → Type 0} {a b : W} {p : ImageState} {kept raw : List ℕ} where
   -- to break off is to end early
   pub ends_early : BreaksOff wrote a p kept raw b → Ends (WroteBeginning wrote) a p kept raw b
   ends_early h = record { all = λ ahead s. (let u = h.off ahead [] (none_follow p raw s) in (u.0 ++ end_marker, but_more end_marker u.1)) }
 
-  module _ {q : Pending} {kept1 raw' : List ℕ} (goes : CoderGoes p kept raw q kept1 raw') where
+  module _ {q : ImageState} {kept1 raw' : List ℕ} (goes : CoderGoes p kept raw q kept1 raw') where
     -- the first bytes that are kept were sent
     pub sent_on : {kept2 : List ℕ} → EndsOpaque q → length raw' % pixel_size q ≡ length raw % pixel_size p → WroteBut wrote a kept1 kept2 b
         → GoesOn wrote a p kept raw b q kept2 raw'
@@ -70,7 +70,7 @@ module _ {W : Type 0} {wrote : W → List ℕ → W → Type 0} {a b : W} {p : P
   all_sent ends went = record { all = λ ahead s. subst (λ z. wrote a (z ++ end_marker) b) (sym (ends ahead s)) went }
 
 -- bytes that follow both
-with_after : (p q : Pending) (front left after : List ℕ) → q.channels ≡ p.channels → length left % pixel_size q ≡ length front % pixel_size p
+with_after : (p q : ImageState) (front left after : List ℕ) → q.channels ≡ p.channels → length left % pixel_size q ≡ length front % pixel_size p
     → length (left ++ after) % pixel_size q ≡ length (front ++ after) % pixel_size p
 with_after p q front left after same e =
     let m = length front in
@@ -81,13 +81,13 @@ with_after p q front left after same e =
     (λ i. length-append left after i % channels_number (same i)) ∙ sum ∙ ap (λ z. z % pixel_size p) (sym (length-append front after))
 
 -- those that stand in front of others
-in_front : (p : Pending) (front after all more : List ℕ) {ahead kept : List ℕ} → all ≡ front ++ after → Between ahead p kept (all ++ more)
+in_front : (p : ImageState) (front after all more : List ℕ) {ahead kept : List ℕ} → all ≡ front ++ after → Between ahead p kept (all ++ more)
     → Between ahead p kept (front ++ (after ++ more))
 in_front p front after all more {ahead} {kept} is s = subst (Between ahead p kept) (ap (λ z. z ++ more) is ∙ append_assoc front after more) s
 
-module _ {W : Type 0} {wrote : W → List ℕ → W → Type 0} {a b : W} {p : Pending} {kept front all : List ℕ} (after : List ℕ) where
+module _ {W : Type 0} {wrote : W → List ℕ → W → Type 0} {a b : W} {p : ImageState} {kept front all : List ℕ} (after : List ℕ) where
   -- if other raw bytes follow at once
-  pub goes_within : {q : Pending} {kept' left all' : List ℕ} → q.channels ≡ p.channels → GoesOn wrote a p kept front b q kept' left
+  pub goes_within : {q : ImageState} {kept' left all' : List ℕ} → q.channels ≡ p.channels → GoesOn wrote a p kept front b q kept' left
       → all ≡ front ++ after → all' ≡ left ++ after → GoesOn wrote a p kept all b q kept' all'
   goes_within {q} {kept'} {left} same g is left_is = record {
     opaque = g.opaque;
@@ -102,13 +102,13 @@ module _ {W : Type 0} {wrote : W → List ℕ → W → Type 0} {a b : W} {p : P
   breaks_within h is = record { off = λ ahead more s. h.off ahead (after ++ more) (in_front p front after all more is s) }
 
 -- what is ahead after the coder went on
-pub goes_to : {p q : Pending} {kept kept' raw raw' : List ℕ} → CoderGoes p kept raw q kept' raw' → (ahead : List ℕ) → Between ahead p kept raw
+pub goes_to : {p q : ImageState} {kept kept' raw raw' : List ℕ} → CoderGoes p kept raw q kept' raw' → (ahead : List ℕ) → Between ahead p kept raw
     → Between ahead q kept' raw'
 goes_to {p} {q} {kept} {kept'} {raw} {raw'} goes ahead s = subst (Between ahead q kept') (append-nil raw') (goes.on ahead [] (none_follow p raw s))
 
-module _ {free size : ℕ} {p : Pending} {kept raw : List ℕ} (has : IsReady free size p kept raw) where
+module _ {free size : ℕ} {p : ImageState} {kept raw : List ℕ} (has : IsReady free size p kept raw) where
   -- there is room for the bytes that are kept after the coder went on
-  pub room_kept : {q : Pending} {kept' raw' : List ℕ} → CoderGoes p kept raw q kept' raw' → length kept' ≤ size → length kept' ≤ free
+  pub room_kept : {q : ImageState} {kept' raw' : List ℕ} → CoderGoes p kept raw q kept' raw' → length kept' ≤ size → length kept' ≤ free
   room_kept {q} {kept'} {raw'} goes within = elim has.enough [
     | inl some ↦ (let t = coder_sent (goes_to goes some.0 some.1) kept' [] (sym (append-nil kept')) in
         omega (arith, ap length t.1, length-append kept' t.0, some.2))
@@ -116,7 +116,7 @@ module _ {free size : ℕ} {p : Pending} {kept raw : List ℕ} (has : IsReady fr
   ]
 
   -- the others can be written, once some are sent
-  pub still_ready : {q : Pending} {kept1 kept2 raw' : List ℕ} {left : ℕ} (front : List ℕ) → CoderGoes p kept raw q kept1 raw' → length kept1 ≤ size
+  pub still_ready : {q : ImageState} {kept1 kept2 raw' : List ℕ} {left : ℕ} (front : List ℕ) → CoderGoes p kept raw q kept1 raw' → length kept1 ≤ size
       → kept1 ≡ front ++ kept2 → left + length front ≡ free → length raw' < length raw → GoesByPixels q raw' → IsReady left size q kept2 raw'
   still_ready {q} {kept1} {kept2} {raw'} {left} front goes within split counted less whole = record {
     whole = whole;

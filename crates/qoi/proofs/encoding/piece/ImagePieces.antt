@@ -9,7 +9,7 @@ use Rattle.qoi.specs.inner.Coder.{kept_bytes, CoderAfter, CoderBetween, LastPixe
 use Rattle.qoi.specs.WrittenList.{written_list}
 use Rattle.qoi.specs.Encoded.{image_file}
 use Rattle.qoi.specs.Writers.{WroteBeginning, AppendsBeginning}
-use Rattle.qoi.specs.inner.Sending.{appended, pixel_size, EndsOpaque, IsNew, IsReady, ImageBetween, CoderGoes, FillsPiece, GoesByPixels, GoesOn, BreaksOff, Ends, OpenPiece, Pending}
+use Rattle.qoi.specs.inner.Sending.{appended, pixel_size, EndsOpaque, IsNew, IsReady, ImageBetween, CoderGoes, FillsPiece, GoesByPixels, GoesOn, BreaksOff, Ends, OpenPiece, ImageState}
 use Rattle.qoi.specs.EncoderState.{EncoderState}
 use Rattle.qoi.proofs.format.RawPixels.{pixels_of-append, pixels_of_are}
 use Rattle.qoi.proofs.format.WholePixels.{by_channels, whole_pixels}
@@ -21,7 +21,7 @@ use Rattle.qoi.proofs.encoding.piece.BytesAhead.{goes_to}
 use Rattle.qoi.proofs.encoding.piece.WriterProgress.{Follows, begins, but_all, but_more, but_on}
 
 -- before the first pixel, if the front of the header went and the rest is kept
-pub image_starts : {W : Type 0} {wrote : W → List ℕ → W → Type 0} (e : EncoderState) (a b : W) (p : Pending) (front kept : List ℕ) → AreBytes e.raw
+pub image_starts : {W : Type 0} {wrote : W → List ℕ → W → Type 0} (e : EncoderState) (a b : W) (p : ImageState) (front kept : List ℕ) → AreBytes e.raw
     → IsNew e.header.channels e.style p → header_bytes e.header ≡ front ++ kept → wrote a front b → ImageBetween wrote e a b p kept e.raw
 unfolding image_file
 image_starts e a b p front kept are new split went =
@@ -39,7 +39,7 @@ image_starts e a b p front kept are new split went =
           (subst (λ style. CoderAfter style [] None p.table p.last) (sym new.style_is) new.state);
     }
 
-module _ {W : Type 0} {wrote : W → List ℕ → W → Type 0} {e : EncoderState} {a now : W} {p : Pending} {kept : List ℕ} where
+module _ {W : Type 0} {wrote : W → List ℕ → W → Type 0} {e : EncoderState} {a now : W} {p : ImageState} {kept : List ℕ} where
   -- pixels can be written if there is room for the whole file
   pub image_ready : {raw : List ℕ} {free size : ℕ} → ImageBetween wrote e a now p kept raw → GoesByPixels p raw → 2 * SPARE ≤ size
       → length (image_file e.style e.header e.raw) ≤ free → IsReady free size p kept raw
@@ -50,7 +50,7 @@ module _ {W : Type 0} {wrote : W → List ℕ → W → Type 0} {e : EncoderStat
   }
 
   -- what is kept is a part of the file, before its end marker
-  pub image_kept : {q : Pending} {raw kept' raw' : List ℕ} → ImageBetween wrote e a now p kept raw → CoderGoes p kept raw q kept' raw'
+  pub image_kept : {q : ImageState} {raw kept' raw' : List ℕ} → ImageBetween wrote e a now p kept raw → CoderGoes p kept raw q kept' raw'
       → length kept' + marker_size ≤ length (image_file e.style e.header e.raw)
   image_kept {kept' = kept'} b goes =
       let t = coder_sent (goes_to goes b.ahead b.between) kept' [] (sym (append-nil kept')) in
@@ -58,7 +58,7 @@ module _ {W : Type 0} {wrote : W → List ℕ → W → Type 0} {e : EncoderStat
 
   module _ (both : Follows wrote wrote) where
     -- it went on
-    pub image_on : {next : W} {p' : Pending} {kept' raw raw' : List ℕ} (more : List ℕ) → ImageBetween wrote e a now p kept (raw ++ more)
+    pub image_on : {next : W} {p' : ImageState} {kept' raw raw' : List ℕ} (more : List ℕ) → ImageBetween wrote e a now p kept (raw ++ more)
         → GoesOn wrote now p kept raw next p' kept' raw' → ImageBetween wrote e a next p' kept' (raw' ++ more)
     image_on more b g =
         let u = g.on b.ahead more b.between in
@@ -77,11 +77,11 @@ module _ {W : Type 0} {wrote : W → List ℕ → W → Type 0} {e : EncoderStat
   image_ends follows b h = but_all follows b.went (h.all b.ahead b.between)
 
 -- so many raw bytes as an image has are whole pixels
-pub new_whole : (h : Header) {style : Style} {p : Pending} {n : ℕ} → IsNew h.channels style p → n ≡ image_byte_count h → n % pixel_size p ≡ 0
+pub new_whole : (h : Header) {style : Style} {p : ImageState} {n : ℕ} → IsNew h.channels style p → n ≡ image_byte_count h → n % pixel_size p ≡ 0
 new_whole h new is = (λ i. is i % channels_number (new.channels_is i)) ∙ mul-mod_left (pixel_count h) (channels_number h.channels)
 
 -- the pixel before the first one is opaque
-pub new_opaque : {k : Channels} {style : Style} {p : Pending} → IsNew k style p → EndsOpaque p
+pub new_opaque : {k : Channels} {style : Style} {p : ImageState} → IsNew k style p → EndsOpaque p
 unfolding start
 new_opaque new three = ap (λ x. x.a) new.state.last_is
 
@@ -114,7 +114,7 @@ pub whole_ahead : (n : ℕ) (xs ys : List ℕ) → IsChannels n → length xs % 
 whole_ahead n xs ys is whole = pixels_of-append n (length xs / n) xs ys is (whole_pixels n (length xs) is whole)
 
 -- some of these pixels are written
-pub fills : {N size : ℕ} {style : Style} {table : List RgbaPixel} {last : LastPixel} (p : Pending) (piece : OpenPiece size) (bytes : List ℕ) (raw : Pixels N) (result : Piece size × Bor (List ℕ))
+pub fills : {N size : ℕ} {style : Style} {table : List RgbaPixel} {last : LastPixel} (p : ImageState) (piece : OpenPiece size) (bytes : List ℕ) (raw : Pixels N) (result : Piece size × Bor (List ℕ))
     → pixel_size p ≡ N → p.style ≡ style → raw.bytes.now ≡ bytes → WritesSome style raw p.table p.last piece.piece result.1.now table last result.0
     → FillsPiece p piece bytes (record p { table = table; last = last }) result
 fills {N} {style = style} {table} {last} p piece bytes raw result size is same w =

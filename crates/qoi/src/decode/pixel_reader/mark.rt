@@ -1,4 +1,4 @@
-//! Places in images, from which decoding goes on.
+//! Points in images, from which a caller's decoding goes on.
 ghost use Rattle.std.specs.Prelude.{◌≡◌, ℕ, ◌-◌, ◌<◌, ◌≤◌, List, ◌++◌, length, drop, Some, Ok, Err, IsOk, IfOk};
 ghost use Rattle.qoi.specs.DecoderState.{DecoderState};
 ghost use Rattle.qoi.specs.Decoded.{HasHeader};
@@ -16,10 +16,10 @@ use crate::header::Header;
 use crate::types::Channels;
 use std::marker::Model;
 
-/// A place in the image of a slice's file, from which a `PixelReader` goes on, as often as you like.
+/// A point in the image of a slice's file, from which a `PixelReader` goes on, as often as you like.
 /// It has some 5 KB, holds no part of the slice, and needn't be dropped before it.
 ///
-/// A contract sees how many bytes of the slice stand before the place, and the reader's state but
+/// A contract sees how many bytes of the slice stand before the point, and the reader's state but
 /// for what is ahead.
 ///
 /// ```
@@ -51,7 +51,7 @@ impl Model for Mark {
 }
 
 impl<'a> PixelReader<Bytes<'a>> {
-    /// A mark of the place where the reader stands in `file`, the slice that it reads. The mark
+    /// A mark of the point where the reader stands in `file`, the slice that it reads. The mark
     /// counts from the front of the slice, so bytes may be appended behind the file.
     ///
     /// In another slice, the mark stands as far from the end as the reader does from that of its own.

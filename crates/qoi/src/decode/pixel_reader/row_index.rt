@@ -10,7 +10,7 @@ ghost use Rattle.qoi.specs.pieces.RowIndex.{file_decoder, row_size, ArePlaces, R
 
 use crate::decode::Decoder;
 use crate::decode::pixel_reader::PixelReader;
-use crate::decode::pixel_reader::place::{Place, size_in};
+use crate::decode::pixel_reader::seek_point::{SeekPoint, size_in};
 use crate::decode::reader::Bytes;
 use crate::error::{Error, Result};
 use crate::header::Header;
@@ -22,13 +22,13 @@ use std::marker::Model;
 // longer.
 const SKIPPED: usize = 16384;
 
-/// Places in a file's image, so many rows apart, from which its rows are read without those above.
+/// Points in a file's image, so many rows apart, from which its rows are read without those above.
 /// It holds no part of the file.
 ///
-/// An index of an image of `height` rows with a place each `every` rows holds
+/// An index of an image of `height` rows with a point each `every` rows holds
 /// 288 * ((`height` - 1) / `every`) bytes.
 ///
-/// A contract sees the places.
+/// A contract sees the points (`PlaceState`).
 ///
 /// ```
 /// let index = RowIndex::new(alloc, file, 64)?;
@@ -38,7 +38,7 @@ const SKIPPED: usize = 16384;
 #[derive(Drop)]
 pub struct RowIndex {
     every: u32,
-    places: Vec<Place>,
+    points: Vec<SeekPoint>,
 }
 
 impl Model for RowIndex {
@@ -47,7 +47,7 @@ impl Model for RowIndex {
 
     ghost Value = { List PlaceState };
 
-    ghost view = { λ i. i.places.items };
+    ghost view = { λ i. i.points.items };
 
     ghost invariant = { λ i. 0 < i.every };
 }
@@ -91,23 +91,27 @@ fn skip_to(reader: &mut PixelReader<Bytes<'_>>, bytes_left: usize) -> Result<()>
     Ok(())
 }
 
-// Keeps the place of a reader, unless the image ends there.
-fn keep_place(places: &mut Vec<Place>, file: &[u8], reader: &PixelReader<Bytes<'_>>) -> Result<()>
+// Keeps the point where a reader is, unless the image ends there.
+fn keep_point(
+    points: &mut Vec<SeekPoint>,
+    file: &[u8],
+    reader: &PixelReader<Bytes<'_>>,
+) -> Result<()>
     requires { reader.now.refused ≡ false }
-    ensures places { (channels : Channels) (h : Header) → ReadsFile channels h file.now reader.now
-        → ArePlaces (pixel_count h) file.now places.old.items
-        → OnOk result (ArePlaces (pixel_count h) file.now places.new.items) }
-    ensures few { OnOk result (length places.new.items ≤ length places.old.items + 1) }
+    ensures points { (channels : Channels) (h : Header) → ReadsFile channels h file.now reader.now
+        → ArePlaces (pixel_count h) file.now points.old.items
+        → OnOk result (ArePlaces (pixel_count h) file.now points.new.items) }
+    ensures few { OnOk result (length points.new.items ≤ length points.old.items + 1) }
     ensures refused { IfErr result (λ e. e ≡ Error.OutOfMemory) }
 {
     if reader.unread.undecoded > 0 {
-        places.push(Place::of(file, reader))?;
+        points.push(SeekPoint::of(file, reader))?;
     }
     Ok(())
 }
 
 impl RowIndex {
-    /// An index of the image of the file at the front of the bytes, with a place each `every` rows,
+    /// An index of the image of the file at the front of the bytes, with a point each `every` rows,
     /// or each row for 0. The image is decoded once, and no row of it is kept.
     ///
     /// The refusals are those of `decode_to_vec`. The memory is reserved at once, before the image
@@ -120,29 +124,29 @@ impl RowIndex {
         // The image has as many rows as its header says.
         ensures size { (h : Header) → header_of file.now ≡ Ok h
             → OnOk result (length (file_image file.now) ≡ row_size h.channels h * h.height) }
-        // It has no more places than this.
+        // It has no more points than this.
         ensures few { (h : Header) → header_of file.now ≡ Ok h
             → IfOk result (λ i. length i ≤ (h.height - 1) / max every 1) }
         // The refusals: memory runs out after a valid header, or the bytes are refused.
         ensures refused { IfErr result (λ e. HasRefusedFile file.now e
             ⊎ ((e ≡ Error.OutOfMemory) × (h : Header) × (header_of file.now ≡ Ok h))) }
     {
-        let header = Header::decode(file)?;
+        let decoder = Decoder::new(file)?;
+        let header = *decoder.header();
         let every = every.max(1);
         let count = header.height.saturating_sub(1) / every;
-        let mut places = Vec::with_capacity(alloc, count as usize)?;
-        let decoder = Decoder::new(file)?;
+        let mut points = Vec::with_capacity(alloc, count as usize)?;
         let mut reader = decoder.into_pixels();
         for k in 0..count {
             let row = every.saturating_mul(k + 1);
             skip_to(&mut reader, bytes_from(&header, header.channels, row))?;
-            keep_place(&mut places, file, &reader)?;
+            keep_point(&mut points, file, &reader)?;
         }
         skip_to(&mut reader, 0)?;
-        Ok(RowIndex { every, places })
+        Ok(RowIndex { every, points })
     }
 
-    // A reader from the last place above a row of the file's image, or from its first row.
+    // A reader from the last point above a row of the file's image, or from its first row.
     fn above<'a>(
         &self,
         file: &'a [u8],
@@ -158,13 +162,13 @@ impl RowIndex {
             ≤ pixels_left p) }
     {
         let pixels_wanted = pixels_from(decoder.header(), first);
-        let mut at = self.places.len().min((first / self.every) as usize);
-        // A place may lie past its row, since a reader decodes ahead: then one above it serves.
-        while at > 0 {
-            at -= 1;
-            let place = &self.places[at];
-            if pixels_wanted <= place.left() {
-                return place.resume(file, decoder);
+        let mut i = self.points.len().min((first / self.every) as usize);
+        // A point may lie past its row, since a reader decodes ahead: then one above it serves.
+        while i > 0 {
+            i -= 1;
+            let point = &self.points[i];
+            if pixels_wanted <= point.left() {
+                return point.resume(file, decoder);
             }
         }
         Ok(decoder.into_pixels())
@@ -172,7 +176,7 @@ impl RowIndex {
 
     /// A reader that stands before row `first` of the image of the file of which the index was made,
     /// or of one that begins with it, into the file's own channels. None of the rows above the last
-    /// place before that row is decoded, and nothing is allocated.
+    /// point before that row is decoded, and nothing is allocated.
     ///
     /// `first` may be the height, behind the last row. Refusals: those of the header, and
     /// `UnexpectedBufferEnd` if `first` is greater. With another file's index it reads wrong rows, or
@@ -202,8 +206,8 @@ impl RowIndex {
             → IsErrOf result Error.UnexpectedBufferEnd }
         ensures header { (e : Error) → header_of file.entry.now ≡ Err e → result ≡ Err e }
     {
-        let header = Header::decode(file)?;
-        self.rows_in(file, header.channels, first)
+        let decoder = Decoder::new(file)?;
+        self.rows_of(file, decoder, first)
     }
 
     /// `rows` into any channels.
@@ -226,11 +230,32 @@ impl RowIndex {
         ensures header { (e : Error) → header_of file.entry.now ≡ Err e → result ≡ Err e }
     {
         let decoder = Decoder::new(file)?;
-        let header = *decoder.header();
+        self.rows_of(file, decoder.with_channels(channels), first)
+    }
+
+    // `rows` into the channels of this decoder of the file.
+    fn rows_of<'a>(
+        &self,
+        file: &'a [u8],
+        decoder: Decoder<Bytes<'a>>,
+        first: u32,
+    ) -> Result<PixelReader<Bytes<'a>>>
+        requires { IsFileDecoder file.now decoder }
+        ensures rows { IsRowIndex file.entry.now self.now → IfOk result (λ p. HasRows
+            (file_decoder decoder.entry.channels decoder.entry.header file.entry.now)
+            (Some (drop header_size file.entry.now)) (Some p.reader)
+            (row_size decoder.entry.channels decoder.entry.header) first p) }
+        // The refusals.
+        ensures accepts { IsRowIndex file.entry.now self.now
+            → first ≤ decoder.entry.header.height → IsOk result }
+        ensures high { decoder.entry.header.height < first
+            → IsErrOf result Error.UnexpectedBufferEnd }
+    {
+        let (header, channels) = (*decoder.header(), decoder.channels());
         if first > header.height {
             return Err(Error::UnexpectedBufferEnd);
         }
-        let mut reader = self.above(file, decoder.with_channels(channels), first)?;
+        let mut reader = self.above(file, decoder, first)?;
         skip_to(&mut reader, bytes_from(&header, channels, first))?;
         Ok(reader)
     }

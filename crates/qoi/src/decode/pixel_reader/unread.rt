@@ -53,19 +53,31 @@ impl Unread {
         ensures undecoded { (result.undecoded ≡ size) × (result.run ≡ 0) }
         ensures fault { result.fault ≡ None }
     {
+        Unread::behind(TermTable::new(), Hashed::start(), 0, size)
+    }
+
+    /// So many raw bytes of an image, none of them decoded, behind chunks that left this table and
+    /// this last pixel. The first `run` are the rest of its run.
+    #[inline(always)]
+    pub(super) fn behind(table: TermTable, last: Hashed, run: usize, undecoded: usize) -> Unread
+        ensures chunks { (result.table ≡ table) × (result.last ≡ last) }
+        ensures none { (result.from ≡ 0) × (result.to ≡ 0) }
+        ensures undecoded { (result.run ≡ run) × (result.undecoded ≡ undecoded) }
+        ensures fault { result.fault ≡ None }
+    {
         Unread {
-            table: TermTable::new(),
-            last: Hashed::start(),
+            table,
+            last,
             bytes: [0; DECODED_AHEAD],
             from: 0,
             to: 0,
-            run: 0,
-            undecoded: size,
+            run,
+            undecoded,
             fault: None,
         }
     }
 
-    /// A copy, while no error stands in its place.
+    /// A copy, while `fault` has no error.
     pub(super) fn copied(&self) -> Unread
         requires { self.now.fault ≡ None }
         ensures { result ≡ self.now }
@@ -87,7 +99,7 @@ impl Unread {
         self.to - self.from + self.undecoded
     }
 
-    // Puts the error of a refusal in its place.
+    // Puts the error of a refusal into `fault`.
     #[cold]
     #[inline(never)]
     fn fail(&mut self, e: Error) -> Refused
@@ -198,11 +210,12 @@ impl Unread {
         let (last, at) = (self.last, self.run);
         let from = Reached { last, at };
         let (now, run) = match reader.chunks_in_place(&mut self.table, from, &mut out[..size]) {
-            Ok(placed) => placed,
+            Ok(decoded) => decoded,
             Err(e) => return Err(self.fail(e)),
         };
         self.last = now.last;
         self.run = run;
+        // With the rest of the run, which counted as undecoded.
         self.undecoded -= now.at;
         if now.at == out.len() {
             return Ok(now.at);
@@ -212,7 +225,8 @@ impl Unread {
     }
 
     // Decodes chunks into the front of `out` as long as any run has room, and returns how many
-    // bytes; none if `out` is short. Of its piece, `done` bytes were decoded before.
+    // bytes; none if `out` is short. Of its piece, `done` bytes were decoded before: if there are
+    // some, it is long or began with a run, and what is left of it needn't be long.
     #[inline]
     fn long_piece<R: Chunks<N, F>, const N: usize, const F: usize>(
         &mut self,

@@ -31,19 +31,19 @@ fn running_most(v: u8x16) -> u8x16
     greater(eight, zero.shuffle(eight, EIGHT_ON))
 }
 
-/// How many repeats end with each lane, after `carry` repeats that came before: the lane's number
+/// How many repeats end with each lane, after `carried` repeats that came before: the lane's number
 /// less that of the last one which doesn't repeat.
 #[inline(always)]
-pub(in crate::encode) fn count_repeats(rep: u8x16, carry: u8) -> u8x16
-    requires { carry < run_max }
-    ensures { (rs : List Bool) → length rs ≡ 16 → rep ≡ map mask rs → result ≡ counts carry rs }
+pub(in crate::encode) fn count_repeats(rep: u8x16, carried: u8) -> u8x16
+    requires { carried < run_max }
+    ensures { (rs : List Bool) → length rs ≡ 16 → rep ≡ map mask rs → result ≡ counts carried rs }
 {
     // 64 and the lane's number.
     let lanes = u8x16::from_array([
         64, 65, 66, 67, 68, 69, 70, 71, 72, 73, 74, 75, 76, 77, 78, 79,
     ]);
     // The same of the last lane so far that doesn't repeat (`lanes & !rep` is 0 in those that do),
-    // or of the pixel before the block that `carry` repeats follow.
-    let most = greater(running_most(lanes & !rep), u8x16::splat(63 - carry));
+    // or of the pixel before the block that `carried` repeats follow.
+    let most = greater(running_most(lanes & !rep), u8x16::splat(63 - carried));
     lanes - most
 }

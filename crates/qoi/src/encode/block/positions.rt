@@ -24,10 +24,11 @@ pub(in crate::encode) fn index_positions(p: Planes) -> u8x16
     (u + u + s) & u8x16::splat(63)
 }
 
-/// Stores index positions in the last sixteen bytes of `out`, which has `ROOM` bytes, but not if
-/// `ALL_RGBA`. To read a position back from there (`read_indices`) is faster than to take it out of
-/// the vector. The compiler would take it out of the vector if it knew that the bytes still are the
-/// same; but in between `Carry::store_run` stores a byte, which might be one of them.
+/// Stores index positions in the last sixteen bytes of `out`, a piece's room of `ROOM` bytes, which
+/// no chunk reaches (`SPARE`); but not if `ALL_RGBA`. To read a position back from there
+/// (`read_indices`) is faster than to take it out of the vector. The compiler would take it out of
+/// the vector if it knew that the bytes still are the same; but in between `Carry::store_run` stores
+/// a byte, which might be one of them.
 #[inline(always)]
 pub(in crate::encode) fn store_indices<const ROOM: usize, const ALL_RGBA: bool>(
     v: u8x16,

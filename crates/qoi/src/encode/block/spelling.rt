@@ -136,7 +136,8 @@ fn sizes_of(fits: Fits, stands: u8x16) -> u8x16
 
 // The first bytes of fresh pixels' chunks, as they are passed, and of runs for repeats. The lesser
 // of `rep` and a run's byte is that byte for a repeat, else 0; of `&` the compiler would make a
-// blend, which takes longer. What was passed for a repeat is less than a run's byte.
+// blend, which takes longer. What was passed for a repeat, an index position or a difference of no
+// steps, is less than a run's byte.
 #[inline(always)]
 fn with_runs(first: u8x16, rep: u8x16, count: u8x16) -> u8x16
     ensures { (ls : List Lane) (c : ℕ) (q : Bool) → AreBy ls first_of first
@@ -161,7 +162,7 @@ fn with_none(size: u8x16, rep: u8x16) -> u8x16
     lesser(size, !lesser(rep, next))
 }
 
-/// Spells out sixteen pixels, where `stands` says which stand at their index positions, and `carry`
+/// Spells out sixteen pixels, where `stands` says which stand at their index positions, and `carried`
 /// repeats came before that aren't written yet.
 #[inline(always)]
 pub(in crate::encode) fn spell_block(
@@ -169,10 +170,10 @@ pub(in crate::encode) fn spell_block(
     red: u8x16,
     stands: u8x16,
     indices: u8x16,
-    carry: u8,
+    carried: u8,
 ) -> Spelled
-    requires { carry < run_max }
-    ensures { (s : State) (ps : List RgbaPixel) → s.carry ≡ carry
+    requires { carried < run_max }
+    ensures { (s : State) (ps : List RgbaPixel) → s.carry ≡ carried
         → AreChanges (lanes_of s.held s.last ps) changes → IsBlock s ps red stands indices
         → HasSpelled Reference s ps result }
 {
@@ -182,7 +183,7 @@ pub(in crate::encode) fn spell_block(
     let as_luma = luma_steps(changes.steps);
     let fits = find_fits(as_diff, as_luma, same_alpha);
     let first = first_bytes(as_diff, as_luma, fits, indices, stands);
-    let count = count_repeats(rep, carry);
+    let count = count_repeats(rep, carried);
     Spelled {
         rep,
         first: with_runs(first, rep, count),

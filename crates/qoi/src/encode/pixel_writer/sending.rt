@@ -9,7 +9,7 @@ ghost use Rattle.std.specs.Io.KnownBytes.{Appends};
 ghost use Rattle.qoi.specs.inner.Sending.{appended, EndsOpaque, StaysIn, GoesByPixels, IsReady, WritesWhole, GoesOnOrBreaks, EndsWith};
 ghost use Rattle.qoi.specs.inner.Coder.{kept_bytes, FULL_ROOM};
 
-use crate::encode::chunks::{Pending, write_last_pixels, write_pixels};
+use crate::encode::image::{ImageState, write_last_pixels, write_pixels};
 use crate::encode::piece::{FULL_ROOM, OpenPiece, Piece};
 use crate::encode::pixel_writer::workspace::{Held, Workspace};
 use crate::error::Result;
@@ -36,33 +36,33 @@ pub(crate) fn send_bytes<W: Write>(writer: &mut W, bytes: &[u8]) -> Result<()>
 #[inline(always)]
 fn write_held_or_raw<'a, 'p, W: Writer>(
     writer: &mut W,
-    pending: &mut Pending,
+    state: &mut ImageState,
     held: &mut Held,
     piece: OpenPiece<'p, FULL_ROOM>,
     raw: &'a [u8],
 ) -> Result<(&'a [u8], OpenPiece<'p, FULL_ROOM>)>
-    requires opaque { EndsOpaque pending.old }
+    requires opaque { EndsOpaque state.old }
     requires many { (HELD_MOST < 2 * length raw.now)
         ⊎ (HELD_MOST < length held.old + length raw.now) }
     requires room { FULL_ROOM * (length held.old + length raw.now + 1) ≤ W.room writer.old }
-    ensures stays { StaysIn pending.old pending.new }
+    ensures stays { StaysIn state.old state.new }
     ensures less { IfOk result (λ r. length held.new + length r.0.now
         < length held.old + length raw.entry.now) }
     ensures written { GoesOnOrBreaks W.wrote
-        writer.old pending.old (kept_bytes piece.entry.piece) (held.old ++ raw.entry.now) W.IsFault
-        writer.new pending.new (λ r. kept_bytes r.1.piece) (λ r. held.new ++ r.0.now) result }
+        writer.old state.old (kept_bytes piece.entry.piece) (held.old ++ raw.entry.now) W.IsFault
+        writer.new state.new (λ r. kept_bytes r.1.piece) (λ r. held.new ++ r.0.now) result }
 {
-    let n = usize::from(pending.channels.as_u8());
+    let n = usize::from(state.channels.as_u8());
     let len = held.bytes().len();
     if len == 0 {
         let (pixels, part) = raw.split_at(raw.len() - raw.len() % n);
-        let (left, piece) = write_pixels(writer, pending, piece, pixels)?;
+        let (left, piece) = write_pixels(writer, state, piece, pixels)?;
         held.push(left);
         return Ok((part, piece));
     }
     let (front, rest) = raw.split_at((16 * n - len % (16 * n)) % (16 * n));
     held.push(front);
-    let (left, piece) = write_pixels(writer, pending, piece, held.bytes())?;
+    let (left, piece) = write_pixels(writer, state, piece, held.bytes())?;
     let mut few = [0; 64];
     let count = copy_after(&mut few, 0, left);
     held.replace(&few[..count]);
@@ -76,12 +76,12 @@ pub(super) fn take_raw<W: Write>(
     workspace: &mut Workspace,
     raw: &[u8],
 ) -> Result<()>
-    requires opaque { EndsOpaque workspace.old.pending }
+    requires opaque { EndsOpaque workspace.old.state }
     requires most { length workspace.old.held + length raw.now ≤ 5 * pixels_max }
-    ensures stays { StaysIn workspace.old.pending workspace.new.pending }
+    ensures stays { StaysIn workspace.old.state workspace.new.state }
     ensures written { GoesOnOrBreaks appended
-        (W.contents writer.old) workspace.old.pending [] (workspace.old.held ++ raw.now) IsIoError
-        (W.contents writer.new) workspace.new.pending (λ _. []) (λ _. workspace.new.held) result }
+        (W.contents writer.old) workspace.old.state [] (workspace.old.held ++ raw.now) IsIoError
+        (W.contents writer.new) workspace.new.state (λ _. []) (λ _. workspace.new.held) result }
 {
     let mut piece = Piece::<FULL_ROOM>::new(&mut workspace.piece_bytes).open();
     let mut rest = raw;
@@ -89,7 +89,7 @@ pub(super) fn take_raw<W: Write>(
         let mut stream = GenericWriter::new(writer);
         (rest, piece) = write_held_or_raw(
             &mut stream,
-            &mut workspace.pending,
+            &mut workspace.state,
             &mut workspace.held,
             piece,
             rest,
@@ -102,15 +102,15 @@ pub(super) fn take_raw<W: Write>(
 
 /// Writes an image's last raw bytes, which were held, and the end marker.
 pub(super) fn write_end<W: Write>(writer: &mut W, workspace: &mut Workspace) -> Result<()>
-    requires { GoesByPixels workspace.old.pending workspace.old.held }
-    ensures { EndsWith appended IsIoError (W.contents writer.old) workspace.old.pending []
+    requires { GoesByPixels workspace.old.state workspace.old.held }
+    ensures { EndsWith appended IsIoError (W.contents writer.old) workspace.old.state []
         workspace.old.held (W.contents writer.new) result }
 {
-    let pending = &mut workspace.pending;
+    let state = &mut workspace.state;
     let piece = Piece::<FULL_ROOM>::new(&mut workspace.piece_bytes).open();
     let mut stream = GenericWriter::new(writer);
-    let (left, piece) = write_pixels(&mut stream, pending, piece, workspace.held.bytes())?;
+    let (left, piece) = write_pixels(&mut stream, state, piece, workspace.held.bytes())?;
     let mut last_piece = piece.piece;
-    write_last_pixels(pending, &mut last_piece, left);
+    write_last_pixels(state, &mut last_piece, left);
     last_piece.finish(&mut stream)
 }

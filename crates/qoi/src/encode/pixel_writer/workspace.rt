@@ -2,7 +2,7 @@
 ghost use Rattle.std.specs.Prelude.{◌≡◌, ◌⊎◌, ℕ, ◌+◌, ◌*◌, ◌<◌, ◌≤◌, List, [], ◌++◌, length, take, IsTrue, IsFalse};
 ghost use Rattle.qoi.specs.declared.encode.pixel_writer.workspace.TheConstants.{HELD_MOST};
 
-use crate::encode::chunks::Pending;
+use crate::encode::image::ImageState;
 use crate::encode::piece::FULL_ROOM;
 use crate::utils::copy_after;
 use std::marker::Model;
@@ -15,7 +15,7 @@ pub(super) const HELD_MOST: usize = 8256;
 /// then.
 #[derive(Drop)]
 pub(super) struct Workspace {
-    pub(super) pending: Pending,
+    pub(super) state: ImageState,
     pub(super) held: Held,
     pub(super) piece_bytes: [u8; FULL_ROOM],
 }

@@ -40,7 +40,7 @@ fn tile_rows(
 }
 
 /// A tile cut out of the image of a file by an index of its rows, in the memory of one row and the
-/// tile: no row above the index's place is decoded, nor any below the tile.
+/// tile: no row above the index's point is decoded, nor any below the tile.
 pub fn tile(alloc: Global, index: &RowIndex, file: &[u8], area: Area) -> Result<Vec<u8>, Error>
     requires index { IsRowIndex file.now index.now }
     ensures tile { (h : Header) → header_of file.now ≡ Ok h

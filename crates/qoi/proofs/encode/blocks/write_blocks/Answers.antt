@@ -1,7 +1,7 @@
--- By blocks, from what the coder knows to what is carried, and back.
+-- By blocks, from the last pixel to what is carried, and back.
 use Rattle.std.proofs.Common.{◌≡◌, ℕ, List, inl, inr, ◌<◌, length, refl, sym, ap, ◌∙◌, arith, subst}
 use Rattle.std.proofs.lemmas.Bool.{true≢false}
-use Rattle.qoi.specs.inner.BlockLoop.{InBlocks, IsCarried}
+use Rattle.qoi.specs.inner.BlockLoop.{InBlocks}
 use Rattle.qoi.specs.Styles.{Style, style_in}
 use Rattle.qoi.specs.inner.Coder.{Pixels, pixels_in, kept_bytes}
 use Rattle.qoi.proofs.encoding.coder.CoderLink.{still_between}
@@ -13,7 +13,7 @@ loop-rest-init g c = record {
   less = inr (refl, c.args.piece.not_full);
   written = λ ahead more b. record {
     last = c.args.last.now;
-    is = subst (λ l. IsCarried l c.carried-carry.result) c.new.ensures.last c.carried-carry.ensures;
+    is = c.of-carry.ensures;
     between = b;
     goes = c.requires.goes;
   };
@@ -41,7 +41,7 @@ loop-rest-preserved g c =
 pub returns : goal.returns
 returns g c =
     let i = c.loop-rest.invariant in
-    let after = c.coder_after.ensures in
+    let after = c.last_pixel.ensures in
     let less : length (pixels_in c.loop-rest.rest) < length (pixels_in c.args.front.raw) = elim i.less [
       | inl less ↦ less
       | inr same ↦ absurd (elim c.loop-rest-test.branch [
@@ -50,7 +50,7 @@ returns g c =
       ])
     ] in
     record {
-      opaque = c.coder_after.result.opaque;
+      opaque = after.opaque;
       whole = c.loop-rest.rest.whole;
       less = less;
       on = λ ahead more b. still_between after.carried after.begun (inr less) (i.written ahead more b);

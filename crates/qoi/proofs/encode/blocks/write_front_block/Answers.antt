@@ -1,11 +1,11 @@
 -- A block, or a group. Before its groups a fresh pixel came, since the call wrote one.
-use Rattle.std.proofs.Common.{◌≡◌, ◌≤◌, ◌%◌, inl, inr, Option, None, Some, List, ◌++◌, take, drop, refl, sym, ap, ◌∙◌, arith, subst, take-append-drop}
+use Rattle.std.proofs.Common.{◌≡◌, ◌≤◌, ◌%◌, inl, inr, Option, None, Some, List, ◌++◌, take, drop, sym, ap, ◌∙◌, arith, subst, take-append-drop}
 use Rattle.std.specs.List.{slice_get}
 use Rattle.qoi.specs.Qoi.{RgbaPixel}
 use Rattle.qoi.specs.inner.block.Vectors.{FitsBlock}
-use Rattle.qoi.specs.inner.BlockLoop.{InBlocks, FRONT_CARRIED}
+use Rattle.qoi.specs.inner.BlockLoop.{InBlocks, IsCarried, FRONT_CARRIED}
 use Rattle.qoi.specs.Styles.{Style, style_in}
-use Rattle.qoi.specs.inner.Coder.{pixels_in, kept_bytes}
+use Rattle.qoi.specs.inner.Coder.{LastPixel, pixels_in, kept_bytes}
 use Rattle.qoi.specs.inner.block.Planes.{block_pixels, last_pixel}
 use Rattle.qoi.specs.inner.block.Lanes.{fresh_marks}
 use Rattle.qoi.proofs.encoding.coder.CoderLink.{in_style, still_between, goes_on}
@@ -37,9 +37,9 @@ returns-then-marks-eq0 g c = c.write_full_runs.ensures (style_in g.row.STYLE c.a
 pub write_marked_pixels-rest-requires : goal.write_marked_pixels-rest-requires
 write_marked_pixels-rest-requires g c =
     let raw = pixels_in c.args.front.raw in
-    let last = c.coder_after-coder.result.last in
+    let last = c.new-coder.result.last in
     let bits = c.marks-marks.result in
-    let is = c.coder_after-coder.ensures.carried in
+    let is : IsCarried last c.args.carry = subst (λ l. IsCarried l c.args.carry) (sym c.new-coder.ensures.last) c.last_pixel.ensures.carried in
     let marks : bits ≡ fresh_marks last.px (take 16 raw) =
     c.marks-marks.ensures c.args.carry.before c.first-block.ensures.changes ∙ (λ i. fresh_marks (is.px_is i) (c.first-block.ensures.pixels i)) in
     let few : slice_get raw 0 ≡ Some last.px → last.repeats ≤ FRONT_CARRIED = λ e.
@@ -49,22 +49,24 @@ write_marked_pixels-rest-requires g c =
 
 pub returns-then-goes_by_marks : goal.returns-then-goes_by_marks
 returns-then-goes_by_marks g c =
-    let coder = c.coder_after-coder.ensures in
+    let coder = c.new-coder.ensures in
+    let last = c.last_pixel.ensures in
     let next = c.write_marked_pixels-rest.ensures in
     record {
       less = next.less;
       written = λ ahead n more whole b. record {
         last = c.write_marked_pixels-rest.new.coder.last;
-        is = c.carried.ensures;
-        between = in_style next.written (coder.style ∙ c.style_in-style.ensures) refl more
-            (still_between coder.carried coder.begun (inr (omega (arith, c.goes_by_marks.ensures.later c.if-goes_by_marks.true, whole))) b);
+        is = c.of.ensures;
+        between = in_style next.written (coder.style ∙ c.style_in-style.ensures) coder.last more
+            (still_between last.carried last.begun (inr (omega (arith, c.goes_by_marks.ensures.later c.if-goes_by_marks.true, whole))) b);
         goes = goes_on {rest = pixels_in c.write_marked_pixels-rest.result} next.begun (λ _. next.few);
       };
     }
 
 pub returns-then-may_miss_blank : goal.returns-then-may_miss_blank
 returns-then-may_miss_blank g c =
-    let coder = c.coder_after-coder-then-may_miss_blank.ensures in
+    let coder = c.new-coder-then-may_miss_blank.ensures in
+    let before = c.last_pixel-then-may_miss_blank.ensures in
     let next = c.write_next_group-rest.ensures in
     let last = c.write_next_group-rest.new.self.last in
     let tight = sym c.style_in-style.ensures ∙ c.may_miss_blank.ensures.tight c.if-may_miss_blank.true in
@@ -72,9 +74,9 @@ returns-then-may_miss_blank g c =
       less = next.less;
       written = λ ahead n more whole b. record {
         last = last;
-        is = c.carried-then-may_miss_blank.ensures;
-        between = in_style next.written (coder.style ∙ c.style_in-style.ensures) refl more (still_between coder.carried coder.begun (inl tight) b);
-        goes = goes_on {rest = pixels_in c.write_next_group-rest.result} (next.begun coder.begun)
+        is = c.of-then-may_miss_blank.ensures;
+        between = in_style next.written (coder.style ∙ c.style_in-style.ensures) coder.last more (still_between before.carried before.begun (inl tight) b);
+        goes = goes_on {rest = pixels_in c.write_next_group-rest.result} (next.begun (ap (λ (l : LastPixel). l.begun) coder.last ∙ before.begun))
             (λ e. omega (arith, next.none (λ none. (let no : ◌≡◌ {A = Option RgbaPixel} None (Some last.px) = sym (ap (λ ps. slice_get ps 0) none) ∙ e in cc))));
       };
     }

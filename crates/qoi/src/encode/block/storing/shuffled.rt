@@ -106,7 +106,7 @@ fn join(codes: u64) -> [u8; 2]
 }
 
 /// Stores the chunks of sixteen pixels from `at` on, and returns where they end, if each has at
-/// most four bytes. These stand in `chunks`, and `size` says how many each has.
+/// most four bytes. These stand in `chunks`, and `size` says how many each has: none has three.
 #[inline(always)]
 pub(in crate::encode) fn store_shuffled(
     out: &mut [u8],

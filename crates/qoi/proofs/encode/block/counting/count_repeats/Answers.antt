@@ -50,5 +50,5 @@ counted_lanes rs c xs ms tops few lr stamped most lm is =
     lr (length-zip2 less numbers tops (sym lt16))
 
 pub returns : goal.returns
-returns c = λ rs lr is. counted_lanes rs c.args.carry _ c.running_most.result c.greater-most.result c.requires lr
+returns c = λ rs lr is. counted_lanes rs c.args.carried _ c.running_most.result c.greater-most.result c.requires lr
     (stamps_are rs c.args.rep lr is) c.running_most.ensures.most c.running_most.ensures.long c.greater-most.ensures

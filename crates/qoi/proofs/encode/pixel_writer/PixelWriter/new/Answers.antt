@@ -19,8 +19,8 @@ says : (g : Over) (c : After-n_bytes g) → (c.args.header ≡ c.in_ok-header.he
 says g c = tried_says _ _ _ _ c.in_ok-header.header (sym c.try_new.ensures ∙ c.in_ok-header.was)
 
 -- nothing came yet
-nothing : (g : Over) (c : After-n_bytes g) → IsNew c.in_ok-header.header.channels c.args.style c.in_ok-workspace.workspace.value.pending
-nothing g c = subst (λ (k : Workspace). IsNew c.in_ok-header.header.channels c.args.style k.pending) (sym c.in_ok-workspace.ensures.ok) c.new.ensures
+nothing : (g : Over) (c : After-n_bytes g) → IsNew c.in_ok-header.header.channels c.args.style c.in_ok-workspace.workspace.value.state
+nothing g c = subst (λ (k : Workspace). IsNew c.in_ok-header.header.channels c.args.style k.state) (sym c.in_ok-workspace.ensures.ok) c.new.ensures
 
 -- and nothing is held
 none : (g : Over) (c : After-n_bytes g) → c.in_ok-workspace.workspace.value.held ≡ []
@@ -43,8 +43,8 @@ returns-clause-made g c =
     let said = says g here in
     let before = g.W.Write.contents c.args.writer in
     let now = g.W.Write.contents c.send_bytes.new.writer in
-    let pending = c.in_ok-workspace.workspace.value.pending in
-    let is : IsNew c.args.header.channels c.args.style pending = subst (λ (h : Header). IsNew h.channels c.args.style pending) (sym said.0) (nothing g here) in
+    let state = c.in_ok-workspace.workspace.value.state in
+    let is : IsNew c.args.header.channels c.args.style state = subst (λ (h : Header). IsNew h.channels c.args.style state) (sym said.0) (nothing g here) in
     let sent : Appends before now (header_bytes c.args.header) = subst (Appends before now) (c.encode.ensures ∙ ap header_bytes (sym said.0)) c.in_ok-send_bytes.ensures.written in
     record {
       header_is = sym said.0;
@@ -54,6 +54,6 @@ returns-clause-made g c =
       are = λ i. omega arith;
       writes = λ more size are.
           let e : EncoderState = record { raw = more; header = c.args.header; style = c.args.style } in
-          subst (λ held. ImageBetween appended e before now pending [] (held ++ more)) (sym (none g here))
-          (image_starts e before now pending (header_bytes c.args.header) [] are is (sym (append-nil (header_bytes c.args.header))) sent);
+          subst (λ held. ImageBetween appended e before now state [] (held ++ more)) (sym (none g here))
+          (image_starts e before now state (header_bytes c.args.header) [] are is (sym (append-nil (header_bytes c.args.header))) sent);
     }

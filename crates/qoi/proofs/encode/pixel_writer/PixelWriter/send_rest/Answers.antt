@@ -17,7 +17,7 @@ use Rattle.qoi.proofs.encode.pixel_writer.PixelWriter.send_rest.Goals as goal
 
 -- only the bytes that are held are ahead, and the file is that of the image
 starts : (g : Over) (c : After-write_end g) (e : EncoderState) (before : _) → c.self.inside.left ≡ 0 → HasTaken g.W.Write.contents e before c.args.self.now
-    → ImageBetween appended e before (g.W.Write.contents c.self.inside.writer) c.deref_mut-workspace.result.now.pending [] c.deref_mut-workspace.result.now.held
+    → ImageBetween appended e before (g.W.Write.contents c.self.inside.writer) c.deref_mut-workspace.result.now.state [] c.deref_mut-workspace.result.now.held
     × IsFileOf e.style e.header e.raw (image_file e.style e.header e.raw)
 unfolding HasTaken
 starts g c e before none taken =
@@ -26,9 +26,9 @@ starts g c e before none taken =
     let now = g.W.Write.contents p.writer in
     let t = subst (HasTaken g.W.Write.contents e before) (sym c.self.view_is) taken in
     let last = t.writes [] (sym none) (λ i. omega arith) in
-    let same = subst (λ x. ImageBetween appended (record e { raw = x }) before now workspace.pending [] (workspace.held ++ [])) (append-nil e.raw) last in (
-      subst (λ (k : Workspace). ImageBetween appended e before now k.pending [] k.held) (sym c.deref_mut-workspace.ensures.value)
-          (subst (ImageBetween appended e before now workspace.pending []) (append-nil workspace.held) same),
+    let same = subst (λ x. ImageBetween appended (record e { raw = x }) before now workspace.state [] (workspace.held ++ [])) (append-nil e.raw) last in (
+      subst (λ (k : Workspace). ImageBetween appended e before now k.state [] k.held) (sym c.deref_mut-workspace.ensures.value)
+          (subst (ImageBetween appended e before now workspace.state []) (append-nil workspace.held) same),
       file_of_image e.style e.header e.raw (subst IsValid t.header_is c.self.invariant.0) (omega (arith, t.size, none)) t.are,
     )
 

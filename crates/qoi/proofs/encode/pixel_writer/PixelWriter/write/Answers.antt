@@ -17,17 +17,17 @@ use Rattle.qoi.proofs.encode.pixel_writer.PixelWriter.write.Goals as goal
 
 -- the image with other bytes after these, before them
 starts : (g : Over) (c : After-deref_mut-workspace g) (e : EncoderState) (before : _) (more : List ℕ)
-    → ImageBetween appended (and_raw e (c.args.raw.now ++ more)) before (g.W.Write.contents c.self.inside.writer) c.self.inside.workspace.value.pending []
+    → ImageBetween appended (and_raw e (c.args.raw.now ++ more)) before (g.W.Write.contents c.self.inside.writer) c.self.inside.workspace.value.state []
     (c.self.inside.workspace.value.held ++ (c.args.raw.now ++ more))
-    → ImageBetween appended (and_raw (and_raw e c.args.raw.now) more) before (g.W.Write.contents c.self.inside.writer) c.deref_mut-workspace.result.now.pending []
+    → ImageBetween appended (and_raw (and_raw e c.args.raw.now) more) before (g.W.Write.contents c.self.inside.writer) c.deref_mut-workspace.result.now.state []
     ((c.deref_mut-workspace.result.now.held ++ c.args.raw.now) ++ more)
 starts g c e before more b =
     let now = g.W.Write.contents c.self.inside.writer in
     let workspace = c.self.inside.workspace.value in
     let raw = c.args.raw.now in
-    subst (λ (k : Workspace). ImageBetween appended (and_raw (and_raw e raw) more) before now k.pending [] ((k.held ++ raw) ++ more)) (sym c.deref_mut-workspace.ensures.value)
-    (subst (λ x. ImageBetween appended (record e { raw = x }) before now workspace.pending [] ((workspace.held ++ raw) ++ more)) (sym (append_assoc e.raw raw more))
-    (subst (ImageBetween appended (and_raw e (raw ++ more)) before now workspace.pending []) (sym (append_assoc workspace.held raw more)) b))
+    subst (λ (k : Workspace). ImageBetween appended (and_raw (and_raw e raw) more) before now k.state [] ((k.held ++ raw) ++ more)) (sym c.deref_mut-workspace.ensures.value)
+    (subst (λ x. ImageBetween appended (record e { raw = x }) before now workspace.state [] ((workspace.held ++ raw) ++ more)) (sym (append_assoc e.raw raw more))
+    (subst (ImageBetween appended (and_raw e (raw ++ more)) before now workspace.state []) (sym (append_assoc workspace.held raw more)) b))
 
 pub returns-in_err-take_raw-clause-refused : goal.returns-in_err-take_raw-clause-refused
 unfolding HasTaken
@@ -40,7 +40,7 @@ returns-in_err-take_raw-clause-refused g c = λ e before taken.
       r.0,
       record {
         header_is = t.header_is;
-        style_is = c.take_raw.ensures.stays.1 ∙ ap (λ (k : Workspace). k.pending.style) c.deref_mut-workspace.ensures.value ∙ t.style_is;
+        style_is = c.take_raw.ensures.stays.1 ∙ ap (λ (k : Workspace). k.state.style) c.deref_mut-workspace.ensures.value ∙ t.style_is;
         fails = refl;
         size = omega (arith, t.size, length-append e.raw raw);
         part = λ more size are.
@@ -54,11 +54,11 @@ returns-in_err-take_raw-clause-refused g c = λ e before taken.
 
 -- the bytes were held, or some written and the others held, and nothing else changed
 went : (g : Over) (c : Joined-takes g) → (c.if-takes.self-inside.header ≡ c.self.inside.header) × (c.if-takes.self-inside.left ≡ c.self.inside.left)
-    × (c.if-takes.self-inside.workspace.value.pending.style ≡ c.deref_mut-workspace.result.now.pending.style)
-    × GoesOn appended (g.W.Write.contents c.self.inside.writer) c.deref_mut-workspace.result.now.pending [] (c.deref_mut-workspace.result.now.held ++ c.args.raw.now)
-    (g.W.Write.contents c.if-takes.self-inside.writer) c.if-takes.self-inside.workspace.value.pending [] c.if-takes.self-inside.workspace.value.held
+    × (c.if-takes.self-inside.workspace.value.state.style ≡ c.deref_mut-workspace.result.now.state.style)
+    × GoesOn appended (g.W.Write.contents c.self.inside.writer) c.deref_mut-workspace.result.now.state [] (c.deref_mut-workspace.result.now.held ++ c.args.raw.now)
+    (g.W.Write.contents c.if-takes.self-inside.writer) c.if-takes.self-inside.workspace.value.state [] c.if-takes.self-inside.workspace.value.held
 went g c =
-    let opaque = subst (λ (k : Workspace). EndsOpaque k.pending) (sym c.deref_mut-workspace.ensures.value) (c.self.invariant.2 c.if-self.false).0 in
+    let opaque = subst (λ (k : Workspace). EndsOpaque k.state) (sym c.deref_mut-workspace.ensures.value) (c.self.invariant.2 c.if-self.false).0 in
     elim c.if-takes.branch [
       | then-takes w ↦ rw (w.self-inside-is, w.push.ensures) (refl, refl, refl, stays (Appends-nil _) opaque)
       | else-takes+in_ok-take_raw w ↦ rw w.self-inside-is (refl, refl, w.take_raw.ensures.stays.1, w.in_ok-take_raw.ensures.written)
@@ -73,7 +73,7 @@ returns-clause-taken g c = λ e before taken.
     let w = went g (goal.at.returns-clause-taken g c).Joined-takes in
     record {
       header_is = w.0 ∙ t.header_is;
-      style_is = w.2 ∙ ap (λ (k : Workspace). k.pending.style) c.deref_mut-workspace.ensures.value ∙ t.style_is;
+      style_is = w.2 ∙ ap (λ (k : Workspace). k.state.style) c.deref_mut-workspace.ensures.value ∙ t.style_is;
       works = refl;
       size = omega (arith, t.size, length-append e.raw raw, c.if-raw-self.false, w.1);
       are = bytes_append e.raw raw t.are raw_are;

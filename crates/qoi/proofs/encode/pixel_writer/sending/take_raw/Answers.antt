@@ -58,6 +58,6 @@ returns-clause-written g c =
     let old = c.args.workspace.now in
     let workspace = kept_bytes c.loop-writer.piece.piece in
     let all = subst (Appends (contents c.loop-writer.writer) (contents c.send_bytes.new.writer)) c.front.ensures c.in_ok-send_bytes.ensures.written in
-    subst (λ x. GoesOn appended (contents c.args.writer.now) old.pending [] (old.held ++ c.args.raw.now) (contents c.send_bytes.new.writer) c.loop-writer.workspace.1.0 [] x) (sym c.push.ensures)
+    subst (λ x. GoesOn appended (contents c.args.writer.now) old.state [] (old.held ++ c.args.raw.now) (contents c.send_bytes.new.writer) c.loop-writer.workspace.1.0 [] x) (sym c.push.ensures)
     (then_on Appends-trans c.loop-writer.invariant.written
     (sent_on stands c.loop-writer.invariant.written.opaque refl (record { front = workspace; split = sym (append-nil workspace); went = all })))

@@ -15,10 +15,10 @@ use Rattle.qoi.proofs.encode.pixel_writer.sending.write_end.Goals.{After-bytes}
 use Rattle.qoi.proofs.encode.pixel_writer.sending.write_end.Goals as goal
 
 -- nothing is in the piece before the bytes that were held
-starts : (g : Over) (c : After-bytes g) (ahead : List ℕ) → Between ahead c.args.workspace.now.pending [] c.args.workspace.now.held
-    → Between ahead c.args.workspace.now.pending (kept_bytes c.open-piece.result.piece) c.bytes.result.now
+starts : (g : Over) (c : After-bytes g) (ahead : List ℕ) → Between ahead c.args.workspace.now.state [] c.args.workspace.now.held
+    → Between ahead c.args.workspace.now.state (kept_bytes c.open-piece.result.piece) c.bytes.result.now
 starts g c ahead s =
-    let p = c.args.workspace.now.pending in
+    let p = c.args.workspace.now.state in
     subst (Between ahead p (kept_bytes c.open-piece.result.piece)) (sym c.bytes.ensures.are)
     (subst (λ workspace. Between ahead p workspace c.args.workspace.now.held) (sym (c.open-piece.ensures ∙ c.new.ensures)) s)
 

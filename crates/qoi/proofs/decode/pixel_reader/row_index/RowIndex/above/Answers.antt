@@ -1,4 +1,4 @@
--- The place is one of the index; and all pixels come after the first row.
+-- The point is one of the index; and all pixels come after the first row.
 use Rattle.std.proofs.Common.{◌≡◌, ◌≤◌, ◌-◌, ◌*◌, ◌∙◌, Ok, ap, subst, length, arith}
 use Rattle.qoi.specs.Qoi.{Header, channels_number, pixel_count}
 use Rattle.qoi.proofs.decoding.Places.{goes_on_in_file, goes_on_left, place_within}
@@ -7,15 +7,15 @@ use Rattle.qoi.proofs.decode.pixel_reader.row_index.RowIndex.above.Goals as goal
 
 pub returns-then-pixels_wanted-left-clause-file : goal.returns-then-pixels_wanted-left-clause-file
 returns-then-pixels_wanted-left-clause-file c index =
-    let same : c.args.self.now ≡ c.self.inside.places.items = cc c.self.view_is in
-    goes_on_in_file _ _ _ _ _ c.resume.ensures.goes c.requires.0 (place_found _ _ c.self.inside.places.items c.args.self.now (c.loop-at.at - 1) _ same c.requires.0 index
-    (omega (arith, c.loop-at.invariant, c.loop-at-test.true, ap length same)) c.index-place.ensures)
+    let same : c.args.self.now ≡ c.self.inside.points.items = cc c.self.view_is in
+    goes_on_in_file _ _ _ _ _ c.resume.ensures.goes c.requires.0 (place_found _ _ c.self.inside.points.items c.args.self.now (c.loop-i.i - 1) _ same c.requires.0 index
+    (omega (arith, c.loop-i.invariant, c.loop-i-test.true, ap length same)) c.index-point.ensures)
 
 pub returns-then-pixels_wanted-left-clause-accepts : goal.returns-then-pixels_wanted-left-clause-accepts
 returns-then-pixels_wanted-left-clause-accepts c index =
-    let same : c.args.self.now ≡ c.self.inside.places.items = cc c.self.view_is in
-    let (at, left) = place_within _ _ _ c.requires.0 (place_found _ _ c.self.inside.places.items c.args.self.now (c.loop-at.at - 1) _ same c.requires.0 index
-    (omega (arith, c.loop-at.invariant, c.loop-at-test.true, ap length same)) c.index-place.ensures) in
+    let same : c.args.self.now ≡ c.self.inside.points.items = cc c.self.view_is in
+    let (at, left) = place_within _ _ _ c.requires.0 (place_found _ _ c.self.inside.points.items c.args.self.now (c.loop-i.i - 1) _ same c.requires.0 index
+    (omega (arith, c.loop-i.invariant, c.loop-i-test.true, ap length same)) c.index-point.ensures) in
     c.resume.ensures.accepts at left
 
 pub returns-then-pixels_wanted-left-clause-left : goal.returns-then-pixels_wanted-left-clause-left
