@@ -20,8 +20,8 @@ use crate::types::Style::{self, Places, Reference, Tight};
 use crate::writers::Writer;
 
 /// The encoder's whole state between two pixels of an image: the table, channels and style, and the
-/// last pixel, with the repeats of it that wait. A `Coder` has the last two of them, and a `Carry`
-/// what a loop over blocks needs of the last pixel. Channels and style stand between table and last
+/// last pixel, with the repeats of it that wait. A `Coder` has the style and the last pixel, and a
+/// `Carry` what lanes need of the last pixel. Channels and style stand between table and last
 /// pixel: if these stood side by side, the zeros that both begin with would be cleared by a call.
 #[derive(Drop)]
 pub(super) struct ImageState {

@@ -163,7 +163,8 @@ impl RowIndex {
     {
         let pixels_wanted = pixels_from(decoder.header(), first);
         let mut i = self.points.len().min((first / self.every) as usize);
-        // A point may lie past its row, since a reader decodes ahead: then one above it serves.
+        // Point `i` was kept before row (i + 1) * `every`. It may lie past that row, since a reader
+        // decodes ahead: then one above it serves.
         while i > 0 {
             i -= 1;
             let point = &self.points[i];

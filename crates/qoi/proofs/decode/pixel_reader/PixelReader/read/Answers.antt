@@ -17,7 +17,7 @@ use Rattle.qoi.proofs.decode.pixel_reader.PixelReader.read.Given.{Over}
 use Rattle.qoi.proofs.decode.pixel_reader.PixelReader.read.Goals.{After-refuse}
 use Rattle.qoi.proofs.decode.pixel_reader.PixelReader.read.Goals as goal
 
--- what holds of the error in its place, holds of the one that is returned
+-- what holds of the error in `fault`, holds of the one that is returned
 fault_is : (Why : Error → Type 0) (fault : Option Error) (e : Error) → IfSome fault (λ f. e ≡ f) → MatchOption fault ⊥ Why → Why e
 fault_is Why (Some f) e is why = subst Why (sym is) why
 fault_is Why None e is why = absurd why
