@@ -448,8 +448,7 @@ static void check_from_raw(struct session *it, size_t i) {
         check_unchanged(it, i, broken);
         return;
     }
-    /* A reader that is interrupted is asked again. */
-    int ends = is_bad(&it->target.raw, answer->raw.calls) && it->target.raw.end != 1, is_done = gave == missing;
+    int ends = is_bad(&it->target.raw, answer->raw.calls), is_done = gave == missing;
     if (gave > size || gave > missing || (breaks(it, i) && !is_done && gave % PIECE > 0)) {
         differ("raw bytes read", missing, gave);
         return;

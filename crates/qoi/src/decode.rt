@@ -31,6 +31,7 @@ pub use crate::decode::pixel_reader::mark::Mark;
 pub use crate::decode::pixel_reader::row_index::RowIndex;
 use crate::decode::reader::Conversion;
 pub use crate::decode::reader::{Buffered, Bytes, Reader};
+pub(crate) use crate::decode::stream::read_exact;
 use crate::error::{Error, Result};
 use crate::header::Header;
 use crate::types::Channels;

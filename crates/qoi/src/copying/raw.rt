@@ -12,7 +12,7 @@ ghost use Rattle.qoi.specs.pieces.PixelReader.{pixels_left, HasGiven, IsSpent};
 ghost use Rattle.qoi.specs.pieces.PixelWriter.{raw_left, and_raw, HasTaken, HasFailed};
 
 use crate::copying::PIECE;
-use crate::decode::{PixelReader, Reader};
+use crate::decode::{PixelReader, Reader, read_exact};
 use crate::encode::{PixelWriter, send_bytes};
 use crate::error::Result;
 use std::io::{Read, Write};
@@ -135,7 +135,8 @@ impl<W: Write + Drop> PixelWriter<W> {
 
     // Takes as many raw bytes as `piece` has.
     fn take_raw_piece<R: Read>(&mut self, input: &mut R, piece: &mut [u8]) -> Result<()>
-        requires { length piece.old ≤ raw_left self.old }
+        requires some { 0 < length piece.old }
+        requires fits { length piece.old ≤ raw_left self.old }
         ensures taken { (e : EncoderState) (before : Option (List ℕ))
             → HasTaken W.contents e before self.old → OnOk result
             (Consumes (R.remaining input.old) (R.remaining input.new) piece.new
@@ -146,7 +147,7 @@ impl<W: Write + Drop> PixelWriter<W> {
             → IfErr result (BreaksInput W.contents (R.remaining input.old)
             (R.remaining input.new) e before self.new) }
     {
-        input.read_exact(piece)?;
+        read_exact(input, piece)?;
         self.write(piece)
     }
 }

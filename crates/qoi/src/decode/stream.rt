@@ -21,7 +21,7 @@ use std::io::{ErrorKind, Read};
 // What reading past the end of a stream returns.
 #[cold]
 fn ended() -> io::Error {
-    io::Error::new(ErrorKind::UnexpectedEof, "the stream ended within a file")
+    io::Error::new(ErrorKind::UnexpectedEof, "the reader ended too early")
 }
 
 // Fills the buffer from a stream, and asks for no byte past it. An interruption is a fault, unlike
@@ -29,7 +29,7 @@ fn ended() -> io::Error {
 // first read fills it, so that one stands before the loop. Inlined, so that the reader isn't lent to
 // a call in the loop over chunks, and the compiler can keep it in registers.
 #[inline(always)]
-pub(super) fn read_exact<R: Read>(reader: &mut R, buf: &mut [u8]) -> io::Result<()>
+pub(crate) fn read_exact<R: Read>(reader: &mut R, buf: &mut [u8]) -> io::Result<()>
     requires { 0 < length buf.old }
     ensures read { OnOk result
         (Consumes (R.remaining reader.old) (R.remaining reader.new) buf.new) }

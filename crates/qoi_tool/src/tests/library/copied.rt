@@ -144,6 +144,18 @@ fn failing_writers(rt: HostRuntime) {
     }
 }
 
+// A reader's third call is interrupted: none comes after it.
+#[test]
+fn an_interrupted_reader(rt: HostRuntime) {
+    let (alloc, end) = (rt.alloc(), End::Interruption);
+    let header = row(3000, Channels::Rgb);
+    let mut copy = writer(&rt, alloc, header, Style::Reference, Vec::new(alloc));
+    let mut source = Source::new(&[7; 9000], 1000, Bad { call: 3, end });
+    let fault = copy.copy_raw_from(&mut source).err();
+    assert_fails(&rt, fault, ErrorKind::Interrupted);
+    assert_number(&rt, source.calls, 3);
+}
+
 // Raw bytes to a writer and from a reader, in several pieces and none. A reader that ends too
 // early, a writer that fails.
 #[test]

@@ -17,6 +17,6 @@ returns-clause-refused g c e before t =
     let piece = c.read_exact.new.buf in
     MatchResult-weaker c.write.result (c.write.ensures.refused e before t) (λ _ _. tt)
     (λ error r. elim r [
-      | inl f ↦ (f.0, piece, inr (c.in_ok-read_exact.ensures.bytes, f.1))
-      | inr many ↦ absurd (omega (arith, many.1, length-append e.raw piece, t.size, c.requires, c.read_exact.auto.buf))
+      | inl f ↦ (f.0, piece, inr (c.in_ok-read_exact.ensures.read, f.1))
+      | inr many ↦ absurd (omega (arith, many.1, length-append e.raw piece, t.size, c.requires.fits, c.read_exact.auto.buf))
     ])
