@@ -1,5 +1,5 @@
 //! The raw bytes of an image, from a reader of pieces to a writer of pieces.
-ghost use Rattle.std.specs.Prelude.{◌≡◌, ℕ, ◌+◌, ◌*◌, ◌-◌, ◌<◌, ◌≤◌, List, [], ◌++◌, length, take, drop, Option, Some, IfErr, OnOk, IsErrOf, IsErrAnd};
+ghost use Rattle.std.specs.Prelude.{◌≡◌, ℕ, ◌+◌, ◌*◌, ◌-◌, ◌<◌, ◌≤◌, List, [], ◌++◌, length, take, drop, Option, Some, IfErr, OnOk, IsOk, IsErrOf, IsErrAnd};
 ghost use Rattle.qoi.specs.Decoded.{HasDecoded};
 ghost use Rattle.qoi.specs.DecoderState.{DecoderState};
 ghost use Rattle.qoi.specs.EncoderState.{EncoderState};
@@ -64,6 +64,10 @@ impl<R: Reader> PixelReader<R> {
         ensures all { OnOk result (pixels_left self.new ≡ 0) }
         ensures left { OnOk result
             (raw_left writer.new + pixels_left self.old ≡ raw_left writer.old) }
+        // If none are left, nothing happens.
+        ensures none { (e : EncoderState) (before : Option (List ℕ))
+            → HasTaken W.contents e before writer.old → pixels_left self.old ≡ 0
+            → IsOk result × (self.new ≡ self.old) × (writer.new ≡ writer.old) }
 
         // The refusals that leave both as they were: too many bytes, a writer that failed before,
         // and an image that was refused before.
@@ -132,6 +136,9 @@ impl<R: Reader> PixelReader<R> {
             (pixels_left self.new + rows_size self.old rows ≡ pixels_left self.old) }
         ensures room { OnOk result
             (raw_left writer.new + rows_size self.old rows ≡ raw_left writer.old) }
+        ensures none { (e : EncoderState) (before : Option (List ℕ))
+            → HasTaken W.contents e before writer.old → rows_size self.old rows ≡ 0
+            → IsOk result × (self.new ≡ self.old) × (writer.new ≡ writer.old) }
 
         // The refusals that leave both as they were: too few rows, too many bytes, a writer that
         // failed before, and an image that was refused before.
@@ -189,6 +196,9 @@ impl<R: Reader> PixelReader<R> {
             × Takes W.contents more writer.old writer.new × (length more ≡ count)) }
         ensures left { OnOk result (pixels_left self.new + count ≡ pixels_left self.old) }
         ensures room { OnOk result (raw_left writer.new + count ≡ raw_left writer.old) }
+        ensures none { (e : EncoderState) (before : Option (List ℕ))
+            → HasTaken W.contents e before writer.old → count ≡ 0
+            → IsOk result × (self.new ≡ self.old) × (writer.new ≡ writer.old) }
         ensures many { (e : EncoderState) (before : Option (List ℕ))
             → HasTaken W.contents e before writer.old → raw_left writer.old < count
             → IsErrOf result (Error.InvalidImageLength (length e.raw + count) e.header.width

@@ -1,5 +1,5 @@
 //! Raw bytes from a reader of pieces to any writer, and from any reader to a writer of pieces.
-ghost use Rattle.std.specs.Prelude.{◌≡◌, ℕ, ◌+◌, ◌*◌, ◌≤◌, ◌<◌, List, [], ◌++◌, length, drop, Option, Some, IfErr, OnOk, IsErrOf, IsErrAnd};
+ghost use Rattle.std.specs.Prelude.{◌≡◌, ℕ, ◌+◌, ◌*◌, ◌≤◌, ◌<◌, List, [], ◌++◌, length, drop, Option, Some, IfErr, OnOk, IsOk, IsErrOf, IsErrAnd};
 ghost use Rattle.std.specs.Io.KnownBytes.{Appends, Consumes};
 ghost use Rattle.qoi.specs.Decoded.{HasDecoded};
 ghost use Rattle.qoi.specs.DecoderState.{DecoderState};
@@ -49,6 +49,9 @@ impl<R: Reader> PixelReader<R> {
             → HasGiven d start (R.ahead self.old.reader) given self.old → OnOk result
             ((rest : List ℕ) × HasDecoded d start (R.ahead self.new.reader) (given ++ rest)) }
         ensures all { OnOk result (pixels_left self.new ≡ 0) }
+        // If none are left, nothing happens.
+        ensures none { pixels_left self.old ≡ 0
+            → IsOk result × (self.new ≡ self.old) × (out.new ≡ out.old) }
 
         // The refusals: the image is refused, or the writer fails; an image that was refused before
         // leaves all as it was.
@@ -113,6 +116,10 @@ impl<W: Write + Drop> PixelWriter<W> {
             × Consumes (R.remaining input.old) (R.remaining input.new) raw
             × HasTaken W.contents (and_raw e raw) before self.new) }
         ensures all { OnOk result (raw_left self.new ≡ 0) }
+        // If none is missing, nothing happens.
+        ensures none { (e : EncoderState) (before : Option (List ℕ))
+            → HasTaken W.contents e before self.old → raw_left self.old ≡ 0
+            → IsOk result × (self.new ≡ self.old) × (input.new ≡ input.old) }
 
         // The refusals: the reader or the writer fails; a writer that failed before stays as it
         // was.

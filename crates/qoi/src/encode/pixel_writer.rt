@@ -1,11 +1,12 @@
 //! Encoding of one image whose raw bytes come piece by piece.
 ghost use Rattle.std.specs.Prelude.{◌≡◌, ℕ, ◌+◌, ◌-◌, ◌*◌, ◌%◌, ◌^◌, ◌<◌, ◌≤◌, List, [], ◌++◌, Option, length, ◌⊎◌, Err, IfOk, IfErr, IsErrAnd, IsTrue, OnErr, OnOk, false};
 ghost use Rattle.std.specs.Io.KnownBytes.{Appends};
-ghost use Rattle.qoi.specs.Qoi.{Error, IsValid, pixels_max, tried_header};
+ghost use Rattle.qoi.specs.Qoi.{Error, Header, IsValid, pixels_max, tried_header};
 ghost use Rattle.qoi.specs.Raw.{image_byte_count};
 ghost use Rattle.qoi.specs.Encoded.{image_file};
 ghost use Rattle.qoi.specs.Errors.{IsIoError};
 ghost use Rattle.qoi.specs.Sent.{SendsFile, SendsPart, SendsSomeFile};
+ghost use Rattle.qoi.specs.Styles.{Style};
 ghost use Rattle.qoi.specs.EncoderState.{EncoderState};
 ghost use Rattle.qoi.specs.inner.Sending.{pixel_size, EndsOpaque};
 ghost use Rattle.qoi.specs.pieces.PixelWriter.{WriterState, HasTaken, HasFailed, RefusesRaw, SendsSome, and_raw, raw_left};
@@ -235,6 +236,10 @@ impl<W: Write + Drop> PixelWriter<W> {
         ensures file { (e : EncoderState) (before : Option (List ℕ))
             → HasTaken W.contents e before self → IfOk result (λ w.
             Appends before (W.contents w) (image_file e.style e.header e.raw)) }
+        // The same by its parts: the prover finds them where a call before this one copied.
+        ensures parts { (raw : List ℕ) (h : Header) (style : Style) (before : Option (List ℕ))
+            → HasTaken W.contents (record { raw = raw; header = h; style = style }) before self
+            → IfOk result (λ w. Appends before (W.contents w) (image_file style h raw)) }
         ensures some { (e : EncoderState) (before : Option (List ℕ))
             → HasTaken W.contents e before self → IfOk result (λ w.
             SendsSomeFile e.style e.header before (W.contents w)) }

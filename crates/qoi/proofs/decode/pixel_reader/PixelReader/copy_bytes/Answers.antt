@@ -16,6 +16,7 @@ loop-rest-init g c = record {
   left = refl;
   room = refl;
   same = (refl, refl);
+  none = λ _. (refl, refl);
   spent = λ _. (refl, refl, refl);
 }
 
@@ -31,6 +32,7 @@ loop-rest-preserved g c =
       left = first_of (search rules, grind (arith, common_steps));
       room = first_of (search rules, grind (arith, common_steps));
       same = first_of (search rules, grind (arith, common_steps));
+      none = λ h. absurd (omega (arith, h, i.count, c.loop-rest-test.true));
       spent = first_of (search rules, grind (arith, common_steps));
     }
 

@@ -14,6 +14,7 @@ invariant-loop-rest g l = record {
   left : pixels_left l.self + l.count ≡ pixels_left l.initial.self + l.rest;
   room : raw_left l.writer + l.count ≡ raw_left l.initial.writer + l.rest;
   same : (l.self.header ≡ l.initial.self.header) × (l.self.channels ≡ l.initial.self.channels);
+  none : l.count ≡ 0 → (l.self ≡ l.initial.self) × (l.writer ≡ l.initial.writer);
   spent : IsSpent l.initial.self → (l.self ≡ l.initial.self) × (l.writer ≡ l.initial.writer) × (l.rest ≡ l.count);
 }
 

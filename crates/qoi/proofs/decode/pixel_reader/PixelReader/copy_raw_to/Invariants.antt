@@ -11,6 +11,7 @@ invariant-loop-buf g l = record {
       → (more : List ℕ) × HasGiven d start (g.R.Reader.ahead l.self.reader) (given ++ more) l.self
       × Appends (g.W.Write.contents l.initial.out) (g.W.Write.contents l.out) more;
   same : (l.self.header ≡ l.initial.self.header) × (l.self.channels ≡ l.initial.self.channels);
+  none : pixels_left l.initial.self ≡ 0 → (l.self ≡ l.initial.self) × (l.out ≡ l.initial.out);
   spent : IsSpent l.initial.self → (l.self ≡ l.initial.self) × (l.out ≡ l.initial.out);
 }
 

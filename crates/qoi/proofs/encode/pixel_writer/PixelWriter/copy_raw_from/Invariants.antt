@@ -1,5 +1,5 @@
 -- The bytes that the reader gave so far came.
-use Rattle.std.proofs.Common.{List, ℕ, Option}
+use Rattle.std.proofs.Common.{◌≡◌, List, ℕ, Option}
 use Rattle.std.specs.Io.KnownBytes.{Consumes}
 use Rattle.qoi.specs.EncoderState.{EncoderState}
 use Rattle.qoi.specs.pieces.PixelWriter.{raw_left, and_raw, HasTaken}
@@ -10,6 +10,7 @@ invariant-loop-buf g l = record {
   taken : (e : EncoderState) (before : Option (List ℕ)) → HasTaken g.W.Write.contents e before l.initial.self
       → (raw : List ℕ) × Consumes (g.R.Read.remaining l.initial.input) (g.R.Read.remaining l.input) raw
       × HasTaken g.W.Write.contents (and_raw e raw) before l.self;
+  none : raw_left l.initial.self ≡ 0 → (l.self ≡ l.initial.self) × (l.input ≡ l.initial.input);
 }
 
 abbrev pub decreases-loop-buf : goal.decreases-loop-buf
