@@ -43,8 +43,7 @@ fn is_short<const N: usize>(b1: u8) -> bool
     b1 <= (QOI_OP_RUN - 1) + (16 / N) as u8
 }
 
-// Whether a run with this first byte has fewer bytes of pixels than there is room for. If the
-// vectors of any run have room, `long_run` asks no more.
+// Whether a run with this first byte has fewer bytes of pixels than there is room for.
 #[inline(always)]
 #[tactic(auto, using(crate::proofs::decoding::FastSteps::run_below))]
 fn leaves_room<const N: usize>(b1: u8, room: usize) -> bool

@@ -70,7 +70,8 @@ pub(super) fn begin_with_rgba<const N: usize>(
 }
 
 // Writes the full runs of the carried repeats and those at the front; the others are carried.
-// Returns the rest, and what is carried.
+// Returns the rest, and what is carried. If that is some repeats, the rest begins with a fresh pixel
+// or is empty: 992 repeats, where counting ends, are sixteen full runs.
 #[inline(always)]
 fn write_full_runs<'a, 'p, const N: usize, const ROOM: usize>(
     piece: OpenPiece<'p, ROOM>,

@@ -21,7 +21,7 @@ pub(super) const IN_PLACE: usize = 512;
 
 /// How many bytes to decode ahead, if as many are left of the image, for a piece of `size` bytes of
 /// which the first `done` are decoded: all that can be kept if none are, else those that the piece
-/// lacks and room for a run.
+/// lacks, few behind `Unread::long_piece`, and room for a run.
 #[inline]
 pub(super) fn kept_room(size: usize, done: usize) -> usize
     requires within { done ≤ size }

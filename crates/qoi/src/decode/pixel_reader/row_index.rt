@@ -91,7 +91,7 @@ fn skip_to(reader: &mut PixelReader<Bytes<'_>>, bytes_left: usize) -> Result<()>
     Ok(())
 }
 
-// Keeps the point where a reader is, unless the image ends there.
+// Keeps the point behind what a reader decoded, unless the image ends there.
 fn keep_point(
     points: &mut Vec<SeekPoint>,
     file: &[u8],

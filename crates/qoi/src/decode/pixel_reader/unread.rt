@@ -16,9 +16,9 @@ use crate::decode::table::TermTable;
 use crate::error::Error;
 
 /// What is unread of an image: the decoded `bytes` from `from` to `to`, and `undecoded` raw bytes,
-/// of which the first `run` are copies of the last pixel, the rest of its run. While some are
-/// undecoded, table and last pixel are those behind all chunks so far. After a refusal its error
-/// stands in `fault`, until it is returned.
+/// of which the first `run` are copies of the last pixel, the rest of its run; both are whole
+/// pixels. While some are undecoded, table and last pixel are those behind all chunks so far. After
+/// a refusal its error stands in `fault`, until it is returned.
 #[derive(Drop)]
 pub struct Unread {
     pub(super) table: TermTable,

@@ -88,7 +88,8 @@ fn one_of_four(a: u8x16, b: u8x16, c: u8x16, d: u8x16) -> u8x16
 }
 
 /// Puts sixteen packed pixels at their index positions, `indices`, one after the other. Returns
-/// which of them stood there already: 255 or 0.
+/// which of them stood there already: 255 or 0. A repeat does, since its fresh pixel was put
+/// (`goes_by_blocks`).
 #[inline(always)]
 pub(in crate::encode) fn put_block(table: &mut PixelTable, indices: &[u8], w: Words) -> u8x16
     requires long { length indices.now ≡ 16 }

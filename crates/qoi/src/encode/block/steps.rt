@@ -9,7 +9,7 @@ use crate::encode::block::lanes::shift_in;
 use crate::encode::block::planes::{Planes, blanks, known_alpha};
 use std::simd::prelude::*;
 
-/// The steps of one channel, where `before` has the sixteen pixels before these.
+/// The steps of one channel, where the last lane of `before` is the pixel before these.
 #[inline(always)]
 pub(in crate::encode) fn channel_steps(before: u8x16, v: u8x16) -> u8x16
     ensures byte { slice_index before 15 < 256 }
@@ -28,7 +28,7 @@ pub(in crate::encode) struct Changes {
     pub(in crate::encode) rep: u8x16,
 }
 
-/// The steps to sixteen pixels, where `before` has the sixteen before them.
+/// The steps to sixteen pixels, where the last lane of `before` is the pixel before them.
 #[inline(always)]
 pub(in crate::encode) fn find_changes<const N: usize>(before: Planes, p: Planes) -> Changes
     requires opaque { N ≡ 3 → slice_index before.a 15 ≡ 255 }
