@@ -45,29 +45,29 @@ fn chunks_in_buffer<R: BufRead, const N: usize, const F: usize>(
     Ok(now.reached)
 }
 
-// Decodes chunks from a reader with a buffer, after what others reached: if `RUN_FITS`, as long as
-// any run's vectors have room in `out`, else until it is full. Takes no byte past the last chunk.
-// Each turn reads one chunk, which may stand across two fillings of the buffer, and then takes
-// those that the buffer shows.
+// Decodes chunks from a reader with a buffer, after what others reached: if `WHILE_RUNS_FIT`, as
+// long as any run's vectors have room in `out`, else until it is full. Takes no byte past the last
+// chunk. Each turn reads one chunk, which may stand across two fillings of the buffer, and then
+// takes those that the buffer shows.
 #[inline(always)]
-fn decode_chunks<R: BufRead, const N: usize, const F: usize, const RUN_FITS: bool>(
+fn decode_chunks<R: BufRead, const N: usize, const F: usize, const WHILE_RUNS_FIT: bool>(
     reader: &mut R,
     table: &mut TermTable,
     from: Reached,
     out: &mut [u8],
 ) -> io::Result<Reached>
     requires { IsFillable N out.old from.at }
-    ensures read { IfOk result (λ now. TakesChunks F N RUN_FITS
+    ensures read { IfOk result (λ now. TakesChunks F N WHILE_RUNS_FIT
         (R.remaining reader.old) (R.remaining reader.new)
         (filling table.old from out.old) (filling table.new now out.new)) }
     ensures refused { IfErr result (λ e. RefusesFilling F N false
         (R.remaining reader.old) (R.remaining reader.new)
         (filling table.old from out.old) (Error.IoError e)) }
 {
-    let least = if RUN_FITS { RUN_ROOM } else { 1 };
+    let least = if WHILE_RUNS_FIT { RUN_ROOM } else { 1 };
     let mut now = from;
     while least <= out.len() - now.at {
-        let next = next_chunk::<R, N, F, RUN_FITS>(reader, table, now, out)?;
+        let next = next_chunk::<R, N, F, WHILE_RUNS_FIT>(reader, table, now, out)?;
         now = chunks_in_buffer::<R, N, F>(reader, table, next, out)?;
     }
     Ok(now)

@@ -27,8 +27,9 @@ pub(super) trait Chunks<const N: usize, const F: usize>: Sized {
     /// Whether they stand in memory.
     ghost in_memory: { Bool };
 
-    /// Decodes chunks, after what others reached, at least as long as `out` has room for the vectors of
-    /// any run (256 bytes); from memory chunks are taken nearer to its end. Returns what it reached.
+    /// Decodes chunks, after what others reached, at least as long as any run's vectors have room
+    /// in `out` (`RUN_ROOM`); from memory chunks are taken nearer to its end. Returns what it
+    /// reached.
     ///
     /// Chunks that are refused are refused for any image of more pixels than fit, too.
     fn some_chunks(

@@ -19,8 +19,9 @@ pub(super) const INPUT_ROOM: usize = 22;
 /// Bytes of room for the vectors of eight short chunks and of a full one.
 pub(super) const OUTPUT_ROOM: usize = 144;
 
-/// An output of fewer bytes that isn't the end of an image is short: in memory, to enter
-/// `fast_loop` for its chunks would take longer than to decode them with every test.
+/// An output of fewer bytes that isn't the end of an image is short for `fast_chunks`: in memory,
+/// to enter `fast_loop` for its chunks would take longer than to decode them with every test. A
+/// piece that is decoded in place (`IN_PLACE`) isn't compared with it.
 pub(super) const SHORT_OUTPUT: usize = 528;
 
 /// What `fast_loop` has between two chunks, in `N` channels of output, of a file of `F` channels:
@@ -69,8 +70,9 @@ impl<const N: usize, const F: usize> Progress<N, F> {
         }
     }
 
-    /// A copy, field by field. A copy of the whole would take along the bytes after the last
-    /// field, for which a loop would need registers.
+    /// A copy, field by field: `..self` copies so, too. A copy of the whole would take along the
+    /// bytes after the last field, for which a loop would need registers, and load two numbers at
+    /// once, which waits until both, just stored, are in the cache.
     #[inline(always)]
     pub(super) fn by_fields(self) -> Self
         ensures { result ≡ self.entry }
@@ -213,6 +215,7 @@ impl<const N: usize, const F: usize> Progress<N, F> {
         if RUN_ROOM <= out.len() - self.at {
             store_run::<N, F>(out, self.at, self.last, count);
         } else {
+            // Less room, but more than the run has bytes, as `leaves_room` found.
             store_late_run::<N, F>(out, self.at, self.last, count);
         }
         Progress {
@@ -236,9 +239,9 @@ impl<const N: usize, const F: usize> Progress<N, F> {
         ensures { FastChunks bytes.now self.entry table.old out.old result table.new out.new }
     {
         let mut now = self.by_fields();
-        let far = bytes.len() - INPUT_ROOM;
-        let top = out.len() - (VECTOR * AT_ONCE + VECTOR);
-        while now.taken <= far && now.at <= top {
+        let input_end = bytes.len() - INPUT_ROOM;
+        let output_end = out.len() - (VECTOR * AT_ONCE + VECTOR);
+        while now.taken <= input_end && now.at <= output_end {
             now = now.short_series::<AT_ONCE>(table, bytes, out);
             if is_short::<N>(now.next) {
                 // `AT_ONCE` were decoded, and room for others isn't known.

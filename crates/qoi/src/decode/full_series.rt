@@ -73,8 +73,8 @@ impl<const N: usize, const F: usize, const TAG: u8> Series<N, F, TAG> {
 // room ahead.
 #[inline(never)]
 fn series_of<const N: usize, const F: usize, const TAG: u8>(
-    from: Progress<N, F>,
     table: &mut TermTable,
+    from: Progress<N, F>,
     bytes: &[u8],
     out: &mut [u8],
 ) -> Progress<N, F>
@@ -85,9 +85,9 @@ fn series_of<const N: usize, const F: usize, const TAG: u8>(
     let before = from.last;
     let to = from.by_fields();
     let mut series = Series::<N, F, TAG> { to, before };
-    let far = bytes.len() - INPUT_ROOM;
-    let top = out.len() - OUTPUT_ROOM;
-    while series.to.next == TAG && series.to.taken <= far && series.to.at <= top {
+    let input_end = bytes.len() - INPUT_ROOM;
+    let output_end = out.len() - OUTPUT_ROOM;
+    while series.to.next == TAG && series.to.taken <= input_end && series.to.at <= output_end {
         series = series.chunks_of(table, bytes, out);
     }
     let Series { to, .. } = series;
@@ -97,8 +97,8 @@ fn series_of<const N: usize, const F: usize, const TAG: u8>(
 /// Decodes a series of RGB or of RGBA chunks, if one comes next.
 #[inline(always)]
 pub(super) fn take_full_series<const N: usize, const F: usize>(
-    from: Progress<N, F>,
     table: &mut TermTable,
+    from: Progress<N, F>,
     bytes: &[u8],
     out: &mut [u8],
 ) -> Progress<N, F>
@@ -107,13 +107,13 @@ pub(super) fn take_full_series<const N: usize, const F: usize>(
 {
     let taken = from.taken;
     if from.next == QOI_OP_RGB && bytes[taken + 4] == QOI_OP_RGB && bytes[taken + 8] == QOI_OP_RGB {
-        return series_of::<N, F, 0xfe>(from, table, bytes, out);
+        return series_of::<N, F, 0xfe>(table, from, bytes, out);
     }
     if from.next == QOI_OP_RGBA
         && bytes[taken + 5] == QOI_OP_RGBA
         && bytes[taken + 10] == QOI_OP_RGBA
     {
-        return series_of::<N, F, 0xff>(from, table, bytes, out);
+        return series_of::<N, F, 0xff>(table, from, bytes, out);
     }
     from
 }

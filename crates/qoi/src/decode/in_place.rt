@@ -58,9 +58,10 @@ fn last_run<const N: usize, const F: usize>(
 }
 
 /// Decodes chunks from the front of the bytes into a piece of an image, `out`, after what others
-/// reached: until less than 32 bytes of the piece are open, or the bytes end; but a run to the
-/// piece's end, or past it, is taken and fills it. Returns what was reached, and how many bytes of
-/// that run come after the piece.
+/// reached: until less than 32 bytes of the piece are open, or fewer than 22 bytes are ahead
+/// (`INPUT_ROOM`); but a run to the piece's end, or past it, is taken and fills it. What stays open
+/// is for `decode_while_runs_fit` and `decode_ahead` of `Unread`. Returns what was reached, and how
+/// many bytes of that run come after the piece.
 #[inline(always)]
 pub(super) fn take_in_place<const N: usize, const F: usize>(
     table: &mut TermTable,
@@ -78,14 +79,14 @@ pub(super) fn take_in_place<const N: usize, const F: usize>(
         taken: 0,
         reached: from,
     };
-    // A piece that is decoded in place has the room (`IN_PLACE`).
+    // `out` is never so short here (`IN_PLACE`): that is tested for the prover.
     if bytes.len() < INPUT_ROOM || out.len() < OUTPUT_ROOM {
         return (start, 0);
     }
     let front = chunks_ahead::<N, F, 8>(table, start, bytes, out);
+    // Asked again in `last_run`; here it keeps the two ways apart: were they joined, what the loops
+    // return would be copied, and the copy would wait for the stores before it.
     if is_run_to_end::<N>(bytes[front.taken], out.len() - front.reached.at) {
-        // Not joined with the other way: what the loops return would be copied, and the copy
-        // waits for the stores before it.
         return last_run::<N, F>(table, front, bytes, out);
     }
     let near = chunks_ahead::<N, F, 1>(table, front, bytes, out);

@@ -204,7 +204,7 @@ pub(super) fn fill<const N: usize, const F: usize, const RUN_FITS: bool>(
 {
     let Reached { last, at } = from;
     let room = if RUN_FITS { RUN_ROOM } else { out.len() - at };
-    // By the size, so that `count` is computed for long runs alone.
+    // By the size, as in `size / N` below, so that `count` is computed for long runs alone.
     if size <= VECTOR {
         if VECTOR <= room {
             store_vector::<N, F>(out, at, last);

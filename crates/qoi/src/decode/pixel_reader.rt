@@ -276,7 +276,7 @@ impl<R: Reader> PixelReader<R> {
             Ok(()) => Ok(size),
             Err(_) => {
                 self.refused = true;
-                Err(self.unread.refuse(left))
+                Err(self.unread.take_fault(left))
             }
         }
     }

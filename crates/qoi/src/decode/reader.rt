@@ -131,9 +131,8 @@ pub trait Reader: Sized {
         ensures refused { IfErr result (RefusesImage in_memory
             (size / channels_number conversion.channels) (ahead self.old) (ahead self.new)) };
 
-    /// Decodes an image's next bytes, while none are kept. Returns how many are in `out`, maybe none;
-    /// what it lacks, and more, goes to `unread`. With the last bytes it takes the end marker. After a
-    /// refusal the error stands in `unread`.
+    /// `decode_more` of `unread`, from this reader and in these channels. After a refusal the error
+    /// stands in `unread`, and of bytes in memory none are taken.
     ///
     /// Only `PixelReader` can call it, and no other type can be a reader, since nobody else has an
     /// `Unread`.

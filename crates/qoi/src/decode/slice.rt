@@ -23,67 +23,73 @@ use std::simd::prelude::*;
 // table of 256 numbers that `fast_loop` takes would take longer.
 const SMALL_IMAGE: usize = 160;
 
-// What is left between two chunks: what they reached, and the bytes ahead.
+// Where chunks end: what they reached, and the bytes ahead.
 #[derive(Clone, Copy)]
-struct Left<'a> {
+struct ChunksEnd<'a> {
     reached: Reached,
     rest: &'a [u8],
 }
 
-// Decodes chunks one by one, with every test, after what others reached. If `RUN_FITS`, the image
-// goes on behind `out`, and this stops once `out` has no room for any run's vectors (`RUN_ROOM`);
-// else once `out` is full. `None` if fewer than eight bytes of the file are left before it stops:
-// the file is cut, since its end marker alone has eight.
+// Decodes chunks one by one, with every test, after what others reached. If `WHILE_RUNS_FIT`, the
+// image goes on behind `out`, and this stops once `out` has no room for any run's vectors
+// (`RUN_ROOM`); else once `out` is full. `None` if fewer than eight bytes of the file are left
+// before it stops: the file is cut, since its end marker alone has eight.
 #[inline(never)]
-fn careful_chunks<'a, const N: usize, const F: usize, const RUN_FITS: bool, const SIZE: usize>(
+fn careful_chunks<
+    'a,
+    const N: usize,
+    const F: usize,
+    const WHILE_RUNS_FIT: bool,
+    const SIZE: usize,
+>(
     table: &mut SizedTerms<SIZE>,
     from: Reached,
     data: &'a [u8],
     out: &mut [u8],
-) -> Option<Left<'a>>
+) -> Option<ChunksEnd<'a>>
     requires { IsFillable N out.old from.at }
-    ensures read { IfSome result (λ left. TakesChunks F N RUN_FITS
-        (Some «data».entry.now) (Some left.rest.now)
-        (filling table.old from out.old) (filling table.new left.reached out.new)) }
+    ensures read { IfSome result (λ end. TakesChunks F N WHILE_RUNS_FIT
+        (Some «data».entry.now) (Some end.rest.now)
+        (filling table.old from out.old) (filling table.new end.reached out.new)) }
     ensures refused { IfNone result (RefusesFilling F N true
         (Some «data».entry.now) (Some «data».entry.now)
         (filling table.old from out.old) Error.UnexpectedBufferEnd) }
 {
-    let least = if RUN_FITS { RUN_ROOM } else { 1 };
+    let least = if WHILE_RUNS_FIT { RUN_ROOM } else { 1 };
     let mut now = from;
     let mut rest = data;
     while least <= out.len() - now.at {
         if rest.len() < QOI_PADDING_SIZE {
             return None;
         }
-        let decoded = decode_chunk::<N, F, RUN_FITS, SIZE>(table, now, rest, out);
+        let decoded = decode_chunk::<N, F, WHILE_RUNS_FIT, SIZE>(table, now, rest, out);
         let (_, after) = rest.split_at(decoded.taken);
         rest = after;
         now = decoded.reached;
     }
-    Some(Left { reached: now, rest })
+    Some(ChunksEnd { reached: now, rest })
 }
 
 // What `careful_chunks` decodes: first by `fast_chunks` of `stretches`, then by itself.
 #[inline(always)]
-fn slice_chunks<'a, const N: usize, const F: usize, const RUN_FITS: bool>(
+fn slice_chunks<'a, const N: usize, const F: usize, const WHILE_RUNS_FIT: bool>(
     table: &mut TermTable,
     from: Reached,
     data: &'a [u8],
     out: &mut [u8],
-) -> Option<Left<'a>>
+) -> Option<ChunksEnd<'a>>
     requires { IsFillable N out.old from.at }
-    ensures read { IfSome result (λ left. TakesChunks F N RUN_FITS
-        (Some «data».entry.now) (Some left.rest.now)
-        (filling table.old from out.old) (filling table.new left.reached out.new)) }
+    ensures read { IfSome result (λ end. TakesChunks F N WHILE_RUNS_FIT
+        (Some «data».entry.now) (Some end.rest.now)
+        (filling table.old from out.old) (filling table.new end.reached out.new)) }
     ensures refused { IfNone result (RefusesFilling F N true
         (Some «data».entry.now) (Some «data».entry.now)
         (filling table.old from out.old) Error.UnexpectedBufferEnd) }
 {
     // Where the image goes on behind `out`, a short output is left (`LEAVES_SHORT`).
-    let now = fast_chunks::<N, F, RUN_FITS>(table, from, data, out);
+    let now = fast_chunks::<N, F, WHILE_RUNS_FIT>(table, from, data, out);
     let (_, rest) = data.split_at(now.taken);
-    careful_chunks::<N, F, RUN_FITS, _>(table, now.reached, rest, out)
+    careful_chunks::<N, F, WHILE_RUNS_FIT, _>(table, now.reached, rest, out)
 }
 
 // Checks that the end marker stands at the front, and returns the bytes after it.
@@ -115,11 +121,11 @@ impl<'a, const N: usize, const F: usize> Chunks<N, F> for Bytes<'a> {
         from: Reached,
         out: &mut [u8],
     ) -> Result<Reached> {
-        let Some(left) = slice_chunks::<N, F, true>(table, from, self.0, out) else {
+        let Some(end) = slice_chunks::<N, F, true>(table, from, self.0, out) else {
             return Err(Error::UnexpectedBufferEnd);
         };
-        self.0 = left.rest;
-        Ok(left.reached)
+        self.0 = end.rest;
+        Ok(end.reached)
     }
 
     #[inline(always)]
@@ -129,10 +135,10 @@ impl<'a, const N: usize, const F: usize> Chunks<N, F> for Bytes<'a> {
         from: Reached,
         out: &mut [u8],
     ) -> Result<()> {
-        let Some(left) = slice_chunks::<N, F, false>(table, from, self.0, out) else {
+        let Some(end) = slice_chunks::<N, F, false>(table, from, self.0, out) else {
             return Err(Error::UnexpectedBufferEnd);
         };
-        self.0 = slice_marker(left.rest)?;
+        self.0 = slice_marker(end.rest)?;
         Ok(())
     }
 
@@ -165,10 +171,10 @@ pub(super) fn slice_image<'a, const N: usize, const F: usize>(
         let mut table = SmallTermTable::new_small();
         let last = Hashed::start();
         let start = Reached { last, at: 0 };
-        let Some(left) = careful_chunks::<N, F, false, _>(&mut table, start, data, out) else {
+        let Some(end) = careful_chunks::<N, F, false, _>(&mut table, start, data, out) else {
             return Err(Error::UnexpectedBufferEnd);
         };
-        return slice_marker(left.rest);
+        return slice_marker(end.rest);
     }
     let mut bytes = Bytes(data);
     image_to_buf::<Bytes, N, F>(&mut bytes, out)?;

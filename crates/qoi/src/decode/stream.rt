@@ -105,29 +105,29 @@ pub(super) fn next_chunk<R: Read, const N: usize, const F: usize, const RUN_FITS
     Ok(decode_chunk::<N, F, RUN_FITS, _>(table, from, &bytes, out).reached)
 }
 
-// Decodes chunks from a stream, after what others reached: if `RUN_FITS`, as long as `out` has room
-// for the vectors of any run, else until it is full. Takes no byte past the last chunk.
-fn decode_chunks<R: Read, const N: usize, const F: usize, const RUN_FITS: bool>(
+// Decodes chunks from a stream, after what others reached: if `WHILE_RUNS_FIT`, as long as `out`
+// has room for the vectors of any run, else until it is full. Takes no byte past the last chunk.
+fn decode_chunks<R: Read, const N: usize, const F: usize, const WHILE_RUNS_FIT: bool>(
     reader: &mut R,
     table: &mut TermTable,
     from: Reached,
     out: &mut [u8],
 ) -> io::Result<Reached>
     requires { IsFillable N out.old from.at }
-    ensures read { IfOk result (λ now. TakesChunks F N RUN_FITS
+    ensures read { IfOk result (λ now. TakesChunks F N WHILE_RUNS_FIT
         (R.remaining reader.old) (R.remaining reader.new)
         (filling table.old from out.old) (filling table.new now out.new)) }
     ensures refused { IfErr result (λ e. RefusesFilling F N false
         (R.remaining reader.old) (R.remaining reader.new)
         (filling table.old from out.old) (Error.IoError e)) }
 {
-    let least = if RUN_FITS { RUN_ROOM } else { 1 };
+    let least = if WHILE_RUNS_FIT { RUN_ROOM } else { 1 };
     let mut now = from;
     if least <= out.len() {
         // Computed once, so that the loop compares without a subtraction and needn't keep the size.
         let top = out.len() - least;
         while now.at <= top {
-            now = next_chunk::<R, N, F, RUN_FITS>(reader, table, now, out)?;
+            now = next_chunk::<R, N, F, WHILE_RUNS_FIT>(reader, table, now, out)?;
         }
     }
     Ok(now)

@@ -22,12 +22,11 @@ const LONG_SERIES: usize = 32;
 const SHORT_STRETCH: usize = 8;
 
 // `chunks_ahead` from a state of the loop: in stretches, and in series of full chunks, if
-// `AT_ONCE` is 8, else by `fast_loop`. States are copied `by_fields`: a load of sixteen
-// bytes would wait until the two numbers in them, just stored, are in the cache.
+// `AT_ONCE` is 8, else by `fast_loop`.
 #[inline(always)]
 fn chunks_by_stretches<const N: usize, const F: usize, const AT_ONCE: usize>(
-    from: Progress<N, F>,
     table: &mut TermTable,
+    from: Progress<N, F>,
     bytes: &[u8],
     out: &mut [u8],
 ) -> Progress<N, F>
@@ -38,17 +37,18 @@ fn chunks_by_stretches<const N: usize, const F: usize, const AT_ONCE: usize>(
         return from.fast_loop::<1>(table, bytes, out);
     }
     let mut now = from.by_fields();
-    let far = bytes.len() - INPUT_ROOM;
-    let mut near = far.min(now.taken + FIRST_STRETCH);
-    while now.taken <= far {
-        let stretch = now.fast_loop::<8>(table, &bytes[..near + INPUT_ROOM], out);
-        // Before the stretch's end: the output has no room for what comes, or the input ends.
-        if stretch.taken <= near || far < stretch.taken {
+    let input_end = bytes.len() - INPUT_ROOM;
+    let mut stretch_end = input_end.min(now.taken + FIRST_STRETCH);
+    while now.taken <= input_end {
+        // For this call the stretch's end is the input's.
+        let stretch = now.fast_loop::<8>(table, &bytes[..stretch_end + INPUT_ROOM], out);
+        // Within the stretch the output has no room for what comes; or the input ends.
+        if stretch.taken <= stretch_end || input_end < stretch.taken {
             return stretch.by_fields();
         }
-        now = take_full_series(stretch, table, bytes, out).by_fields();
+        now = take_full_series(table, stretch, bytes, out).by_fields();
         let is_long = LONG_SERIES < now.taken - stretch.taken;
-        near = far.min(now.taken + if is_long { SHORT_STRETCH } else { STRETCH });
+        stretch_end = input_end.min(now.taken + if is_long { SHORT_STRETCH } else { STRETCH });
     }
     now.by_fields()
 }
@@ -79,7 +79,7 @@ pub(super) fn chunks_ahead<const N: usize, const F: usize, const AT_ONCE: usize>
         at: old.at,
         next: bytes[from.taken],
     };
-    let now = chunks_by_stretches::<N, F, AT_ONCE>(now, table, bytes, out);
+    let now = chunks_by_stretches::<N, F, AT_ONCE>(table, now, bytes, out);
     let (last, at) = (now.last, now.at);
     Decoded {
         taken: now.taken,

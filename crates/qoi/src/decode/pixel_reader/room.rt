@@ -16,31 +16,32 @@ use crate::error::Result;
 /// four.
 pub(super) const DECODED_AHEAD: usize = 3072;
 
-/// A piece of at least so many bytes is decoded in place.
+/// A piece of at least so many bytes is decoded in place: by `take_in_place`, which doesn't ask for
+/// `SHORT_OUTPUT`.
 pub(super) const IN_PLACE: usize = 512;
 
-/// How many bytes to decode ahead, if as many are left of the image, for a piece of `size` bytes of
-/// which the first `done` are decoded: all that can be kept if none are, else those that the piece
-/// lacks, few behind `Unread::long_piece`, and room for a run.
+/// How many bytes to decode ahead, if as many are left of the image, for a piece of so many bytes,
+/// of which the first `filled` are decoded: all that can be kept if none are, else those that the
+/// piece lacks, few behind `Unread::decode_while_runs_fit`, and room for a run.
 #[inline]
-pub(super) fn kept_room(size: usize, done: usize) -> usize
-    requires within { done ≤ size }
-    requires last { 0 < done → size < done + (RUN_ROOM + 3) }
-    requires short { done ≡ 0 → size < IN_PLACE }
+pub(super) fn kept_room(piece: usize, filled: usize) -> usize
+    requires within { filled ≤ piece }
+    requires last { 0 < filled → piece < filled + (RUN_ROOM + 3) }
+    requires short { filled ≡ 0 → piece < IN_PLACE }
     ensures within { result ≤ DECODED_AHEAD }
     ensures whole { result % 12 ≡ 0 }
-    ensures enough { size - done + RUN_ROOM ≤ result }
+    ensures enough { piece - filled + RUN_ROOM ≤ result }
 {
-    if done == 0 {
+    if filled == 0 {
         DECODED_AHEAD
     } else {
-        (size - done + (RUN_ROOM + 11)) / 12 * 12
+        (piece - filled + (RUN_ROOM + 11)) / 12 * 12
     }
 }
 
 /// Decodes chunks into the first `size` bytes of `out`, by the reader's `some_chunks`. The part of
 /// the array is taken here: where a part of a field is lent, no fact ties it to the field.
-pub(super) fn keep_front_of_image<R: Chunks<N, F>, const N: usize, const F: usize>(
+pub(super) fn keep_some_chunks<R: Chunks<N, F>, const N: usize, const F: usize>(
     reader: &mut R,
     table: &mut TermTable,
     last: Hashed,

@@ -146,7 +146,7 @@ impl RowIndex {
         Ok(RowIndex { every, points })
     }
 
-    // A reader from the last point above a row of the file's image, or from its first row.
+    // A reader from the last point above row `first` of the file's image, or from the image's top.
     fn above<'a>(
         &self,
         file: &'a [u8],
@@ -163,12 +163,12 @@ impl RowIndex {
     {
         let pixels_wanted = pixels_from(decoder.header(), first);
         let mut i = self.points.len().min((first / self.every) as usize);
-        // Point `i` was kept before row (i + 1) * `every`. It may lie past that row, since a reader
+        // Point `i` is that of row (i + 1) * `every`. It may lie past the row's top, since a reader
         // decodes ahead: then one above it serves.
         while i > 0 {
             i -= 1;
             let point = &self.points[i];
-            if pixels_wanted <= point.left() {
+            if pixels_wanted <= point.undecoded_pixels() {
                 return point.resume(file, decoder);
             }
         }

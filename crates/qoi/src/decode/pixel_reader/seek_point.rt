@@ -20,14 +20,14 @@ use std::marker::Model;
 /// pixel, how many bytes of the file stand before the point, how many pixels are to come, and how
 /// many of those are copies of the last pixel, from the run before the point.
 ///
-/// It has 288 bytes. A contract sees these five.
+/// It has 288 bytes. A contract sees these five as `PlaceState`, the last two as `left` and `run`.
 #[derive(Drop)]
 pub(super) struct SeekPoint {
     table: [Packed; 64],
     last: Packed,
     at: usize,
-    left: usize,
-    run: usize,
+    undecoded_pixels: usize,
+    run_pixels: usize,
 }
 
 impl Model for SeekPoint {
@@ -41,14 +41,15 @@ impl Model for SeekPoint {
       table = p.table;
       last = p.last;
       at = p.at;
-      left = p.left;
-      run = p.run;
+      left = p.undecoded_pixels;
+      run = p.run_pixels;
     } };
 
-    ghost invariant = { λ p. (length p.table ≡ 64) × (p.run < p.left) × (p.run ≤ run_max) };
+    ghost invariant = { λ p. (length p.table ≡ 64)
+        × (p.run_pixels < p.undecoded_pixels) × (p.run_pixels ≤ run_max) };
 }
 
-// The pixel of such a number, without its index position.
+// The pixel of a decoder's number, without its index position.
 fn packed(px: Hashed) -> Packed
     ensures { result ≡ pixel_of_lanes px }
 {
@@ -108,16 +109,16 @@ impl SeekPoint {
             table: pixels_of(&reader.unread.table),
             last: packed(reader.unread.last),
             at: file.len().saturating_sub(reader.decoder.reader.0.len()),
-            left: reader.unread.undecoded / channels,
-            run: reader.unread.run / channels,
+            undecoded_pixels: reader.unread.undecoded / channels,
+            run_pixels: reader.unread.run / channels,
         }
     }
 
     /// How many pixels are to come.
-    pub(super) fn left(&self) -> usize
+    pub(super) fn undecoded_pixels(&self) -> usize
         ensures { result ≡ self.now.left }
     {
-        self.left
+        self.undecoded_pixels
     }
 
     /// A reader that goes on there in a file, by a decoder of it.
@@ -131,7 +132,7 @@ impl SeekPoint {
         ensures accepts { self.now.at ≤ length file.entry.now
             → self.now.left ≤ pixel_count decoder.entry.header → IsOk result }
     {
-        if file.len() < self.at || decoder.header.n_pixels() < self.left {
+        if file.len() < self.at || decoder.header.n_pixels() < self.undecoded_pixels {
             return Err(Error::UnexpectedBufferEnd);
         }
         let (_, rest) = file.split_at(self.at);
@@ -142,8 +143,8 @@ impl SeekPoint {
             unread: Unread::behind(
                 table_of(&self.table),
                 hashed(self.last),
-                size_in(channels, self.run),
-                size_in(channels, self.left),
+                size_in(channels, self.run_pixels),
+                size_in(channels, self.undecoded_pixels),
             ),
             refused: false,
         })

@@ -9,7 +9,7 @@ use crate::decode::chunks::Chunks;
 use crate::decode::hashed::Hashed;
 use crate::decode::output::{RUN_ROOM, store_run};
 use crate::decode::pixel_reader::room::{
-    DECODED_AHEAD, IN_PLACE, keep_front_of_image, keep_rest_of_image, kept_room,
+    DECODED_AHEAD, IN_PLACE, keep_rest_of_image, keep_some_chunks, kept_room,
 };
 use crate::decode::reached::Reached;
 use crate::decode::table::TermTable;
@@ -31,8 +31,9 @@ pub struct Unread {
     pub(super) fault: Option<Error>,
 }
 
-/// A piece was refused. The error stands in `fault`: a result with the error in it has 104 bytes,
-/// which would be written for each piece.
+/// A piece was refused. The error stands in `fault`, until `PixelReader::read` returns it and sets
+/// `refused` for good: a result with the error in it has 104 bytes, which would be written for each
+/// piece.
 #[derive(Clone, Copy)]
 pub struct Refused;
 
@@ -109,11 +110,11 @@ impl Unread {
         Refused
     }
 
-    /// Drops what is kept: no more of the image is given, and as many bytes are left of it as
-    /// before the piece that was refused. Returns the error of the refusal.
+    /// Takes the error of a refusal out of `fault`, and drops what is kept: no more of the image is
+    /// given, and as many bytes are left of it as before the piece that was refused.
     #[cold]
     #[inline(never)]
-    pub(super) fn refuse(&mut self, left: usize) -> Error
+    pub(super) fn take_fault(&mut self, left: usize) -> Error
         ensures left { bytes_left self.new ≡ left }
         ensures within { KeepsWithin self.new }
         ensures error { IfSome self.old.fault (λ e. result ≡ e) }
@@ -185,10 +186,10 @@ impl Unread {
         self.give(out)
     }
 
-    // Gives the rest of a run and, if `out` isn't short and 256 bytes of the image follow it (so
+    // Gives the rest of a run and, if `out` isn't short and `RUN_ROOM` of the image follows it (so
     // that any run ends in the image), the chunks behind the run that stand in memory (else
-    // `long_piece` may). Returns how many bytes, and keeps what has no room of a run; one may go on
-    // past the piece.
+    // `decode_while_runs_fit` may). Returns how many bytes, and keeps what has no room of a run; a
+    // run may go on past the piece.
     #[inline(always)]
     fn piece_front<R: Chunks<N, F>, const N: usize, const F: usize>(
         &mut self,
@@ -201,6 +202,7 @@ impl Unread {
             self.old self.new out.new (λ size. size) result }
         ensures none { IfOk result (λ size. size < length out.new → KeepsNothing self.new) }
     {
+        // `out` is no longer than what is undecoded, since nothing is kept (`Asks`).
         if out.len() < IN_PLACE || self.undecoded - out.len() < RUN_ROOM {
             return Ok(self.give_run::<N, F>(out));
         }
@@ -208,14 +210,14 @@ impl Unread {
         // Even if none is left of a run: what is stored then is written again.
         store_run::<N, F>(out, 0, self.last, self.run / N);
         let (last, at) = (self.last, self.run);
-        let from = Reached { last, at };
-        let (now, run) = match reader.chunks_in_place(&mut self.table, from, &mut out[..size]) {
+        let start = Reached { last, at };
+        let (now, run) = match reader.chunks_in_place(&mut self.table, start, &mut out[..size]) {
             Ok(decoded) => decoded,
             Err(e) => return Err(self.fail(e)),
         };
         self.last = now.last;
         self.run = run;
-        // With the rest of the run, which counted as undecoded.
+        // `now.at` includes the run stored above, which counted as undecoded.
         self.undecoded -= now.at;
         if now.at == out.len() {
             return Ok(now.at);
@@ -224,11 +226,11 @@ impl Unread {
         Ok(now.at + self.give_run::<N, F>(&mut out[now.at..]))
     }
 
-    // Decodes chunks into the front of `out` as long as any run has room, and returns how many
-    // bytes; none if `out` is short. Of its piece, `done` bytes were decoded before: if there are
-    // some, it is long or began with a run, and what is left of it needn't be long.
+    // Decodes chunks into `out`, a piece without its first `done` bytes, as long as any run has
+    // room, and returns how many bytes: 0 below `RUN_ROOM` (from a slice mostly), or below
+    // `IN_PLACE` if nothing was decoded yet, since a short piece is given from kept bytes.
     #[inline]
-    fn long_piece<R: Chunks<N, F>, const N: usize, const F: usize>(
+    fn decode_while_runs_fit<R: Chunks<N, F>, const N: usize, const F: usize>(
         &mut self,
         reader: &mut R,
         out: &mut [u8],
@@ -249,8 +251,8 @@ impl Unread {
         }
         let size = out.len() / N * N;
         let last = self.last;
-        let from = Reached { last, at: 0 };
-        let now = match reader.some_chunks(&mut self.table, from, &mut out[..size]) {
+        let start = Reached { last, at: 0 };
+        let now = match reader.some_chunks(&mut self.table, start, &mut out[..size]) {
             Ok(now) => now,
             Err(e) => return Err(self.fail(e)),
         };
@@ -259,8 +261,9 @@ impl Unread {
         Ok(now.at)
     }
 
-    // Decodes ahead of the caller, and keeps it: chunks into `room` bytes, of which fewer than 256
-    // stay empty, or, if at most `DECODED_AHEAD` of the image are left, all these and the marker.
+    // Decodes ahead of the caller, and keeps it: chunks into `room` bytes, of which less than
+    // `RUN_ROOM` stays empty, or, if at most `DECODED_AHEAD` of the image are left, all these and
+    // the marker.
     fn decode_ahead<R: Chunks<N, F>, const N: usize, const F: usize>(
         &mut self,
         reader: &mut R,
@@ -279,14 +282,14 @@ impl Unread {
     {
         self.from = 0;
         if DECODED_AHEAD < self.undecoded {
-            let front = keep_front_of_image::<R, N, F>(
+            let some = keep_some_chunks::<R, N, F>(
                 reader,
                 &mut self.table,
                 self.last,
                 &mut self.bytes,
                 room,
             );
-            let now = match front {
+            let now = match some {
                 Ok(now) => now,
                 Err(e) => return Err(self.fail(e)),
             };
@@ -311,10 +314,11 @@ impl Unread {
         Ok(())
     }
 
-    /// Decodes an image's next bytes, while none are kept. Returns how many are in `out`, maybe
-    /// none; what `out` lacks, and more, is kept. They come in three ways, one after the other:
+    /// Decodes an image's next bytes, while none are kept, and with the last ones takes the end
+    /// marker. Returns how many are in `out`, maybe none; what `out` lacks, and more, is kept. They
+    /// come in three ways, one after the other:
     /// - the rest of a run, and behind it chunks in memory, in place (`piece_front`);
-    /// - chunks of any reader, in place, as long as any run has room (`long_piece`);
+    /// - chunks of any reader, as long as any run has room in `out` (`decode_while_runs_fit`);
     /// - chunks that are decoded ahead, and kept (`decode_ahead`).
     pub(in crate::decode) fn decode_more<R: Chunks<N, F>, const N: usize, const F: usize>(
         &mut self,
@@ -331,13 +335,13 @@ impl Unread {
         if done == out.len() {
             return Ok(done);
         }
-        let more = self.long_piece::<R, N, F>(reader, &mut out[done..], done)?;
-        let size = done + more;
-        if size == out.len() {
-            return Ok(size);
+        let more = self.decode_while_runs_fit::<R, N, F>(reader, &mut out[done..], done)?;
+        let filled = done + more;
+        if filled == out.len() {
+            return Ok(filled);
         }
-        let room = kept_room(out.len(), size);
+        let room = kept_room(out.len(), filled);
         self.decode_ahead::<R, N, F>(reader, room)?;
-        Ok(size)
+        Ok(filled)
     }
 }

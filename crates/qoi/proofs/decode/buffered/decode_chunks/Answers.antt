@@ -11,7 +11,7 @@ use Rattle.qoi.proofs.decode.buffered.decode_chunks.Goals.{In_ok-next, then-this
 use Rattle.qoi.proofs.decode.buffered.decode_chunks.Goals as goal
 
 -- a chunk more was taken
-more : (g : Over) (c : In_ok-next g) → TakesMore g.row.F g.row.N (not (nat_eq g.row.RUN_FITS 0)) (g.R.Read.remaining c.args.reader.now) (g.R.Read.remaining c.next_chunk.new.reader)
+more : (g : Over) (c : In_ok-next g) → TakesMore g.row.F g.row.N (not (nat_eq g.row.WHILE_RUNS_FIT 0)) (g.R.Read.remaining c.args.reader.now) (g.R.Read.remaining c.next_chunk.new.reader)
     (filling c.args.table.now c.args.from c.args.out.now) (filling c.next_chunk.new.table c.in_ok-next.next c.next_chunk.new.out)
 more g c =
     let (taken, took, decoded) = c.in_ok-next.ensures.read in

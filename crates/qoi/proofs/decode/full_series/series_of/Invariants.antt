@@ -8,4 +8,4 @@ invariant-loop-series g l = FastChunks l.bytes l.fn.from l.initial.table l.initi
     × KeepsAlpha g.row.TAG l.series.before l.series.to.last
 
 abbrev pub decreases-loop-series : goal.decreases-loop-series
-decreases-loop-series g l = l.far + 1 - l.series.to.taken
+decreases-loop-series g l = l.input_end + 1 - l.series.to.taken

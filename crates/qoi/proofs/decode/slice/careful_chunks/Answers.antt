@@ -20,7 +20,7 @@ loop-out-preserved g c =
     let new = filling c.decode_chunk-decoded.new.table decoded.reached c.decode_chunk-decoded.new.out in
     record {
       fits = subst AreBytes (sym back) (bytes_after_front (take taken rest) (drop taken rest) (subst AreBytes (sym (take-append-drop taken rest)) c.loop-out.invariant.fits));
-      goes_on = subst (λ z. TakesMore g.row.F g.row.N (not (nat_eq g.row.RUN_FITS 0)) (Some c.args.data.now) (Some z) old new) (sym back)
+      goes_on = subst (λ z. TakesMore g.row.F g.row.N (not (nat_eq g.row.WHILE_RUNS_FIT 0)) (Some c.args.data.now) (Some z) old new) (sym back)
           (takes_chunk c.loop-out.invariant.goes_on (elim c.if-this-ne0.branch [ then-this-ne0 w ↦ search rules | else-this-ne0 w ↦ search rules ]) c.decode_chunk-decoded.ensures.decodes took c.decode_chunk-decoded.ensures.more);
     }
 

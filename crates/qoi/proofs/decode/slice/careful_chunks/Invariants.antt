@@ -8,7 +8,7 @@ use Rattle.qoi.proofs.decode.slice.careful_chunks.Given as goal
 abbrev pub invariant-loop-out : goal.invariant-loop-out
 invariant-loop-out g l = record {
   fits : AreBytes l.rest;
-  goes_on : TakesMore g.row.F g.row.N (not (nat_eq g.row.RUN_FITS 0)) (Some l.fn.data) (Some l.rest) (filling l.initial.table l.fn.from l.initial.out) (filling l.table l.now l.out);
+  goes_on : TakesMore g.row.F g.row.N (not (nat_eq g.row.WHILE_RUNS_FIT 0)) (Some l.fn.data) (Some l.rest) (filling l.initial.table l.fn.from l.initial.out) (filling l.table l.now l.out);
 }
 
 abbrev pub decreases-loop-out : goal.decreases-loop-out

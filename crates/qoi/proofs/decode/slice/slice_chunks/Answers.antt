@@ -15,7 +15,7 @@ after g c = rw c.split_at.ensures.back c.fast_chunks-now.ensures.takes
 
 pub returns-clause-read : goal.returns-clause-read
 returns-clause-read g c =
-    IfSome_then c.careful_chunks.result c.careful_chunks.ensures.read (λ left r. chunks_after (after g (goal.at.returns-clause-read g c).After-split_at) r)
+    IfSome_then c.careful_chunks.result c.careful_chunks.ensures.read (λ end r. chunks_after (after g (goal.at.returns-clause-read g c).After-split_at) r)
 
 -- what holds if an option has nothing can be weakened
 if_none_of : {T P Q : Type 0} (o : Option T) → (P → Q) → IfNone o P → IfNone o Q

@@ -5,7 +5,7 @@ use Rattle.qoi.specs.inner.Filling.{filling}
 use Rattle.qoi.proofs.decode.stream.decode_chunks.Given as goal
 
 abbrev pub invariant-loop-now : goal.invariant-loop-now
-invariant-loop-now g l = TakesMore g.row.F g.row.N (not (nat_eq g.row.RUN_FITS 0)) (g.R.Read.remaining l.initial.reader) (g.R.Read.remaining l.reader)
+invariant-loop-now g l = TakesMore g.row.F g.row.N (not (nat_eq g.row.WHILE_RUNS_FIT 0)) (g.R.Read.remaining l.initial.reader) (g.R.Read.remaining l.reader)
     (filling l.initial.table l.fn.from l.initial.out) (filling l.table l.now l.out)
 
 abbrev pub decreases-loop-now : goal.decreases-loop-now

@@ -5,7 +5,7 @@ use Rattle.qoi.proofs.decode.stretches.chunks_by_stretches.Given as goal
 
 abbrev pub invariant-loop-now : goal.invariant-loop-now
 invariant-loop-now g l = FastChunks l.bytes l.fn.from l.initial.table l.initial.out l.now l.table l.out
-    × (l.near ≤ l.far) × (l.now.taken ≤ l.far → l.now.taken ≤ l.near)
+    × (l.stretch_end ≤ l.input_end) × (l.now.taken ≤ l.input_end → l.now.taken ≤ l.stretch_end)
 
 abbrev pub decreases-loop-now : goal.decreases-loop-now
-decreases-loop-now g l = l.far + 1 - l.now.taken
+decreases-loop-now g l = l.input_end + 1 - l.now.taken

@@ -7,4 +7,4 @@ abbrev pub invariant-loop-now : goal.invariant-loop-now
 invariant-loop-now g l = FastChunks l.bytes l.fn.self l.initial.table l.initial.out l.now l.table l.out
 
 abbrev pub decreases-loop-now : goal.decreases-loop-now
-decreases-loop-now g l = l.far + 1 - l.now.taken
+decreases-loop-now g l = l.input_end + 1 - l.now.taken

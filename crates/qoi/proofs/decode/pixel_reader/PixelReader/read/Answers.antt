@@ -14,7 +14,7 @@ use Rattle.qoi.specs.inner.Chunks.{RefusesChunks}
 use Rattle.qoi.proofs.format.RectangleLaws.{picture_row}
 use Rattle.qoi.proofs.decoding.PixelPieces.{byte_bounds, has_given, unread_of, refuses_pixels, piece_follows, rows_more, rows_next}
 use Rattle.qoi.proofs.decode.pixel_reader.PixelReader.read.Given.{Over}
-use Rattle.qoi.proofs.decode.pixel_reader.PixelReader.read.Goals.{After-refuse}
+use Rattle.qoi.proofs.decode.pixel_reader.PixelReader.read.Goals.{After-take_fault}
 use Rattle.qoi.proofs.decode.pixel_reader.PixelReader.read.Goals as goal
 
 -- what holds of the error in `fault`, holds of the one that is returned
@@ -102,24 +102,24 @@ unfolding HasGiven
 returns-then-self-clause-refused g c d start given h = let going = ap (λ s. s.refused) c.self.view_is ∙ h.going in absurd (cc)
 
 -- chunks of pixels that are enough were refused
-refused_as : (g : Over) (c : After-refuse g) (d : DecoderState _) (start : Option (List ℕ)) (given : List ℕ) → HasGiven d start (g.R.Reader.ahead c.args.self.now.reader) given c.args.self.now
+refused_as : (g : Over) (c : After-take_fault g) (d : DecoderState _) (start : Option (List ℕ)) (given : List ℕ) → HasGiven d start (g.R.Reader.ahead c.args.self.now.reader) given c.args.self.now
     → (all : ℕ) → AreEnough (channels_number d.channels) (pixel_count d.header) (length given + length c.next_piece.new.out) all
-    → RefusesChunks g.R.Reader.in_memory all start (g.R.Reader.ahead c.next_piece.new.self.reader) c.refuse.result
+    → RefusesChunks g.R.Reader.in_memory all start (g.R.Reader.ahead c.next_piece.new.self.reader) c.take_fault.result
 unfolding HasGiven
 refused_as g c d start given h all enough =
     let header = ap (λ s. s.header) c.self.view_is ∙ h.header in
     let chosen = ap (λ s. s.channels) c.self.view_is ∙ h.channels in
     let ahead = ap (λ s. g.R.Reader.ahead s.reader) c.self.view_is in
     let unread = ap (λ s. s.unread) c.self.view_is in
-    fault_is _ c.next_piece.new.unread.fault c.refuse.result c.refuse.ensures.error
+    fault_is _ c.next_piece.new.unread.fault c.take_fault.result c.take_fault.ensures.error
     (c.in-Err.ensures.step.refused _ start given (unread_of header chosen ahead unread h.unread) all
     (subst (λ k. AreEnough (channels_number k) (pixel_count c.self.inside.decoder.header) (length given + length c.next_piece.new.out) all) (sym chosen)
     (subst (λ (k : Header). AreEnough (channels_number d.channels) (pixel_count k) (length given + length c.next_piece.new.out) all) (sym header) enough)))
 
 pub returns-in-Err-clause-refused : goal.returns-in-Err-clause-refused
 returns-in-Err-clause-refused g c d start given h =
-    refuses_pixels g.R.Reader.in_memory d start _ c.refuse.result
-    (refused_as g (goal.at.returns-in-Err-clause-refused g c).After-refuse d start given h (pixel_count d.header) (omega arith, omega arith))
+    refuses_pixels g.R.Reader.in_memory d start _ c.take_fault.result
+    (refused_as g (goal.at.returns-in-Err-clause-refused g c).After-take_fault d start given h (pixel_count d.header) (omega arith, omega arith))
 
 -- in memory the bytes say why
 in_bytes : (in_memory : Bool) (n : ℕ) (bytes : List ℕ) (new : Option (List ℕ)) (e : Error) → RefusesChunks in_memory n (Some bytes) new e → IsTrue in_memory
@@ -131,8 +131,8 @@ pub returns-in-Err-clause-early : goal.returns-in-Err-clause-early
 returns-in-Err-clause-early g c d bytes given n h held fits enough =
     let size : length c.next_piece.new.out ≤ length c.args.buf.now =
     omega (arith, c.next_piece.auto.out, length-take c.min-size.result c.args.buf.now) in
-    in_bytes g.R.Reader.in_memory n bytes _ c.refuse.result
-    (refused_as g (goal.at.returns-in-Err-clause-early g c).After-refuse d (Some bytes) given h n (fits, omega (arith, enough, size))) held
+    in_bytes g.R.Reader.in_memory n bytes _ c.take_fault.result
+    (refused_as g (goal.at.returns-in-Err-clause-early g c).After-take_fault d (Some bytes) given h n (fits, omega (arith, enough, size))) held
 
 pub returns-then-self-clause-early : goal.returns-then-self-clause-early
 unfolding HasGiven
@@ -140,7 +140,7 @@ returns-then-self-clause-early g c d bytes given n h held fits enough = let goin
 
 pub returns-in-Err-clause-missing : goal.returns-in-Err-clause-missing
 returns-in-Err-clause-missing g c d bytes given h held =
-    stays_whole g.R.Reader.in_memory d bytes _ c.refuse.result (returns-in-Err-clause-refused g c d (Some bytes) given h) held
+    stays_whole g.R.Reader.in_memory d bytes _ c.take_fault.result (returns-in-Err-clause-refused g c d (Some bytes) given h) held
 
 pub returns-then-self-clause-missing : goal.returns-then-self-clause-missing
 unfolding HasGiven

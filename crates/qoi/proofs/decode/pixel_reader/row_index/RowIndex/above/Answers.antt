@@ -5,21 +5,21 @@ use Rattle.qoi.proofs.decoding.Places.{goes_on_in_file, goes_on_left, place_with
 use Rattle.qoi.proofs.decoding.RowIndexes.{place_found, enough_left, reads_first, first_left}
 use Rattle.qoi.proofs.decode.pixel_reader.row_index.RowIndex.above.Goals as goal
 
-pub returns-then-pixels_wanted-left-clause-file : goal.returns-then-pixels_wanted-left-clause-file
-returns-then-pixels_wanted-left-clause-file c index =
+pub returns-then-pixels_wanted-undecoded_pixels-clause-file : goal.returns-then-pixels_wanted-undecoded_pixels-clause-file
+returns-then-pixels_wanted-undecoded_pixels-clause-file c index =
     let same : c.args.self.now ≡ c.self.inside.points.items = cc c.self.view_is in
     goes_on_in_file _ _ _ _ _ c.resume.ensures.goes c.requires.0 (place_found _ _ c.self.inside.points.items c.args.self.now (c.loop-i.i - 1) _ same c.requires.0 index
     (omega (arith, c.loop-i.invariant, c.loop-i-test.true, ap length same)) c.index-point.ensures)
 
-pub returns-then-pixels_wanted-left-clause-accepts : goal.returns-then-pixels_wanted-left-clause-accepts
-returns-then-pixels_wanted-left-clause-accepts c index =
+pub returns-then-pixels_wanted-undecoded_pixels-clause-accepts : goal.returns-then-pixels_wanted-undecoded_pixels-clause-accepts
+returns-then-pixels_wanted-undecoded_pixels-clause-accepts c index =
     let same : c.args.self.now ≡ c.self.inside.points.items = cc c.self.view_is in
     let (at, left) = place_within _ _ _ c.requires.0 (place_found _ _ c.self.inside.points.items c.args.self.now (c.loop-i.i - 1) _ same c.requires.0 index
     (omega (arith, c.loop-i.invariant, c.loop-i-test.true, ap length same)) c.index-point.ensures) in
     c.resume.ensures.accepts at left
 
-pub returns-then-pixels_wanted-left-clause-left : goal.returns-then-pixels_wanted-left-clause-left
-returns-then-pixels_wanted-left-clause-left c =
+pub returns-then-pixels_wanted-undecoded_pixels-clause-left : goal.returns-then-pixels_wanted-undecoded_pixels-clause-left
+returns-then-pixels_wanted-undecoded_pixels-clause-left c =
     let d = c.args.decoder in
     let behind : c.pixels_from-pixels_wanted.result ≡ d.header.width * (d.header.height - c.args.first) =
     c.pixels_from-pixels_wanted.ensures.behind ∙ ap (λ (z : Header). z.width * (z.height - c.args.first)) c.header.ensures in

@@ -40,17 +40,17 @@ returns-in-Err-clause-step g c =
 pub returns-then-self-gt-DECODED_AHEAD-clause-step : goal.returns-then-self-gt-DECODED_AHEAD-clause-step
 returns-then-self-gt-DECODED_AHEAD-clause-step g c =
     let pixels = c.requires.pixels in
-    let out = c.keep_front_of_image-front.new.out in
+    let out = c.keep_some_chunks-some.new.out in
     let now = c.in-Ok.now in
     let old : length c.args.self.now.bytes ≡ 3072 = omega arith in
     let within : c.args.room ≤ length c.args.self.now.bytes = omega (arith, old, c.requires.room.1) in
     let whole = minus_whole g.row.N c.args.self.now.undecoded now.at c.requires.channels pixels.1 c.in-Ok.ensures.read.goes_on.fillable.whole.1 in
-    let size = length-take-le c.args.room out (omega (arith, within, c.keep_front_of_image-front.auto.out)) in
+    let size = length-take-le c.args.room out (omega (arith, within, c.keep_some_chunks-some.auto.out)) in
     let below = c.in-Ok.ensures.read.goes_on.below refl (omega (arith, size, length-take-le c.args.room c.args.self.now.bytes within, c.requires.room.0)) in
     gives_none (λ n start given h.
     let l = room_lent c.args.self.now c.args.room c.requires.channels h c.requires.none within c.requires.whole (omega (arith, c.if-self-gt-DECODED_AHEAD.true, c.requires.room.1)) in
-    subst (λ z. IsUnread g.row.F g.row.N n start (g.R.Chunks.ahead c.keep_front_of_image-front.new.reader) given
-    (record c.args.self.now { table = c.keep_front_of_image-front.new.table; last = now.last; bytes = z; from = 0; to = now.at; undecoded = c.args.self.now.undecoded - now.at })) (take-append-drop c.args.room out)
+    subst (λ z. IsUnread g.row.F g.row.N n start (g.R.Chunks.ahead c.keep_some_chunks-some.new.reader) given
+    (record c.args.self.now { table = c.keep_some_chunks-some.new.table; last = now.last; bytes = z; from = 0; to = now.at; undecoded = c.args.self.now.undecoded - now.at })) (take-append-drop c.args.room out)
     (kept_read (take c.args.room out) (drop c.args.room out) c.requires.channels h c.requires.none l (c.in-Ok.ensures.read.goes_on.between l.gone _ _ l.before)
     below (omega (arith, size, c.if-self-gt-DECODED_AHEAD.true, c.requires.room.1))))
     ((omega arith, omega (arith, below, size, c.requires.room.1)), whole, pixels.2, pixels.3, λ some. absurd (omega (arith, some, c.requires.none)))

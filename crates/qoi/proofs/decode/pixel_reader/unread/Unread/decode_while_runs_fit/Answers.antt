@@ -4,7 +4,7 @@ use Rattle.qoi.specs.Raw.{IsChannels}
 use Rattle.qoi.specs.pieces.Unread.{KeepsNothing}
 use Rattle.qoi.proofs.decoding.GivenMore.{refuses_lent}
 use Rattle.qoi.proofs.decoding.PieceSteps.{front_lent, front_most, long_read, minus_whole}
-use Rattle.qoi.proofs.decode.pixel_reader.unread.Unread.long_piece.Goals as goal
+use Rattle.qoi.proofs.decode.pixel_reader.unread.Unread.decode_while_runs_fit.Goals as goal
 
 -- the output that is lent is no longer than the whole
 lent_within : (c : ℕ) (out new : List ℕ) → IsChannels c → length new ≡ length (take (length out / c * c) out)
