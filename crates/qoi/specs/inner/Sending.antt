@@ -46,12 +46,12 @@ pub record CoderGoes (p : ImageState) (kept raw : List ℕ) (p' : ImageState) (k
 abbrev pub GoesByPixels : ImageState → List ℕ → Type 0
 GoesByPixels p raw = EndsOpaque p × (length raw % pixel_size p ≡ 0)
 
--- some whole pixels went into the piece: the raw bytes that are left, and the piece
-pub record FillsPiece {size : ℕ} (p : ImageState) (piece : OpenPiece size) (raw : List ℕ) (p' : ImageState) (result : Bor (List ℕ) × Piece size) : Type 0 where
+-- some whole pixels went into the piece: the piece, and the raw bytes that are left
+pub record FillsPiece {size : ℕ} (p : ImageState) (piece : OpenPiece size) (raw : List ℕ) (p' : ImageState) (result : Piece size × Bor (List ℕ)) : Type 0 where
   pub stays : StaysIn p p'
-  pub goes : CoderGoes p (kept_bytes piece.piece) raw p' (kept_bytes result.1) result.0.now
-  pub whole : GoesByPixels p' result.0.now
-  pub less : length result.0.now < length raw
+  pub goes : CoderGoes p (kept_bytes piece.piece) raw p' (kept_bytes result.0) result.1.now
+  pub whole : GoesByPixels p' result.1.now
+  pub less : length result.1.now < length raw
 
 module _ {W : Type 0} (wrote : W → List ℕ → W → Type 0) (a : W) (p : ImageState) (kept raw : List ℕ) where
   -- From one state to another, whatever raw bytes follow: of the bytes that were ahead the first ones

@@ -148,7 +148,7 @@ fn write_front_block<
 }
 
 /// Writes by blocks until the piece is full or fewer pixels than a block has are left, whatever
-/// pixels come meanwhile: afterwards one of the two is so. Returns the rest, and the piece.
+/// pixels come meanwhile: afterwards one of the two is so. Returns the piece, and the rest.
 ///
 /// `Reference` has a loop of its own, and another if `ALL_RGBA`: where an RGBA chunk is expected to
 /// give each pixel (`begin_with_rgba`). The other styles share one, which is told the style. The
@@ -166,12 +166,12 @@ pub(super) fn write_blocks<
     table: &mut PixelTable,
     piece: OpenPiece<'p, ROOM>,
     pixels: LoopPixels<'a, N>,
-) -> (&'a [u8], Piece<'p, ROOM>)
+) -> (Piece<'p, ROOM>, &'a [u8])
     requires opaque { N ≡ 3 → last.old.px.a ≡ 255 }
     requires goes { GoesByBlocks (style_in STYLE pixels.style) last.old
         (length (pixels_in pixels.rest)) (pixels_in pixels.rest) }
     ensures { WritesSome (style_in STYLE pixels.entry.style) pixels.entry.rest
-        table.old last.old piece.entry.piece result.0.now table.new last.new result.1 }
+        table.old last.old piece.entry.piece result.1.now table.new last.new result.0 }
 {
     let whole = pixels.rest;
     let mut carry = Carry::<N>::of(*last);
@@ -186,25 +186,26 @@ pub(super) fn write_blocks<
         );
     }
     *last = carry.last_pixel();
-    (rest.bytes, piece)
+    // With the rest first, as `write_front_block` has it, a register less is left for the loop.
+    (piece, rest.bytes)
 }
 
 /// Writes the repeats that wait, those at the front and the fresh pixel after them, by
-/// `write_next_group`. Returns the rest, and the piece.
+/// `write_next_group`. Returns the piece, and the rest.
 #[inline(always)]
 pub(super) fn write_opening<'a, 'p, const N: usize, const ROOM: usize>(
     last: &mut LastPixel,
     table: &mut PixelTable,
     piece: OpenPiece<'p, ROOM>,
     pixels: LoopPixels<'a, N>,
-) -> (&'a [u8], Piece<'p, ROOM>)
+) -> (Piece<'p, ROOM>, &'a [u8])
     requires { N ≡ 3 → last.old.px.a ≡ 255 }
     ensures { WritesSome pixels.entry.style pixels.entry.rest
-        table.old last.old piece.entry.piece result.0.now table.new last.new result.1 }
+        table.old last.old piece.entry.piece result.1.now table.new last.new result.0 }
 {
     let mut piece = piece.piece;
     let mut coder = Coder::<N>::new(pixels.style, *last);
     let rest = coder.write_next_group(table, &mut piece, pixels.rest);
     *last = coder.last;
-    (rest.bytes, piece)
+    (piece, rest.bytes)
 }

@@ -62,7 +62,7 @@ fn fill_with_opening<'a, 'p, const N: usize, const ROOM: usize>(
     state: &mut ImageState,
     piece: OpenPiece<'p, ROOM>,
     raw: Pixels<'a, N>,
-) -> (&'a [u8], Piece<'p, ROOM>)
+) -> (Piece<'p, ROOM>, &'a [u8])
     requires channels { pixel_size state.old ≡ N }
     requires opaque { EndsOpaque state.old }
     requires block { 16 ≤ length (pixels_in raw) }
@@ -87,7 +87,7 @@ fn fill_with_blocks<
     state: &mut ImageState,
     piece: OpenPiece<'p, ROOM>,
     raw: Pixels<'a, N>,
-) -> (&'a [u8], Piece<'p, ROOM>)
+) -> (Piece<'p, ROOM>, &'a [u8])
     requires channels { pixel_size state.old ≡ N }
     requires opaque { EndsOpaque state.old }
     requires style { state.old.style ≡ style_in STYLE state.old.style }
@@ -107,7 +107,7 @@ fn fill_in_channels<'a, 'p, const N: usize, const ROOM: usize>(
     state: &mut ImageState,
     piece: OpenPiece<'p, ROOM>,
     data: &'a [u8],
-) -> (&'a [u8], Piece<'p, ROOM>)
+) -> (Piece<'p, ROOM>, &'a [u8])
     requires channels { pixel_size state.old ≡ N }
     requires whole { GoesByPixels state.old «data».now }
     requires block { 16 * N ≤ length «data».now }
@@ -130,14 +130,14 @@ fn fill_in_channels<'a, 'p, const N: usize, const ROOM: usize>(
 
 // Writes the front of whole pixels, which are a block or more, into the piece: by blocks, until it
 // is full or no block is left (`fill_with_blocks`); or only the repeats and the fresh pixel at the
-// front (`fill_with_opening`), after which neither need be so. Returns the rest, and the piece.
+// front (`fill_with_opening`), after which neither need be so. Returns the piece, and the rest.
 // Which of the two ways it goes is asked only here, so mostly once a piece.
 #[inline(always)]
 fn fill_piece<'a, 'p, const ROOM: usize>(
     state: &mut ImageState,
     piece: OpenPiece<'p, ROOM>,
     data: &'a [u8],
-) -> (&'a [u8], Piece<'p, ROOM>)
+) -> (Piece<'p, ROOM>, &'a [u8])
     requires whole { GoesByPixels state.old «data».now }
     requires block { 16 * pixel_size state.old ≤ length «data».now }
     ensures { FillsPiece state.old piece.entry «data».entry.now state.new result }
@@ -164,7 +164,7 @@ pub(super) fn write_pixels<'a, 'p, W: Writer, const ROOM: usize>(
     let block = state.block_size();
     let mut rest = data;
     while rest.len() >= block {
-        let (after, mut next_piece) = fill_piece(state, piece, rest);
+        let (mut next_piece, after) = fill_piece(state, piece, rest);
         // Asked again, as in `write_blocks`: after an opening the piece mostly isn't full.
         if next_piece.is_full() {
             next_piece.send(writer)?;
@@ -269,7 +269,7 @@ pub(super) fn encode_in_one_piece<W: Writer, const ROOM: usize>(
     let mut left = encoder.data;
     // In `LEAST_ROOM` the compiler needn't see that there is no block.
     while ROOM != LEAST_ROOM && left.len() >= block {
-        (left, piece) = fill_piece(&mut state, piece.open(), left);
+        (piece, left) = fill_piece(&mut state, piece.open(), left);
     }
     // A copy, since this one is lent: so in the loop the piece stays in registers.
     let mut last_piece = piece;

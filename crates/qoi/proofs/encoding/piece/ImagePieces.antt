@@ -114,19 +114,19 @@ pub whole_ahead : (n : ℕ) (xs ys : List ℕ) → IsChannels n → length xs % 
 whole_ahead n xs ys is whole = pixels_of-append n (length xs / n) xs ys is (whole_pixels n (length xs) is whole)
 
 -- some of these pixels are written
-pub fills : {N size : ℕ} {style : Style} {table : List RgbaPixel} {last : LastPixel} (p : ImageState) (piece : OpenPiece size) (bytes : List ℕ) (raw : Pixels N) (result : Bor (List ℕ) × Piece size)
-    → pixel_size p ≡ N → p.style ≡ style → raw.bytes.now ≡ bytes → WritesSome style raw p.table p.last piece.piece result.0.now table last result.1
+pub fills : {N size : ℕ} {style : Style} {table : List RgbaPixel} {last : LastPixel} (p : ImageState) (piece : OpenPiece size) (bytes : List ℕ) (raw : Pixels N) (result : Piece size × Bor (List ℕ))
+    → pixel_size p ≡ N → p.style ≡ style → raw.bytes.now ≡ bytes → WritesSome style raw p.table p.last piece.piece result.1.now table last result.0
     → FillsPiece p piece bytes (record p { table = table; last = last }) result
 fills {N} {style = style} {table} {last} p piece bytes raw result size is same w =
     let Goes = λ (n : ℕ) (s : Style). (ahead more : List ℕ) → CoderBetween s ahead (pixels_of n (raw.bytes.now ++ more)) p.table p.last (kept_bytes piece.piece)
-    → CoderBetween s ahead (pixels_of n (result.0.now ++ more)) table last (kept_bytes result.1) in
+    → CoderBetween s ahead (pixels_of n (result.1.now ++ more)) table last (kept_bytes result.0) in
     let here : Goes N style = λ ahead more s.
-    subst (λ ps. CoderBetween style ahead ps table last (kept_bytes result.1)) (sym (whole_ahead N result.0.now more raw.channels w.whole))
+    subst (λ ps. CoderBetween style ahead ps table last (kept_bytes result.0)) (sym (whole_ahead N result.1.now more raw.channels w.whole))
     (w.on ahead (pixels_of N more)
     (subst (λ ps. CoderBetween style ahead ps p.table p.last (kept_bytes piece.piece)) (whole_ahead N raw.bytes.now more raw.channels raw.whole) s)) in
     subst (λ d. FillsPiece p piece d (record p { table = table; last = last }) result) same (record {
       stays = (refl, refl);
       goes = record { on = subst (λ n. Goes n p.style) (sym size) (subst (Goes N) (sym is) here) };
-      whole = (λ three. w.opaque (sym size ∙ three), ap (λ n. length result.0.now % n) size ∙ w.whole);
-      less = fewer_bytes N result.0.now raw.bytes.now raw.channels w.whole raw.whole w.less;
+      whole = (λ three. w.opaque (sym size ∙ three), ap (λ n. length result.1.now % n) size ∙ w.whole);
+      less = fewer_bytes N result.1.now raw.bytes.now raw.channels w.whole raw.whole w.less;
     })

@@ -17,7 +17,7 @@ fill_piece-next_piece-requires g c =
 
 pub send-requires : goal.send-requires
 send-requires g c =
-    let filled = c.fill_piece-next_piece.result.1 in
+    let filled = c.fill_piece-next_piece.result.0 in
     let full = c.is_full.ensures.full c.if-is_full.true in
     let room = room_kept c.loop-rest.invariant.ready c.fill_piece-next_piece.ensures.goes (omega (arith, kept_length filled, filled.within)) in
     (omega arith, (full, (omega (arith, full, kept_length filled, room), c.requires.large)))
@@ -28,7 +28,7 @@ loop-rest-preserved g c =
     let wrote = g.W.Writer.wrote in
     let a = c.loop-rest.writer in
     let was = c.loop-rest.invariant in
-    let old = c.fill_piece-next_piece.result.1 in
+    let old = c.fill_piece-next_piece.result.0 in
     let filled = c.fill_piece-next_piece.ensures in
     let but : WroteBut wrote a (kept_bytes old) (kept_bytes c.if-is_full.next_piece) c.if-is_full.writer = elim c.if-is_full.branch [
       | then-is_full+in_ok-send w ↦
