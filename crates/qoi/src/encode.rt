@@ -24,7 +24,7 @@ mod table;
 
 use crate::consts::{QOI_HEADER_SIZE, QOI_PADDING_SIZE};
 use crate::encode::image::{LEAST_BLOCK, encode_file, encode_in_one_piece};
-use crate::encode::piece::{FULL_ROOM, LEAST_ROOM, SMALL_ROOM, SPARE, TINY_ROOM};
+use crate::encode::piece::{LARGE_BATCH, LARGE_ROOM, LEAST_ROOM, SMALL_ROOM, TINY_FILE, TINY_ROOM};
 pub use crate::encode::pixel_writer::PixelWriter;
 pub(crate) use crate::encode::pixel_writer::send_bytes;
 use crate::error::{Error, Result};
@@ -250,20 +250,20 @@ impl<'a> Encoder<'a> {
         if self.data.len() < LEAST_BLOCK {
             return encode_in_one_piece::<W, LEAST_ROOM>(writer, self);
         }
-        self.write_blocks_to_memory(writer)
+        self.encode_file_to_memory(writer)
     }
 
-    // `write_to_memory` of an image that isn't below `LEAST_BLOCK`: through a piece with little room,
-    // if there are fewer raw bytes than a full piece has.
+    // `write_to_memory` of an image that isn't below `LEAST_BLOCK`: in `SMALL_ROOM`, if there are fewer
+    // raw bytes than a piece in `LARGE_ROOM` sends at once.
     #[inline(always)]
-    fn write_blocks_to_memory<W: Writer>(&self, writer: &mut W) -> Result<usize>
+    fn encode_file_to_memory<W: Writer>(&self, writer: &mut W) -> Result<usize>
         requires room { max_file_len self.now.header ≤ W.room writer.old }
         ensures { WritesImage W.wrote W.IsFault self.now writer.old writer.new result }
     {
-        if self.data.len() < FULL_ROOM - SPARE {
+        if self.data.len() < LARGE_BATCH {
             return encode_file::<W, SMALL_ROOM>(writer, self);
         }
-        encode_file::<W, FULL_ROOM>(writer, self)
+        encode_file::<W, LARGE_ROOM>(writer, self)
     }
 
     /// Encodes the image into the front of the buffer, and returns how many bytes the file has;
@@ -299,10 +299,10 @@ impl<'a> Encoder<'a> {
         // For buffers only: when vectors went this way too, and files of up to 512 bytes, neither
         // `encode_in_one_piece` nor `fill_piece` was inlined, and 4 by 4 pixels took a quarter
         // longer.
-        if required <= TINY_ROOM - SPARE {
+        if required <= TINY_FILE {
             return encode_in_one_piece::<_, TINY_ROOM>(&mut writer, self);
         }
-        self.write_blocks_to_memory(&mut writer)
+        self.encode_file_to_memory(&mut writer)
     }
 
     /// Encodes the image into a new vector, which holds only the file.
@@ -342,6 +342,6 @@ impl<'a> Encoder<'a> {
         if self.data.len() < LEAST_BLOCK {
             return encode_in_one_piece::<_, LEAST_ROOM>(&mut writer, self);
         }
-        encode_file::<_, FULL_ROOM>(&mut writer, self)
+        encode_file::<_, LARGE_ROOM>(&mut writer, self)
     }
 }

@@ -133,6 +133,7 @@ impl<'a> VecMut<'a> {
         ensures bytes { result.vec.now.items ≡ vec.old.items }
         ensures room { result.room ≡ vec_capacity vec.old - vec_len vec.old }
     {
+        // A vector's capacity counts the bytes that it has, a `Writer`'s doesn't.
         let room = vec.capacity() - vec.len();
         VecMut { vec, room }
     }

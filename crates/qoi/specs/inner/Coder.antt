@@ -6,7 +6,7 @@ use Rattle.std.specs.List.{AllByRecursion}
 pub use Rattle.qoi.specs.declared.encode.coder.Coder.{Coder}
 pub use Rattle.qoi.specs.declared.encode.coder.LastPixel.{LastPixel}
 pub use Rattle.qoi.specs.declared.encode.piece.Piece.{Piece}
-pub use Rattle.qoi.specs.declared.encode.piece.TheConstants.{SPARE, FULL_ROOM, RUNS_AT_ONCE, REPEATS_AT_ONCE}
+pub use Rattle.qoi.specs.declared.encode.piece.TheConstants.{SPARE, LARGE_ROOM, RUNS_AT_ONCE, REPEATS_AT_ONCE}
 pub use Rattle.qoi.specs.declared.encode.pixels.Pixels.{Pixels}
 use Rattle.qoi.specs.Qoi.{Chunk, Place, Run, RgbaPixel, IsPixel, Past, previous, hash, IsChunk, bytes_of, chunk_bytes}
 use Rattle.qoi.specs.Raw.{pixels_of}

@@ -11,7 +11,7 @@ use Rattle.qoi.specs.EncoderState.{EncoderState}
 use Rattle.qoi.specs.Qoi.{Error, Channels, channels_number, marker_size, end_marker}
 use Rattle.qoi.specs.Writers.{WroteBut, WroteBeginning}
 use Rattle.std.specs.Io.KnownBytes.{Appends}
-use Rattle.qoi.specs.inner.Coder.{kept_bytes, CoderAfter, CoderBetween, SPARE, FULL_ROOM}
+use Rattle.qoi.specs.inner.Coder.{kept_bytes, CoderAfter, CoderBetween, SPARE, LARGE_ROOM}
 use Rattle.qoi.specs.Raw.{pixels_of}
 
 -- how many bytes a pixel of the image has
@@ -82,12 +82,13 @@ EndsWith wrote IsFault a p kept raw b result =
     MatchResult result (λ _. Ends wrote a p kept raw b) (λ e. IsFault e × Ends (WroteBeginning wrote) a p kept raw b)
 
 -- Whole pixels can be written through a piece of this size. A writer that can take `free` bytes has
--- room: for what is ahead and the end marker, or for a full piece at each raw byte and one more.
+-- room: for what is ahead and the end marker, or for the largest piece's room at each raw byte and
+-- one more.
 pub record IsReady (free size : ℕ) (p : ImageState) (kept raw : List ℕ) : Type 0 where
   pub whole : GoesByPixels p raw
   pub large : 2 * SPARE ≤ size
   pub enough : ((ahead : List ℕ) × Between ahead p kept raw × (length ahead + marker_size ≤ free))
-      ⊎ ((size ≤ FULL_ROOM) × (FULL_ROOM * (length raw + 1) ≤ free))
+      ⊎ ((size ≤ LARGE_ROOM) × (LARGE_ROOM * (length raw + 1) ≤ free))
 
 -- The coder went on with whole pixels, but for those that the result has left, fewer than a block has,
 -- which can be written, too, through the piece that it has; or it broke off.

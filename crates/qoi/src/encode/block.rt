@@ -32,20 +32,20 @@ use crate::encode::block::steps::{Changes, find_changes};
 use crate::encode::block::storing::store_sixteen;
 use crate::encode::carry::Carry;
 use crate::encode::piece::{OpenPiece, Piece};
-use crate::encode::pixels::{FrontBlock, style_in};
+use crate::encode::pixels::{LoopPixels, style_in};
 use crate::encode::table::PixelTable;
 use crate::packed::Packed;
 use crate::types::Style::{self, Places, Reference, Tight};
 use std::simd::prelude::*;
 
 /// Sixteen pixels, packed and in planes, the changes from the pixels before them, and the style
-/// that the loop is told.
+/// that the loop is told, of which `style_in` makes the loop's.
 #[derive(Clone, Copy)]
 pub(super) struct Block {
     pub(super) words: Words,
     pub(super) planes: Planes,
     pub(super) changes: Changes,
-    pub(super) style: Style,
+    pub(super) told_style: Style,
     ghost packed: { ArePacked words },
     ghost planes_are: { ArePlanes (block_pixels words) planes },
 }
@@ -53,20 +53,20 @@ pub(super) struct Block {
 impl Block {
     /// The block at the front, after the last pixel that `carry` has.
     #[inline(always)]
-    pub(super) fn first<const N: usize>(front: FrontBlock<N>, carry: Carry<N>) -> Block
+    pub(super) fn first<const N: usize>(pixels: LoopPixels<N>, carry: Carry<N>) -> Block
         ensures changes { ChangesFrom carry.entry.before (block_pixels result.words)
             result.changes }
-        ensures pixels { block_pixels result.words ≡ take 16 (pixels_in front.entry.raw) }
+        ensures pixels { block_pixels result.words ≡ take 16 (pixels_in pixels.entry.rest) }
         ensures opaque { N ≡ 3 → AreOpaque (block_pixels result.words) }
-        ensures style { result.style ≡ front.entry.style }
+        ensures style { result.told_style ≡ pixels.entry.style }
     {
-        let words = first_sixteen::<N>(front.raw.bytes);
+        let words = first_sixteen::<N>(pixels.rest.bytes);
         let planes = make_planes::<N>(words);
         Block {
             words,
             planes,
             changes: find_changes::<N>(carry.before, planes),
-            style: front.style,
+            told_style: pixels.style,
         }
     }
 
@@ -126,15 +126,15 @@ impl Block {
         ensures { (s : State)
             → AreChanges (lanes_of s.held s.last (block_pixels self.words)) self.changes
             → s.carry ≡ carry.entry.count
-            → (style_in STYLE self.style ≡ Places → s.placed ≡ carry.entry.placed)
+            → (style_in STYLE self.told_style ≡ Places → s.placed ≡ carry.entry.placed)
             → IsBlock s (block_pixels self.words) self.planes.r stands indices
-            → HasSpelled (style_in STYLE self.style) s (block_pixels self.words) result }
+            → HasSpelled (style_in STYLE self.told_style) s (block_pixels self.words) result }
     {
         if ALL_RGBA && are_all_rgba(self.changes.steps.a, stands) {
             return spell_rgba(self.changes.rep, self.planes.r);
         }
         let x = spell_block(self.changes, self.planes.r, stands, indices, carry.count);
-        match style_in::<STYLE>(self.style) {
+        match style_in::<STYLE>(self.told_style) {
             Reference | Tight => x,
             Places => name_single(x, stands, indices, carry.placed),
         }
@@ -188,24 +188,25 @@ pub(super) fn write_in_lanes<
 ) -> (Carry<N>, Piece<'p, ROOM>)
     requires { N ≡ 3 → AreOpaque (block_pixels block.words) }
     ensures { (ahead : List ℕ) (n : ℕ) (rest more : List RgbaPixel)
-        → FitsBlock (style_in STYLE block.style) table.old
+        → FitsBlock (style_in STYLE block.told_style) table.old
         carry.entry.before (block_pixels block.words) block.changes
-        → InBlocks (style_in STYLE block.style) ahead n (block_pixels block.words ++ rest) more
+        → InBlocks (style_in STYLE block.told_style) ahead n
+        (block_pixels block.words ++ rest) more
         table.old carry.entry (kept_bytes piece.entry.piece)
-        → InBlocks (style_in STYLE block.style) ahead n rest more
+        → InBlocks (style_in STYLE block.told_style) ahead n rest more
         table.new result.0 (kept_bytes result.1) }
 {
-    let style = style_in::<STYLE>(block.style);
+    let style = style_in::<STYLE>(block.told_style);
     let Piece { bytes, end } = piece.piece;
     let indices = index_positions(block.planes);
-    // The run's byte is stored between the two others, so that index positions are read from memory
-    // (`store_indices`).
-    store_indices::<ROOM, ALL_RGBA>(indices, bytes);
+    // `store_run` stands between `store_indices` and `read_indices`, so that the compiler reads the
+    // index positions from memory (`store_indices`).
+    store_indices::<ROOM, ALL_RGBA>(bytes, indices);
     carry.store_run(style, bytes, end);
-    let lanes = indices.to_array();
+    let in_vector = indices.to_array();
     let stands = put_block(
         table,
-        read_indices::<ROOM, ALL_RGBA>(&lanes, bytes),
+        read_indices::<ROOM, ALL_RGBA>(bytes, &in_vector),
         block.words,
     );
     let x = block.spell::<N, STYLE, ALL_RGBA>(stands, indices, carry);

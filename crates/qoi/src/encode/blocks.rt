@@ -12,16 +12,16 @@ use crate::encode::block::{Block, write_in_lanes};
 use crate::encode::carry::{Carry, FRONT_CARRIED};
 use crate::encode::coder::{Coder, LastPixel};
 use crate::encode::piece::{OpenPiece, Piece, REPEATS_AT_ONCE};
-use crate::encode::pixels::{FrontBlock, Pixels, style_in};
+use crate::encode::pixels::{LoopPixels, Pixels, style_in};
 use crate::encode::repeats::repeats_of;
 use crate::encode::sparse::{goes_by_marks, write_marked_pixels};
 use crate::encode::table::PixelTable;
 use crate::packed::Packed;
 use crate::types::Style::{self, Places, Reference, Tight};
 
-/// Whether the front goes by blocks, for which both must hold:
-/// - a fresh pixel came or, except in style `Tight`, no repeats wait and the next pixel is fresh;
-/// - at most `FRONT_CARRIED` repeats wait, or the next pixel is fresh.
+/// Whether the front goes by blocks, as it does in two cases:
+/// - a fresh pixel came, and at most `FRONT_CARRIED` repeats wait;
+/// - a fresh pixel came or, except in style `Tight`, no repeats wait; and the next pixel is fresh.
 #[inline(always)]
 pub(super) fn goes_by_blocks<const N: usize>(style: Style, last: LastPixel, raw: Pixels<N>) -> bool
     requires some { 16 ≤ length (pixels_in raw) }
@@ -29,8 +29,8 @@ pub(super) fn goes_by_blocks<const N: usize>(style: Style, last: LastPixel, raw:
     ensures { IsTrue result
         → GoesByBlocks style last (length (pixels_in raw.entry)) (pixels_in raw.entry) }
 {
-    // Not in `Tight`: there `write_front_block` may make a coder of even the first block's carry,
-    // and `Carry::last_pixel` gives it as after a fresh pixel.
+    // Not in `Tight`: there `write_front_block` may make a coder even before the first block, which
+    // claims that a fresh pixel came (`begun` of `Carry::last_pixel`).
     let may_open = match style {
         Reference | Places => last.repeats == 0,
         Tight => false,
@@ -56,7 +56,7 @@ const MANY_BYTES: usize = 1024;
 #[inline(always)]
 pub(super) fn begin_with_rgba<const N: usize>(
     table: &PixelTable,
-    last: Packed,
+    before: Packed,
     raw: Pixels<N>,
 ) -> bool
     requires { 3 ≤ length (pixels_in raw) }
@@ -66,12 +66,12 @@ pub(super) fn begin_with_rgba<const N: usize>(
     }
     let (second, third) = (raw.skip(1), raw.skip(2));
     let (one, two) = (raw.first().px, second.first().px);
-    is_rgba(table, last, one) && is_rgba(table, one, two) && is_rgba(table, two, third.first().px)
+    is_rgba(table, before, one) && is_rgba(table, one, two) && is_rgba(table, two, third.first().px)
 }
 
 // Writes the full runs of the carried repeats and those at the front; the others are carried.
-// Returns the rest, and what is carried. If that is some repeats, the rest begins with a fresh pixel
-// or is empty: 992 repeats, where counting ends, are sixteen full runs.
+// Returns the rest, what is carried, and the piece. If repeats are carried, the rest begins with a
+// fresh pixel or is empty: 992 repeats, where counting ends, are sixteen full runs.
 #[inline(always)]
 fn write_full_runs<'a, 'p, const N: usize, const ROOM: usize>(
     piece: OpenPiece<'p, ROOM>,
@@ -85,14 +85,14 @@ fn write_full_runs<'a, 'p, const N: usize, const ROOM: usize>(
     let mut piece = piece.piece;
     let carried = usize::from(carry.count);
     let ahead = repeats_of::<N>(raw.at_most(REPEATS_AT_ONCE - carried), raw.first());
-    let count = carried + ahead;
-    piece.append_full_runs(count / QOI_RUN_MAX);
-    let after = Carry {
+    let all = carried + ahead;
+    piece.append_full_runs(all / QOI_RUN_MAX);
+    let next_carry = Carry {
         before: carry.before,
-        count: (count % QOI_RUN_MAX) as u8,
-        placed: carry.placed & (count < QOI_RUN_MAX),
+        count: (all % QOI_RUN_MAX) as u8,
+        placed: carry.placed & (all < QOI_RUN_MAX),
     };
-    (raw.skip(ahead), after, piece)
+    (raw.skip(ahead), next_carry, piece)
 }
 
 // Writes what is at the front, in one of four ways:
@@ -115,37 +115,40 @@ fn write_front_block<
 >(
     table: &mut PixelTable,
     piece: OpenPiece<'p, ROOM>,
-    front: FrontBlock<'a, N>,
+    pixels: LoopPixels<'a, N>,
     carry: Carry<N>,
 ) -> (Pixels<'a, N>, Carry<N>, Piece<'p, ROOM>)
-    ensures { WritesBlocks (style_in STYLE front.entry.style) (length (pixels_in front.entry.whole))
-        front.entry.raw table.old carry.entry piece.entry.piece
+    ensures { WritesBlocks (style_in STYLE pixels.entry.style)
+        (length (pixels_in pixels.entry.whole))
+        pixels.entry.rest table.old carry.entry piece.entry.piece
         result.0 table.new result.1 result.2 }
 {
-    let style = style_in::<STYLE>(front.style);
-    let block = Block::first::<N>(front, carry);
+    let style = style_in::<STYLE>(pixels.style);
+    let block = Block::first::<N>(pixels, carry);
     let marks = block.marks();
     if marks == 0 {
-        return write_full_runs(piece, front.raw, carry);
+        return write_full_runs(piece, pixels.rest, carry);
     }
-    if goes_by_marks(marks, front, carry) {
+    if goes_by_marks(marks, pixels, carry) {
         let mut piece = piece.piece;
         let mut coder = Coder::<N>::new(style, carry.last_pixel());
-        let rest = write_marked_pixels(&mut coder, table, &mut piece, front, marks);
+        let rest = write_marked_pixels(&mut coder, table, &mut piece, pixels, marks);
         return (rest, Carry::of(coder.last), piece);
     }
     if block.may_miss_blank(style, table) {
         let mut piece = piece.piece;
         let mut coder = Coder::<N>::new(style, carry.last_pixel());
-        let rest = coder.write_next_group(table, &mut piece, front.raw);
+        let rest = coder.write_next_group(table, &mut piece, pixels.rest);
         return (rest, Carry::of(coder.last), piece);
     }
-    let (after, piece) = write_in_lanes::<N, STYLE, ROOM, ALL_RGBA>(table, piece, block, carry);
-    (front.raw.skip(16), after, piece)
+    let (next_carry, piece) = write_in_lanes::<N, STYLE, ROOM, ALL_RGBA>(
+        table, piece, block, carry,
+    );
+    (pixels.rest.skip(16), next_carry, piece)
 }
 
 /// Writes by blocks until the piece is full or fewer pixels than a block has are left, whatever
-/// pixels come meanwhile. Returns the piece, and the rest.
+/// pixels come meanwhile: afterwards one of the two is so. Returns the piece, and the rest.
 ///
 /// `Reference` has a loop of its own, and another if `ALL_RGBA`: where an RGBA chunk is expected to
 /// give each pixel (`begin_with_rgba`). The other styles share one, which is told the style. The
@@ -162,27 +165,28 @@ pub(super) fn write_blocks<
     last: &mut LastPixel,
     table: &mut PixelTable,
     piece: OpenPiece<'p, ROOM>,
-    front: FrontBlock<'a, N>,
+    pixels: LoopPixels<'a, N>,
 ) -> (Piece<'p, ROOM>, &'a [u8])
     requires opaque { N ≡ 3 → last.old.px.a ≡ 255 }
-    requires goes { GoesByBlocks (style_in STYLE front.style) last.old
-        (length (pixels_in front.raw)) (pixels_in front.raw) }
-    ensures { WritesSome (style_in STYLE front.entry.style) front.entry.raw
+    requires goes { GoesByBlocks (style_in STYLE pixels.style) last.old
+        (length (pixels_in pixels.rest)) (pixels_in pixels.rest) }
+    ensures { WritesSome (style_in STYLE pixels.entry.style) pixels.entry.rest
         table.old last.old piece.entry.piece result.1.now table.new last.new result.0 }
 {
-    let raw = front.raw;
+    let whole = pixels.rest;
     let mut carry = Carry::<N>::of(*last);
     let mut piece = piece.piece;
-    let mut rest = raw;
+    let mut rest = whole;
     while !piece.is_full() && rest.has_block() {
         (rest, carry, piece) = write_front_block::<N, STYLE, ROOM, ALL_RGBA>(
             table,
             piece.open(),
-            rest.front_of(raw, front.style),
+            rest.in_loop(whole, pixels.style),
             carry,
         );
     }
     *last = carry.last_pixel();
+    // With the rest first, as `write_front_block` has it, a register less is left for the loop.
     (piece, rest.bytes)
 }
 
@@ -193,15 +197,15 @@ pub(super) fn write_opening<'a, 'p, const N: usize, const ROOM: usize>(
     last: &mut LastPixel,
     table: &mut PixelTable,
     piece: OpenPiece<'p, ROOM>,
-    front: FrontBlock<'a, N>,
+    pixels: LoopPixels<'a, N>,
 ) -> (Piece<'p, ROOM>, &'a [u8])
     requires { N ≡ 3 → last.old.px.a ≡ 255 }
-    ensures { WritesSome front.entry.style front.entry.raw
+    ensures { WritesSome pixels.entry.style pixels.entry.rest
         table.old last.old piece.entry.piece result.1.now table.new last.new result.0 }
 {
     let mut piece = piece.piece;
-    let mut coder = Coder::<N>::new(front.style, *last);
-    let rest = coder.write_next_group(table, &mut piece, front.raw);
+    let mut coder = Coder::<N>::new(pixels.style, *last);
+    let rest = coder.write_next_group(table, &mut piece, pixels.rest);
     *last = coder.last;
     (piece, rest.bytes)
 }

@@ -290,10 +290,10 @@ impl<const N: usize> Coder<N> {
         after.skip(1)
     }
 
-    /// `write_one_by_one` as a function of its own, which all images of these channels and this
+    /// `write_last_groups` as a function of its own, which all images of these channels and this
     /// room share.
     #[inline(never)]
-    pub(super) fn write_one_by_one_shared<const ROOM: usize>(
+    pub(super) fn write_last_groups_shared<const ROOM: usize>(
         &mut self,
         table: &mut PixelTable,
         piece: &mut Piece<ROOM>,
@@ -303,13 +303,13 @@ impl<const N: usize> Coder<N> {
         requires not_full { piece.old.end < ROOM - SPARE }
         ensures { CoderEnds self.old table.old piece.old (pixels_in raw.entry) piece.new }
     {
-        self.write_one_by_one(table, piece, raw);
+        self.write_last_groups(table, piece, raw);
     }
 
-    /// Writes the repeats that came before, and an image's last pixels, fewer than a block has, one
-    /// by one.
+    /// Writes an image's last pixels, fewer than a block has, group by group (`write_next_group`), and
+    /// the repeats that wait, also if no pixel is left.
     #[inline(always)]
-    pub(super) fn write_one_by_one<const ROOM: usize>(
+    pub(super) fn write_last_groups<const ROOM: usize>(
         &mut self,
         table: &mut PixelTable,
         piece: &mut Piece<ROOM>,

@@ -5,14 +5,14 @@ ghost use Rattle.qoi.specs.Encoded.{max_file_len};
 ghost use Rattle.qoi.specs.inner.Sending.{IsNew, EndsOpaque, pixel_size, StaysIn, Between, GoesByPixels, FillsPiece, IsReady, WritesWhole, WritesImage};
 ghost use Rattle.qoi.specs.inner.BlockLoop.{GoesByBlocks};
 ghost use Rattle.qoi.specs.Styles.{style_in};
-ghost use Rattle.qoi.specs.inner.Coder.{kept_bytes, pixels_in, CoderEnds, SPARE, FULL_ROOM};
+ghost use Rattle.qoi.specs.inner.Coder.{kept_bytes, pixels_in, CoderEnds, SPARE, LARGE_ROOM};
 ghost use Rattle.qoi.specs.Raw.{pixels_of};
 
 use crate::encode::Encoder;
 use crate::encode::blocks::{begin_with_rgba, goes_by_blocks, write_blocks, write_opening};
 use crate::encode::coder::{Coder, LastPixel};
 use crate::encode::piece::{LEAST_ROOM, OpenPiece, Piece, TINY_ROOM};
-use crate::encode::pixels::Pixels;
+use crate::encode::pixels::{AS_REFERENCE, AS_TOLD, Pixels};
 use crate::encode::table::PixelTable;
 use crate::error::Result;
 use crate::types::Channels::{self, Rgb, Rgba};
@@ -54,7 +54,7 @@ impl ImageState {
     }
 }
 
-// Fills a piece with the opening of these pixels, a block or more: the repeats that wait, those at
+// Writes the opening of these pixels, a block or more, into a piece: the repeats that wait, those at
 // the front and the fresh pixel after them. It isn't inlined: in one function with it the loop over
 // blocks would be slower.
 #[inline(never)]
@@ -68,13 +68,13 @@ fn fill_with_opening<'a, 'p, const N: usize, const ROOM: usize>(
     requires block { 16 ≤ length (pixels_in raw) }
     ensures { FillsPiece state.old piece.entry raw.entry.bytes.now state.new result }
 {
-    let front = raw.front_of(raw, state.style);
-    write_opening(&mut state.last, &mut state.table, piece, front)
+    let pixels = raw.start_loop(state.style);
+    write_opening(&mut state.last, &mut state.table, piece, pixels)
 }
 
-// Fills a piece by blocks of these pixels, which go by blocks in this style (`style_in`). It isn't
-// inlined: where the loops, with `ALL_RGBA` and without, are one function, they are slower. Nor is
-// it passed a `FrontBlock`, which would be stored for the call: a small image takes longer for it.
+// Writes these pixels, which go by blocks in this style (`style_in`), into a piece. It isn't inlined:
+// where the loops, with `ALL_RGBA` and without, are one function, they are slower. Nor is it passed
+// a `LoopPixels`, which would be stored for the call: a small image takes longer for it.
 #[inline(never)]
 fn fill_with_blocks<
     'a,
@@ -96,8 +96,8 @@ fn fill_with_blocks<
         (length (pixels_in raw)) (pixels_in raw) }
     ensures { FillsPiece state.old piece.entry raw.entry.bytes.now state.new result }
 {
-    let front = raw.front_of(raw, state.style);
-    write_blocks::<N, STYLE, ROOM, ALL_RGBA>(&mut state.last, &mut state.table, piece, front)
+    let pixels = raw.start_loop(state.style);
+    write_blocks::<N, STYLE, ROOM, ALL_RGBA>(&mut state.last, &mut state.table, piece, pixels)
 }
 
 // `fill_piece` in `N` channels. The loops are lent the last pixel (`&mut`): a copy of it would wait
@@ -114,28 +114,24 @@ fn fill_in_channels<'a, 'p, const N: usize, const ROOM: usize>(
     ensures { FillsPiece state.old piece.entry «data».entry.now state.new result }
 {
     let raw = Pixels::<N>::new(data);
-    // Only for what it says of them: that they are a block or more.
-    let front = raw.front_of(raw, state.style);
-    if !goes_by_blocks(state.style, state.last, front.raw) {
-        return fill_with_opening(state, piece, front.raw);
+    if !goes_by_blocks(state.style, state.last, raw) {
+        return fill_with_opening(state, piece, raw);
     }
     match state.style {
         Reference => {}
-        Places | Tight => {
-            return fill_with_blocks::<N, 1, ROOM, false>(state, piece, front.raw);
-        }
+        Places | Tight => return fill_with_blocks::<N, AS_TOLD, ROOM, false>(state, piece, raw),
     }
     // A file in `TINY_ROOM` has too few pixels.
-    if ROOM != TINY_ROOM && begin_with_rgba(&state.table, state.last.px, front.raw) {
-        return fill_with_blocks::<N, 0, ROOM, true>(state, piece, front.raw);
+    if ROOM != TINY_ROOM && begin_with_rgba(&state.table, state.last.px, raw) {
+        return fill_with_blocks::<N, AS_REFERENCE, ROOM, true>(state, piece, raw);
     }
-    fill_with_blocks::<N, 0, ROOM, false>(state, piece, front.raw)
+    fill_with_blocks::<N, AS_REFERENCE, ROOM, false>(state, piece, raw)
 }
 
 // Writes the front of whole pixels, which are a block or more, into the piece: by blocks, until it
-// is full or fewer pixels than a block has are left (`fill_with_blocks`); or only the repeats and the
-// fresh pixel at the front (`fill_with_opening`). Returns the piece, and the rest. Which of the two is
-// asked only here, so mostly once a piece.
+// is full or no block is left (`fill_with_blocks`); or only the repeats and the fresh pixel at the
+// front (`fill_with_opening`), after which neither need be so. Returns the piece, and the rest.
+// Which of the two ways it goes is asked only here, so mostly once a piece.
 #[inline(always)]
 fn fill_piece<'a, 'p, const ROOM: usize>(
     state: &mut ImageState,
@@ -152,7 +148,7 @@ fn fill_piece<'a, 'p, const ROOM: usize>(
     }
 }
 
-/// Writes whole pixels into the piece, and sends it to the writer each time it is full, and only
+/// Writes whole pixels into the piece, which sends to the writer each time it is full, and only
 /// then. Fewer pixels than a block has are left at their end. Returns those, and the piece.
 pub(super) fn write_pixels<'a, 'p, W: Writer, const ROOM: usize>(
     writer: &mut W,
@@ -168,12 +164,13 @@ pub(super) fn write_pixels<'a, 'p, W: Writer, const ROOM: usize>(
     let block = state.block_size();
     let mut rest = data;
     while rest.len() >= block {
-        let (mut filled, after) = fill_piece(state, piece, rest);
-        if filled.is_full() {
-            filled.send(writer)?;
+        let (mut next_piece, after) = fill_piece(state, piece, rest);
+        // Asked again, as in `write_blocks`: after an opening the piece mostly isn't full.
+        if next_piece.is_full() {
+            next_piece.send(writer)?;
         }
         rest = after;
-        piece = filled.open();
+        piece = next_piece.open();
     }
     Ok((rest, piece))
 }
@@ -193,11 +190,11 @@ fn write_last_in_channels<const N: usize, const ROOM: usize>(
 {
     let rest = Pixels::<N>::new(left);
     if rest.is_empty() || ROOM == LEAST_ROOM {
-        // As `Coder::write_one_by_one_shared`, but inlined: it is little (no pixel is left), or most
+        // As `Coder::write_last_groups_shared`, but inlined: it is little (no pixel is left), or most
         // of what is done (an image below `LEAST_BLOCK`).
-        coder.write_one_by_one(table, piece, rest);
+        coder.write_last_groups(table, piece, rest);
     } else {
-        coder.write_one_by_one_shared(table, piece, rest);
+        coder.write_last_groups_shared(table, piece, rest);
     }
 }
 
@@ -223,12 +220,12 @@ pub(super) fn write_last_pixels<const ROOM: usize>(
 }
 
 /// Writes the file of an image, and returns how many bytes it has. These go through a piece in a
-/// room of `ROOM` bytes: it is sent to the writer each time it is full, and at last.
+/// room of `ROOM` bytes, which sends to the writer each time it is full, and at last.
 pub(super) fn encode_file<W: Writer, const ROOM: usize>(
     writer: &mut W,
     encoder: &Encoder,
 ) -> Result<usize>
-    requires piece { (2 * SPARE ≤ ROOM) × (ROOM ≤ FULL_ROOM) }
+    requires piece { (2 * SPARE ≤ ROOM) × (ROOM ≤ LARGE_ROOM) }
     requires room { max_file_len encoder.now.header ≤ W.room writer.old }
     ensures { WritesImage W.wrote W.IsFault encoder.now writer.old writer.new result }
 {
@@ -237,7 +234,7 @@ pub(super) fn encode_file<W: Writer, const ROOM: usize>(
     let mut bytes = [0; ROOM];
     let piece = Piece::<ROOM>::with_header(&mut bytes, &encoder.header).open();
     let mut state = ImageState::new(encoder.header.channels, encoder.style);
-    // A `?` would copy the result.
+    // A `?` would copy this result, since it has a piece; that of `finish` has nothing.
     match write_pixels(writer, &mut state, piece, encoder.data) {
         Ok((left, piece)) => {
             let mut piece = piece.piece;
@@ -259,7 +256,7 @@ pub(super) fn encode_in_one_piece<W: Writer, const ROOM: usize>(
     writer: &mut W,
     encoder: &Encoder,
 ) -> Result<usize>
-    requires piece { (LEAST_ROOM ≤ ROOM) × (ROOM ≤ FULL_ROOM) }
+    requires piece { (LEAST_ROOM ≤ ROOM) × (ROOM ≤ LARGE_ROOM) }
     requires few { ROOM ≡ LEAST_ROOM → length encoder.now.raw < LEAST_BLOCK }
     requires fits { LEAST_ROOM < ROOM → max_file_len encoder.now.header ≤ ROOM - SPARE }
     requires room { max_file_len encoder.now.header ≤ W.room writer.old }

@@ -15,21 +15,28 @@ use crate::utils::{copy_after, pick};
 use crate::writers::Writer;
 use std::simd::prelude::*;
 
-/// How many bytes of a piece's room come after a full piece: for what goes past it (the chunks of
-/// a block, runs, or the last chunks and the end marker), and for what is stored after that and
-/// means nothing, such as a block's index positions.
+/// How many bytes of a piece's room come after the `ROOM - SPARE` that make it full, and that it
+/// sends at once: for what goes past those (the chunks of a block, runs, or the last chunks and the
+/// end marker), and for what is stored after that and means nothing, such as a block's index
+/// positions.
 pub(super) const SPARE: usize = 128;
 
-/// The room of a piece of 4096 bytes, for large images, those that have a block and go to a writer,
-/// and those in parts. A writer is sent a full one at once.
-pub(super) const FULL_ROOM: usize = 4096 + SPARE;
+/// How many bytes a piece in `LARGE_ROOM` sends at once.
+pub(super) const LARGE_BATCH: usize = 4096;
 
-/// The room of a piece of 512 bytes, for a small image that goes to memory: zeroing more takes a
-/// good part of the time.
+/// The room of a piece for large images, those that have a block and go to a stream, and those in
+/// parts.
+pub(super) const LARGE_ROOM: usize = LARGE_BATCH + SPARE;
+
+/// The room of a piece that sends 512 bytes at once, for a small image that goes to memory: zeroing
+/// more takes a good part of the time.
 pub(super) const SMALL_ROOM: usize = 512 + SPARE;
 
-/// The room of a piece of 128 bytes, which hold the whole file of a tiny image.
-pub(super) const TINY_ROOM: usize = 128 + SPARE;
+/// The most bytes of a tiny file, all of which a piece keeps.
+pub(super) const TINY_FILE: usize = 128;
+
+/// The room of a piece for a tiny file.
+pub(super) const TINY_ROOM: usize = TINY_FILE + SPARE;
 
 /// The room for the file of an image below `LEAST_BLOCK` raw bytes: header, chunks and end marker.
 pub(super) const LEAST_ROOM: usize = 16 + SPARE;
@@ -41,7 +48,7 @@ pub(super) const RUNS_AT_ONCE: usize = 16;
 pub(super) const REPEATS_AT_ONCE: usize = RUNS_AT_ONCE * QOI_RUN_MAX;
 
 /// Bytes that are kept: the first `end` ones of a room of `ROOM` bytes. Those after them mean
-/// nothing, and there is room for the end marker. A full piece has `ROOM - SPARE` bytes.
+/// nothing, and there is room for the end marker. A full piece has `ROOM - SPARE` bytes or more.
 #[derive(Drop)]
 pub(super) struct Piece<'a, const ROOM: usize> {
     pub(super) end: usize,
@@ -85,7 +92,7 @@ impl<'a, const ROOM: usize> Piece<'a, ROOM> {
         Piece { bytes: room, end }
     }
 
-    /// Whether there are enough bytes for a full piece.
+    /// Whether there are so many bytes that the first `ROOM - SPARE` are sent.
     #[inline(always)]
     pub(super) fn is_full(&self) -> bool
         ensures full { IsTrue result → ROOM - SPARE ≤ self.now.end }
@@ -145,7 +152,7 @@ impl<'a, const ROOM: usize> Piece<'a, ROOM> {
         self.end += runs;
     }
 
-    /// Sends a full piece to a writer; the bytes after it are kept.
+    /// Sends the first `ROOM - SPARE` bytes of a full piece to a writer; those after them are kept.
     #[inline(always)]
     pub(super) fn send<W: Writer>(&mut self, writer: &mut W) -> Result<()>
         requires full { ROOM - SPARE ≤ self.old.end }
@@ -201,7 +208,7 @@ impl<'a, const ROOM: usize> Piece<'a, ROOM> {
     }
 }
 
-// Sends a full piece to a writer, and moves the bytes after it to the front.
+// Sends the first `ROOM - SPARE` bytes to a writer, and moves those after them to the front.
 #[inline(never)]
 fn send_front<W: Writer, const ROOM: usize>(writer: &mut W, bytes: &mut [u8]) -> Result<()>
     requires large { 2 * SPARE ≤ ROOM }

@@ -16,7 +16,7 @@ mod workspace;
 
 use crate::consts::QOI_HEADER_SIZE;
 use crate::encode::image::ImageState;
-use crate::encode::piece::FULL_ROOM;
+use crate::encode::piece::LARGE_ROOM;
 pub(crate) use crate::encode::pixel_writer::sending::send_bytes;
 use crate::encode::pixel_writer::sending::{take_raw, write_end};
 use crate::encode::pixel_writer::workspace::{Held, Workspace};
@@ -92,7 +92,7 @@ impl<W: Write + Drop> PixelWriter<W> {
         let workspace = Workspace {
             state: ImageState::new(header.channels, style),
             held: Held::new(),
-            piece_bytes: [0; FULL_ROOM],
+            piece_bytes: [0; LARGE_ROOM],
         };
         let workspace = Box::new(alloc, workspace)?;
         send_bytes(&mut writer, &header.encode()[..QOI_HEADER_SIZE])?;

@@ -23,36 +23,48 @@ pub(super) struct PixelOf<const N: usize> {
     ghost opaque: { N ≡ 3 → px.a ≡ 255 },
 }
 
-/// Pixels that begin with a block, sixteen or more: what is left of `whole`, a loop's pixels, by
-/// which `goes_by_marks` knows the loop's first block; and the style that the loop is told
-/// (`style_in`).
+/// The pixels of a loop over blocks, or of an opening: `rest`, those that are left, sixteen or more;
+/// `whole`, all of them, by which `goes_by_marks` knows the loop's first block; and the style that
+/// the loop is told.
 #[derive(Clone, Copy)]
-pub(super) struct FrontBlock<'a, const N: usize> {
-    pub(super) raw: Pixels<'a, N>,
+pub(super) struct LoopPixels<'a, const N: usize> {
+    pub(super) rest: Pixels<'a, N>,
     pub(super) whole: Pixels<'a, N>,
     pub(super) style: Style,
-    ghost enough: { 16 ≤ length (pixels_of N raw.bytes.now) },
-    ghost long: { N * 16 ≤ length raw.bytes.now },
+    ghost enough: { 16 ≤ length (pixels_of N rest.bytes.now) },
+    ghost long: { N * 16 ≤ length rest.bytes.now },
 }
 
-/// The style of a loop over blocks, by its number: `Reference`, if that is 0, which is then a
-/// constant for the compiler, or the one that the loop is told.
+/// `STYLE` of a loop over blocks whose style is the constant `Reference`.
+pub(super) const AS_REFERENCE: u8 = 0;
+
+/// `STYLE` of a loop over blocks that is told its style.
+pub(super) const AS_TOLD: u8 = 1;
+
+/// The style of a loop over blocks, which is the image's: a constant for the compiler, or the one
+/// that the loop is told.
 #[inline(always)]
 pub(super) fn style_in<const STYLE: u8>(told: Style) -> Style
     ensures { result ≡ style_in STYLE told }
 {
-    if STYLE == 0 { Reference } else { told }
+    if STYLE == AS_REFERENCE {
+        Reference
+    } else {
+        told
+    }
 }
 
 impl<'a, const N: usize> Pixels<'a, N> {
     ghost use Rattle.qoi.specs.inner.Coder.{pixels_in, REPEATS_AT_ONCE};
 
     /// The pixels of raw bytes.
+    #[tactic(auto, using(crate::proofs::encoding::coder::PixelsIn::sizes))]
     #[inline(always)]
     pub(super) fn new(bytes: &'a [u8]) -> Pixels<'a, N>
         requires channels { IsChannels N }
         requires whole { length bytes.now % N ≡ 0 }
-        ensures { result.bytes.now ≡ bytes.entry.now }
+        ensures bytes { result.bytes.now ≡ bytes.entry.now }
+        ensures block { 16 * N ≤ length bytes.entry.now → 16 ≤ length (pixels_in result) }
     {
         Pixels { bytes }
     }
@@ -69,22 +81,33 @@ impl<'a, const N: usize> Pixels<'a, N> {
     #[tactic(auto, using(crate::proofs::encoding::coder::PixelsIn::sizes))]
     #[inline(always)]
     pub(super) fn has_block(self) -> bool
-        ensures { IsTrue result ↔ (16 ≤ length (pixels_in self.entry)) }
+        ensures block { IsTrue result ↔ (16 ≤ length (pixels_in self.entry)) }
+        ensures long { IsTrue result → N * 16 ≤ length self.entry.bytes.now }
     {
         self.bytes.len() >= 16 * N
     }
 
-    /// These pixels, a block or more, which are left of others, in this style.
+    /// These pixels, a block or more, as all of a loop, which is told this style.
+    #[inline(always)]
+    pub(super) fn start_loop(self, style: Style) -> LoopPixels<'a, N>
+        requires { 16 ≤ length (pixels_in self) }
+        ensures rest { result.rest ≡ self.entry }
+        ensures style { result.style ≡ style }
+    {
+        self.in_loop(self, style)
+    }
+
+    /// These pixels, a block or more, as those left of a loop's `whole`, which is told this style.
     #[tactic(auto, using(crate::proofs::encoding::coder::PixelsIn::bytes_within))]
     #[inline(always)]
-    pub(super) fn front_of(self, whole: Pixels<'a, N>, style: Style) -> FrontBlock<'a, N>
+    pub(super) fn in_loop(self, whole: Pixels<'a, N>, style: Style) -> LoopPixels<'a, N>
         requires { 16 ≤ length (pixels_in self) }
-        ensures raw { result.raw ≡ self.entry }
+        ensures rest { result.rest ≡ self.entry }
         ensures whole { result.whole ≡ whole.entry }
         ensures style { result.style ≡ style }
     {
-        FrontBlock {
-            raw: self,
+        LoopPixels {
+            rest: self,
             whole,
             style,
         }

@@ -7,10 +7,9 @@ ghost use Rattle.qoi.specs.Raw.{IsChannels, output, pixels_of};
 ghost use Rattle.qoi.specs.Runs.{IsCount};
 ghost use Rattle.qoi.specs.inner.Coder.{pixels_in};
 
-use crate::encode::pixels::{FrontBlock, PixelOf, Pixels};
+use crate::encode::pixels::{PixelOf, Pixels};
 use crate::packed::Packed;
 use crate::pixel::Pixel;
-use crate::types::Style;
 use crate::utils::skip;
 use std::simd::prelude::*;
 
@@ -35,8 +34,7 @@ pub(super) fn repeats_of<const N: usize>(raw: Pixels<N>, pixel: PixelOf<N>) -> u
     let mut count = 0;
     let mut rest = raw;
     while rest.has_block() {
-        // Pixels repeat whatever the style.
-        let more = repeats_in_block::<N>(rest.front_of(raw, Style::Reference), px);
+        let more = repeats_in_block::<N>(rest, px);
         count += more;
         if more < 16 {
             return count;
@@ -64,63 +62,67 @@ fn count_pixels<const N: usize>(raw: Pixels<N>, px: Packed) -> usize
 
 // How many of the first sixteen pixels are `px`, up to the first that isn't.
 #[inline(always)]
-fn repeats_in_block<const N: usize>(front: FrontBlock<N>, px: Packed) -> usize
-    requires { N ≡ 3 → px.a ≡ 255 }
+fn repeats_in_block<const N: usize>(raw: Pixels<N>, px: Packed) -> usize
+    requires long { N * 16 ≤ length raw.bytes.now }
+    requires opaque { N ≡ 3 → px.a ≡ 255 }
     ensures within { result ≤ 16 }
     ensures all { result ≡ 16
-        → pixels_in front.entry.raw ≡ replicate 16 px ++ drop 16 (pixels_in front.entry.raw) }
-    ensures counted { result < 16 → IsCount px (pixels_in front.entry.raw) result }
+        → pixels_in raw.entry ≡ replicate 16 px ++ drop 16 (pixels_in raw.entry) }
+    ensures counted { result < 16 → IsCount px (pixels_in raw.entry) result }
 {
-    if all_same_in_block::<N>(front, px) {
+    if all_same_in_block::<N>(raw, px) {
         return 16;
     }
-    let same = same_in_block::<N>(front, px);
+    let same = same_in_block::<N>(raw, px);
     (!same).trailing_zeros() as usize / N
 }
 
 // Whether all bits of `same_in_block` are set. It is asked first, since of most blocks it is true,
 // and to find it takes fewer instructions than to count.
 #[inline(always)]
-fn all_same_in_block<const N: usize>(front: FrontBlock<N>, px: Packed) -> bool
-    ensures { IsTrue result → mask_l (zip2 nat_eq front.entry.raw.bytes.now
+fn all_same_in_block<const N: usize>(raw: Pixels<N>, px: Packed) -> bool
+    requires { N * 16 ≤ length raw.bytes.now }
+    ensures { IsTrue result → mask_l (zip2 nat_eq raw.entry.bytes.now
         (output N N (replicate 16 px))) ≡ 2 ^ (N * 16) - 1 }
 {
-    let first = same_in_part::<N, 0>(front, px);
-    let second = same_in_part::<N, 1>(front, px);
-    let third = same_in_part::<N, 2>(front, px);
+    let first = same_in_part::<N, 0>(raw, px);
+    let second = same_in_part::<N, 1>(raw, px);
+    let third = same_in_part::<N, 2>(raw, px);
     let three = first & second & third;
     if N == 3 {
         return three == 0xffff;
     }
-    three & same_in_part::<N, 3>(front, px) == 0xffff
+    three & same_in_part::<N, 3>(raw, px) == 0xffff
 }
 
 // Which bytes are those of `px` written sixteen times: a bit for each, the lowest for the first.
 #[inline(always)]
-fn same_in_block<const N: usize>(front: FrontBlock<N>, px: Packed) -> u64
-    ensures bits { result ≡ mask_l (zip2 nat_eq front.entry.raw.bytes.now
+fn same_in_block<const N: usize>(raw: Pixels<N>, px: Packed) -> u64
+    requires { N * 16 ≤ length raw.bytes.now }
+    ensures bits { result ≡ mask_l (zip2 nat_eq raw.entry.bytes.now
         (output N N (replicate 16 px))) }
 {
-    let first = same_in_part::<N, 0>(front, px);
-    let second = same_in_part::<N, 1>(front, px);
-    let third = same_in_part::<N, 2>(front, px);
+    let first = same_in_part::<N, 0>(raw, px);
+    let second = same_in_part::<N, 1>(raw, px);
+    let third = same_in_part::<N, 2>(raw, px);
     let three = first + (second << 16) + (third << 32);
     if N == 3 {
         return three;
     }
-    three + (same_in_part::<N, 3>(front, px) << 48)
+    three + (same_in_part::<N, 3>(raw, px) << 48)
 }
 
 // Which of the `PART`th sixteen bytes are so: a bit for each.
 #[inline(always)]
-fn same_in_part<const N: usize, const PART: usize>(front: FrontBlock<N>, px: Packed) -> u64
-    requires { PART < N }
+fn same_in_part<const N: usize, const PART: usize>(raw: Pixels<N>, px: Packed) -> u64
+    requires part { PART < N }
+    requires long { N * 16 ≤ length raw.bytes.now }
     ensures few { result < 2 ^ 16 }
     ensures bits { result
-        ≡ mask_l (zip2 nat_eq (take 16 (drop (16 * PART) front.entry.raw.bytes.now))
+        ≡ mask_l (zip2 nat_eq (take 16 (drop (16 * PART) raw.entry.bytes.now))
         (take 16 (drop (16 * PART) (output N N (replicate 16 px))))) }
 {
-    let part = skip(front.raw.bytes, 16 * PART);
+    let part = skip(raw.bytes, 16 * PART);
     u8x16::from_slice(part)
         .simd_eq(px.repeated::<N, PART>())
         .to_bitmask()

@@ -8,7 +8,7 @@ ghost use Rattle.qoi.specs.inner.block.Lanes.{fresh_marks};
 use crate::encode::carry::{Carry, FRONT_CARRIED};
 use crate::encode::coder::Coder;
 use crate::encode::piece::Piece;
-use crate::encode::pixels::{FrontBlock, Pixels};
+use crate::encode::pixels::{LoopPixels, Pixels};
 use crate::encode::table::PixelTable;
 
 // Whether at most two bits are set: each step drops the lowest.
@@ -25,18 +25,18 @@ fn are_two_at_most(marks: u64) -> bool {
 #[inline(always)]
 pub(super) fn goes_by_marks<const N: usize>(
     marks: u64,
-    front: FrontBlock<N>,
+    pixels: LoopPixels<N>,
     carry: Carry<N>,
 ) -> bool
     ensures few { IsTrue result → marks % 2 ≡ 0 → carry.entry.count ≤ FRONT_CARRIED }
     ensures later { IsTrue result
-        → length (pixels_in front.entry.raw) < length (pixels_in front.entry.whole) }
+        → length (pixels_in pixels.entry.rest) < length (pixels_in pixels.entry.whole) }
 {
     if N == 3 || !are_two_at_most(marks) {
         return false;
     }
     let joins = (usize::from(carry.count) <= FRONT_CARRIED) | (marks % 2 == 1);
-    joins && front.raw.bytes.len() < front.whole.bytes.len()
+    joins && pixels.rest.bytes.len() < pixels.whole.bytes.len()
 }
 
 /// Writes the repeats that came before a block and its pixels, of which `marks` has a bit for each
@@ -46,22 +46,22 @@ pub(super) fn write_marked_pixels<'a, const N: usize, const ROOM: usize>(
     coder: &mut Coder<N>,
     table: &mut PixelTable,
     piece: &mut Piece<ROOM>,
-    front: FrontBlock<'a, N>,
+    pixels: LoopPixels<'a, N>,
     marks: u64,
 ) -> Pixels<'a, N>
-    requires few { slice_get (pixels_in front.raw) 0 ≡ Some coder.old.last.px
+    requires few { slice_get (pixels_in pixels.rest) 0 ≡ Some coder.old.last.px
         → coder.old.last.repeats ≤ FRONT_CARRIED }
     requires room { piece.old.end < ROOM - SPARE }
     requires some { 0 < marks }
-    requires marks { marks ≡ fresh_marks coder.old.last.px (take 16 (pixels_in front.raw)) }
-    ensures rest { pixels_in result ≡ drop 16 (pixels_in front.entry.raw) }
-    ensures less { length (pixels_in result) < length (pixels_in front.entry.raw) }
+    requires marks { marks ≡ fresh_marks coder.old.last.px (take 16 (pixels_in pixels.rest)) }
+    ensures rest { pixels_in result ≡ drop 16 (pixels_in pixels.entry.rest) }
+    ensures less { length (pixels_in result) < length (pixels_in pixels.entry.rest) }
     ensures few { coder.new.last.repeats ≤ FRONT_CARRIED }
     ensures begun { coder.new.last.begun ≡ true }
-    ensures written { CoderPasses coder.old table.old piece.old (pixels_in front.entry.raw)
+    ensures written { CoderPasses coder.old table.old piece.old (pixels_in pixels.entry.rest)
         coder.new table.new piece.new (pixels_in result) }
 {
-    let mut rest = front.raw;
+    let mut rest = pixels.rest;
     // How many pixels of the block are left, and their marks.
     let mut count = 16;
     let mut left = marks;

@@ -31,34 +31,35 @@ pub(in crate::encode) fn index_positions(p: Planes) -> u8x16
 /// a byte, which might be one of them.
 #[inline(always)]
 pub(in crate::encode) fn store_indices<const ROOM: usize, const ALL_RGBA: bool>(
-    v: u8x16,
     out: &mut [u8],
+    indices: u8x16,
 )
     requires size { length out.old ≡ ROOM }
     requires room { 16 ≤ ROOM }
     ensures same { length out.new ≡ length out.old }
     ensures front { take (ROOM - 16) out.new ≡ take (ROOM - 16) out.old }
-    ensures lanes { ALL_RGBA ≡ false → drop (ROOM - 16) out.new ≡ v }
+    ensures lanes { ALL_RGBA ≡ false → drop (ROOM - 16) out.new ≡ indices }
 {
     if ALL_RGBA {
         return;
     }
-    v.copy_to_slice(&mut out[ROOM - 16..]);
+    indices.copy_to_slice(&mut out[ROOM - 16..]);
 }
 
-/// The index positions `lanes`, as `store_indices` stored them in `out`, if it did.
+/// The index positions: as `store_indices` stored them in `out`; but if `ALL_RGBA`, when it didn't,
+/// those that were taken out of the vector, `in_vector`.
 #[inline(always)]
 pub(in crate::encode) fn read_indices<'a, const ROOM: usize, const ALL_RGBA: bool>(
-    lanes: &'a [u8; 16],
     out: &'a [u8],
+    in_vector: &'a [u8; 16],
 ) -> &'a [u8]
     requires size { length out.now ≡ ROOM }
     requires room { 16 ≤ ROOM }
-    requires stored { ALL_RGBA ≡ false → drop (ROOM - 16) out.now ≡ lanes.now }
-    ensures { result.now ≡ lanes.now }
+    requires stored { ALL_RGBA ≡ false → drop (ROOM - 16) out.now ≡ in_vector.now }
+    ensures { result.now ≡ in_vector.now }
 {
     if ALL_RGBA {
-        return lanes;
+        return in_vector;
     }
     &out[ROOM - 16..]
 }

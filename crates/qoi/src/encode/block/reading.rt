@@ -56,8 +56,8 @@ fn read_last_four<const N: usize>(bytes: &[u8]) -> u32x4
     read_four_late::<N>(skip(bytes, 32))
 }
 
-// Four pixels after the first four bytes. Those are read, too, since there may be none after the
-// pixels.
+// Four pixels after the first four bytes. These four bytes are read, too: the sixteen that are read
+// can't begin after them, since none may come behind the pixels.
 #[inline(always)]
 fn read_four_late<const N: usize>(bytes: &[u8]) -> u32x4
     requires three { N ≡ 3 }

@@ -24,9 +24,9 @@ pub(in crate::encode) struct Fits {
     pub(in crate::encode) same_alpha: u8x16,
 }
 
-/// Of each of sixteen pixels: whether it repeats, 255 or 0; its chunk's first byte, the second one,
-/// if it has one, and its size; and how many repeats end with it. `all_rgba`, whether it is known
-/// that an RGBA chunk gives each.
+/// Of each of sixteen pixels: whether it repeats, 255 or 0 (`Changes::rep`); its chunk's first byte,
+/// the second one, if it has one, and its size; and how many repeats end with it. `all_rgba`,
+/// whether it is known that an RGBA chunk gives each.
 #[derive(Clone, Copy)]
 pub(in crate::encode) struct Spelled {
     pub(in crate::encode) rep: u8x16,
@@ -67,55 +67,66 @@ fn luma_steps(d: Planes) -> Planes
 
 // What the pixels fit, where `kept` says which keep alpha.
 #[inline(always)]
-fn find_fits(diff: Planes, luma: Planes, kept: u8x16) -> Fits
-    ensures { (ls : List Lane) → ArePlanesBy ls as_diff diff → ArePlanesBy ls as_luma luma
+fn find_fits(diff_steps: Planes, luma_steps: Planes, kept: u8x16) -> Fits
+    ensures { (ls : List Lane) → ArePlanesBy ls as_diff diff_steps
+        → ArePlanesBy ls as_luma luma_steps
         → AreMasks ls same_alpha kept → AreFits ls result }
 {
-    let above = ((luma.r | luma.b) & u8x16::splat(0xf0)) | (luma.g & u8x16::splat(0xc0));
+    let red_or_blue = luma_steps.r | luma_steps.b;
+    let above = (red_or_blue & u8x16::splat(0xf0)) | (luma_steps.g & u8x16::splat(0xc0));
+    let any = diff_steps.r | diff_steps.g | diff_steps.b;
     Fits {
-        diff: where_is((diff.r | diff.g | diff.b) & u8x16::splat(0xfc), 0) & kept,
+        diff: where_is(any & u8x16::splat(0xfc), 0) & kept,
         luma: where_is(above, 0) & kept,
         same_alpha: kept,
     }
 }
 
-// The difference chunks of steps that fit.
+// The difference chunks of `diff_steps` that fit.
 #[inline(always)]
-fn diffs(steps: Planes) -> u8x16
-    ensures { (ls : List Lane) → ArePlanesBy ls as_diff steps
+fn diffs(diff_steps: Planes) -> u8x16
+    ensures { (ls : List Lane) → ArePlanesBy ls as_diff diff_steps
         → AreBy ls (λ l. slice_index (bytes_of (diff_of (as_diff l))) 0 % 256) result }
 {
-    let t = steps.r + steps.r;
-    let t = t + t + steps.g;
+    let t = diff_steps.r + diff_steps.r;
+    let t = t + t + diff_steps.g;
     let t = t + t;
-    t + t + steps.b + u8x16::splat(QOI_OP_DIFF)
+    t + t + diff_steps.b + u8x16::splat(QOI_OP_DIFF)
 }
 
 // The first byte of each fresh pixel's chunk: as numbers, index position, difference, luma, RGB and
 // RGBA stand in this order, so it is the least that applies. As a number a set mask is 255, or -1:
 // RGBA's byte and `same_alpha` make RGB's, and what doesn't apply is 255, the greatest.
 #[inline(always)]
-fn first_bytes(diff: Planes, luma: Planes, fits: Fits, indices: u8x16, stands: u8x16) -> u8x16
-    ensures { (ls : List Lane) → ArePlanesBy ls as_diff diff → ArePlanesBy ls as_luma luma
-        → AreFits ls fits → AreBy ls (λ l. hash l.px) indices
-        → AreMasks ls (λ l. l.stands) stands → AreBy ls first_of result }
+fn first_bytes(
+    diff_steps: Planes,
+    luma_steps: Planes,
+    fits: Fits,
+    stands: u8x16,
+    indices: u8x16,
+) -> u8x16
+    ensures { (ls : List Lane) → ArePlanesBy ls as_diff diff_steps
+        → ArePlanesBy ls as_luma luma_steps
+        → AreFits ls fits → AreMasks ls (λ l. l.stands) stands
+        → AreBy ls (λ l. hash l.px) indices → AreBy ls first_of result }
 {
     let rgb_or_rgba = u8x16::splat(QOI_OP_RGBA) + fits.same_alpha;
     let first = lesser(
-        (luma.g + u8x16::splat(QOI_OP_LUMA)) | !fits.luma,
+        (luma_steps.g + u8x16::splat(QOI_OP_LUMA)) | !fits.luma,
         rgb_or_rgba,
     );
-    lesser(lesser(first, diffs(diff) | !fits.diff), indices | !stands)
+    let first = lesser(first, diffs(diff_steps) | !fits.diff);
+    lesser(first, indices | !stands)
 }
 
-// The second byte: that of a luma, or red.
+// The second byte: that of a luma (`is_luma`), or red.
 #[inline(always)]
-fn second_bytes(luma: Planes, red: u8x16, fits: u8x16) -> u8x16
-    ensures { (ls : List Lane) → ArePlanesBy ls as_luma luma → AreBy ls (λ l. l.px.r) red
-        → AreMasks ls fits_luma fits → AreBy ls second_of result }
+fn second_bytes(luma_steps: Planes, red: u8x16, is_luma: u8x16) -> u8x16
+    ensures { (ls : List Lane) → ArePlanesBy ls as_luma luma_steps → AreBy ls (λ l. l.px.r) red
+        → AreMasks ls fits_luma is_luma → AreBy ls second_of result }
 {
-    let second = (luma.r << u8x16::splat(4)) + luma.b;
-    (fits & second) | (!fits & red)
+    let second = (luma_steps.r << u8x16::splat(4)) + luma_steps.b;
+    (is_luma & second) | (!is_luma & red)
 }
 
 // How many bytes each fresh pixel's chunk has. As a number a set mask is -1, so a luma has
@@ -150,7 +161,7 @@ fn with_runs(first: u8x16, rep: u8x16, count: u8x16) -> u8x16
 // The sizes, with 0 for a repeat before another one, or in the last lane. As for `with_runs`, `&`
 // would take longer.
 #[inline(always)]
-fn with_none(size: u8x16, rep: u8x16) -> u8x16
+fn with_zeros(size: u8x16, rep: u8x16) -> u8x16
     ensures { (ls : List Lane) → AreBy ls size_of size → AreMasks ls is_rep rep
         → result ≡ sizes ls }
 {
@@ -179,16 +190,16 @@ pub(in crate::encode) fn spell_block(
 {
     let rep = changes.rep;
     let same_alpha = where_is(changes.steps.a, 0);
-    let as_diff = diff_steps(changes.steps);
-    let as_luma = luma_steps(changes.steps);
-    let fits = find_fits(as_diff, as_luma, same_alpha);
-    let first = first_bytes(as_diff, as_luma, fits, indices, stands);
+    let diff_steps = diff_steps(changes.steps);
+    let luma_steps = luma_steps(changes.steps);
+    let fits = find_fits(diff_steps, luma_steps, same_alpha);
+    let first = first_bytes(diff_steps, luma_steps, fits, stands, indices);
     let count = count_repeats(rep, carried);
     Spelled {
         rep,
         first: with_runs(first, rep, count),
-        second: second_bytes(as_luma, red, fits.luma),
-        size: with_none(sizes_of(fits, stands), rep),
+        second: second_bytes(luma_steps, red, fits.luma),
+        size: with_zeros(sizes_of(fits, stands), rep),
         count,
         all_rgba: false,
     }

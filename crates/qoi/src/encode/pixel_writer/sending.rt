@@ -7,10 +7,10 @@ ghost use Rattle.qoi.specs.declared.encode.pixel_writer.workspace.TheConstants.{
 ghost use Rattle.qoi.specs.Writers.{AppendsBeginning};
 ghost use Rattle.std.specs.Io.KnownBytes.{Appends};
 ghost use Rattle.qoi.specs.inner.Sending.{appended, EndsOpaque, StaysIn, GoesByPixels, IsReady, WritesWhole, GoesOnOrBreaks, EndsWith};
-ghost use Rattle.qoi.specs.inner.Coder.{kept_bytes, FULL_ROOM};
+ghost use Rattle.qoi.specs.inner.Coder.{kept_bytes, LARGE_ROOM};
 
 use crate::encode::image::{ImageState, write_last_pixels, write_pixels};
-use crate::encode::piece::{FULL_ROOM, OpenPiece, Piece};
+use crate::encode::piece::{LARGE_ROOM, OpenPiece, Piece};
 use crate::encode::pixel_writer::workspace::{Held, Workspace};
 use crate::error::Result;
 use crate::utils::copy_after;
@@ -38,13 +38,13 @@ fn write_held_or_raw<'a, 'p, W: Writer>(
     writer: &mut W,
     state: &mut ImageState,
     held: &mut Held,
-    piece: OpenPiece<'p, FULL_ROOM>,
+    piece: OpenPiece<'p, LARGE_ROOM>,
     raw: &'a [u8],
-) -> Result<(&'a [u8], OpenPiece<'p, FULL_ROOM>)>
+) -> Result<(&'a [u8], OpenPiece<'p, LARGE_ROOM>)>
     requires opaque { EndsOpaque state.old }
     requires many { (HELD_MOST < 2 * length raw.now)
         ⊎ (HELD_MOST < length held.old + length raw.now) }
-    requires room { FULL_ROOM * (length held.old + length raw.now + 1) ≤ W.room writer.old }
+    requires room { LARGE_ROOM * (length held.old + length raw.now + 1) ≤ W.room writer.old }
     ensures stays { StaysIn state.old state.new }
     ensures less { IfOk result (λ r. length held.new + length r.0.now
         < length held.old + length raw.entry.now) }
@@ -83,7 +83,7 @@ pub(super) fn take_raw<W: Write>(
         (W.contents writer.old) workspace.old.state [] (workspace.old.held ++ raw.now) IsIoError
         (W.contents writer.new) workspace.new.state (λ _. []) (λ _. workspace.new.held) result }
 {
-    let mut piece = Piece::<FULL_ROOM>::new(&mut workspace.piece_bytes).open();
+    let mut piece = Piece::<LARGE_ROOM>::new(&mut workspace.piece_bytes).open();
     let mut rest = raw;
     while !workspace.held.takes(rest.len()) {
         let mut stream = GenericWriter::new(writer);
@@ -107,7 +107,7 @@ pub(super) fn write_end<W: Write>(writer: &mut W, workspace: &mut Workspace) -> 
         workspace.old.held (W.contents writer.new) result }
 {
     let state = &mut workspace.state;
-    let piece = Piece::<FULL_ROOM>::new(&mut workspace.piece_bytes).open();
+    let piece = Piece::<LARGE_ROOM>::new(&mut workspace.piece_bytes).open();
     let mut stream = GenericWriter::new(writer);
     let (left, piece) = write_pixels(&mut stream, state, piece, workspace.held.bytes())?;
     let mut last_piece = piece.piece;

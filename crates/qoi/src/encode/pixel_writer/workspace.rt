@@ -3,7 +3,7 @@ ghost use Rattle.std.specs.Prelude.{◌≡◌, ◌⊎◌, ℕ, ◌+◌, ◌*◌,
 ghost use Rattle.qoi.specs.declared.encode.pixel_writer.workspace.TheConstants.{HELD_MOST};
 
 use crate::encode::image::ImageState;
-use crate::encode::piece::FULL_ROOM;
+use crate::encode::piece::LARGE_ROOM;
 use crate::utils::copy_after;
 use std::marker::Model;
 
@@ -17,7 +17,7 @@ pub(super) const HELD_MOST: usize = 8256;
 pub(super) struct Workspace {
     pub(super) state: ImageState,
     pub(super) held: Held,
-    pub(super) piece_bytes: [u8; FULL_ROOM],
+    pub(super) piece_bytes: [u8; LARGE_ROOM],
 }
 
 /// Raw bytes that came and aren't encoded yet.

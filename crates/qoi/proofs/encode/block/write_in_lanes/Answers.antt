@@ -66,7 +66,7 @@ put_block-stands-requires-clause-below g c = λ k lt.
 
 pub returns : goal.returns
 returns g c = λ ahead n rest more fits b.
-    let style = style_in g.row.STYLE c.args.block.style in
+    let style = style_in g.row.STYLE c.args.block.told_style in
     let carry = c.args.carry in
     let now = b.between in
     let q = last_pixel carry.before in

@@ -23,29 +23,29 @@ pub loop-rest-preserved : goal.loop-rest-preserved
 loop-rest-preserved g c =
     let i = c.loop-rest.invariant in
     let step = c.write_front_block.ensures in
-    let front = c.front_of.ensures.raw in
+    let front = c.in_loop.ensures.rest in
     let size = ap (λ r. length (pixels_in r)) front in
-    let style = style_in g.row.STYLE c.args.front.style in
-    let same : style_in g.row.STYLE c.front_of.result.style ≡ style = ap (style_in g.row.STYLE) c.front_of.ensures.style in
+    let style = style_in g.row.STYLE c.args.pixels.style in
+    let same : style_in g.row.STYLE c.in_loop.result.style ≡ style = ap (style_in g.row.STYLE) c.in_loop.ensures.style in
     record {
       less = inl (elim i.less [ inl less ↦ omega (arith, step.less, size, less) | inr same ↦ omega (arith, step.less, size, same.0) ]);
       written = λ ahead more b.
-          let n = length (pixels_in c.args.front.raw) in
+          let n = length (pixels_in c.args.pixels.rest) in
           let In = λ (s : Style) (r : Pixels g.row.N) (kept : List ℕ). InBlocks s ahead n (pixels_in r) more c.loop-rest.table c.loop-rest.carry kept in
-          let was : In style c.front_of.result.raw (kept_bytes c.open.result.piece) =
+          let was : In style c.in_loop.result.rest (kept_bytes c.open.result.piece) =
           subst (λ r. In style r (kept_bytes c.open.result.piece)) (sym front) (subst (In style c.loop-rest.rest) (sym c.open.ensures) (i.written ahead more b)) in
           subst (λ s. InBlocks s ahead n (pixels_in c.write_front_block.result.0) more c.write_front_block.new.table c.write_front_block.result.1 (kept_bytes c.write_front_block.result.2)) same
-          (step.written ahead _ more (omega (arith, ap (λ w. length (pixels_in w)) c.front_of.ensures.whole)) (subst (λ s. In s c.front_of.result.raw (kept_bytes c.open.result.piece)) (sym same) was));
+          (step.written ahead _ more (omega (arith, ap (λ w. length (pixels_in w)) c.in_loop.ensures.whole)) (subst (λ s. In s c.in_loop.result.rest (kept_bytes c.open.result.piece)) (sym same) was));
     }
 
 pub returns : goal.returns
 returns g c =
     let i = c.loop-rest.invariant in
     let after = c.last_pixel.ensures in
-    let less : length (pixels_in c.loop-rest.rest) < length (pixels_in c.args.front.raw) = elim i.less [
+    let less : length (pixels_in c.loop-rest.rest) < length (pixels_in c.args.pixels.rest) = elim i.less [
       | inl less ↦ less
       | inr same ↦ absurd (elim c.loop-rest-test.branch [
-        | then-loop-rest-test+else-has_block w ↦ true≢false (sym (w.has_block.ensures.1 (omega (arith, same.0, c.args.front.enough))) ∙ w.if-has_block.false)
+        | then-loop-rest-test+else-has_block w ↦ true≢false (sym (w.has_block.ensures.block.1 (omega (arith, same.0, c.args.pixels.enough))) ∙ w.if-has_block.false)
         | else-loop-rest-test w ↦ omega (arith, same.1, c.is_full.ensures.full w.loop-rest-test.false)
       ])
     ] in

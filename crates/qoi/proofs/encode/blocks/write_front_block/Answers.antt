@@ -25,18 +25,18 @@ write_full_runs-requires g c =
           omega arith,
           (
             omega arith,
-            ap (λ ps. slice_get ps 0) (none_group q (pixels_in c.args.front.raw) 16 c.args.front.enough (none ∙ ap (fresh_marks q) block.ensures.pixels)),
+            ap (λ ps. slice_get ps 0) (none_group q (pixels_in c.args.pixels.rest) 16 c.args.pixels.enough (none ∙ ap (fresh_marks q) block.ensures.pixels)),
           ),
         ),
       ),
     )
 
 pub returns-then-marks-eq0 : goal.returns-then-marks-eq0
-returns-then-marks-eq0 g c = c.write_full_runs.ensures (style_in g.row.STYLE c.args.front.style) _ c.args.table.now
+returns-then-marks-eq0 g c = c.write_full_runs.ensures (style_in g.row.STYLE c.args.pixels.style) _ c.args.table.now
 
 pub write_marked_pixels-rest-requires : goal.write_marked_pixels-rest-requires
 write_marked_pixels-rest-requires g c =
-    let raw = pixels_in c.args.front.raw in
+    let raw = pixels_in c.args.pixels.rest in
     let last = c.new-coder.result.last in
     let bits = c.marks-marks.result in
     let is : IsCarried last c.args.carry = subst (λ l. IsCarried l c.args.carry) (sym c.new-coder.ensures.last) c.last_pixel.ensures.carried in
@@ -86,19 +86,19 @@ returns g c =
     let block = c.first-block.ensures in
     let before = c.args.carry.before in
     let ps = block_pixels c.first-block.result.words in
-    let after = drop 16 (pixels_in c.args.front.raw) in
-    let style = style_in g.row.STYLE c.first-block.result.style in
-    let same : style ≡ style_in g.row.STYLE c.args.front.style = ap (style_in g.row.STYLE) block.style in
+    let after = drop 16 (pixels_in c.args.pixels.rest) in
+    let style = style_in g.row.STYLE c.first-block.result.told_style in
+    let same : style ≡ style_in g.row.STYLE c.args.pixels.style = ap (style_in g.row.STYLE) block.style in
     let fits : FitsBlock style c.args.table.now before ps c.first-block.result.changes = record {
       changes = block.changes;
       mixed = λ none. c.if-marks-eq0.false (c.marks-marks.ensures before block.changes ∙ none);
       no_blank = λ tight. c.may_miss_blank.ensures.none before block.changes c.if-may_miss_blank.false (c.style_in-style.ensures ∙ sym same ∙ tight);
     } in
-    let front = sym (take-append-drop 16 (pixels_in c.args.front.raw)) ∙ ap (λ ps. ps ++ after) (sym block.pixels) in
+    let front = sym (take-append-drop 16 (pixels_in c.args.pixels.rest)) ∙ ap (λ ps. ps ++ after) (sym block.pixels) in
     record {
       less = omega (arith, c.skip.ensures.size);
       written = λ ahead n more whole b.
           let In = λ (s : Style) (ps : List RgbaPixel). InBlocks s ahead n ps more c.args.table.now c.args.carry (kept_bytes c.args.piece.piece) in
-          let next = c.write_in_lanes-piece.ensures ahead n after more fits (subst (λ s. In s (ps ++ after)) (sym same) (subst (In (style_in g.row.STYLE c.args.front.style)) front b)) in
+          let next = c.write_in_lanes-piece.ensures ahead n after more fits (subst (λ s. In s (ps ++ after)) (sym same) (subst (In (style_in g.row.STYLE c.args.pixels.style)) front b)) in
           rw c.skip.ensures.rest (subst (λ s. InBlocks s ahead n after more c.write_in_lanes-piece.new.table c.write_in_lanes-piece.result.0 (kept_bytes c.write_in_lanes-piece.result.1)) same next);
     }

@@ -6,6 +6,6 @@ use Rattle.qoi.proofs.encode.image.fill_with_opening.Goals as goal
 
 pub returns : goal.returns
 returns g c =
-    let front = c.front_of-front in
-    fills c.args.state.now c.args.piece c.args.raw.bytes.now front.result.raw c.write_opening.result c.requires.channels (sym front.ensures.style)
-    (ap (λ (r : Pixels g.row.N). r.bytes.now) front.ensures.raw) c.write_opening.ensures
+    let pixels = c.start_loop-pixels in
+    fills c.args.state.now c.args.piece c.args.raw.bytes.now pixels.result.rest c.write_opening.result c.requires.channels (sym pixels.ensures.style)
+    (ap (λ (r : Pixels g.row.N). r.bytes.now) pixels.ensures.rest) c.write_opening.ensures

@@ -10,10 +10,10 @@ use Rattle.qoi.proofs.encode.image.write_last_in_channels.Goals as goal
 few : (g : Over) (c : After-new-rest g) → length (pixels_in c.new-rest.result) < 16
 few g c =
     let rest = c.new-rest.result in
-    few_pixels g.row.N rest.bytes.now rest.channels rest.whole (omega (arith, ap length c.new-rest.ensures, c.requires.few))
+    few_pixels g.row.N rest.bytes.now rest.channels rest.whole (omega (arith, ap length c.new-rest.ensures.bytes, c.requires.few))
 
-pub write_one_by_one_shared-requires : goal.write_one_by_one_shared-requires
-write_one_by_one_shared-requires g c = (omega arith, (omega arith, (omega arith, omega (arith, few g (goal.at.write_one_by_one_shared-requires g c).After-new-rest, c.requires.not_full))))
+pub write_last_groups_shared-requires : goal.write_last_groups_shared-requires
+write_last_groups_shared-requires g c = (omega arith, (omega arith, (omega arith, omega (arith, few g (goal.at.write_last_groups_shared-requires g c).After-new-rest, c.requires.not_full))))
 
-pub write_one_by_one-requires : goal.write_one_by_one-requires
-write_one_by_one-requires g c = (omega arith, (omega arith, (omega arith, omega (arith, few g (goal.at.write_one_by_one-requires g c).After-new-rest, c.requires.not_full))))
+pub write_last_groups-requires : goal.write_last_groups-requires
+write_last_groups-requires g c = (omega arith, (omega arith, (omega arith, omega (arith, few g (goal.at.write_last_groups-requires g c).After-new-rest, c.requires.not_full))))

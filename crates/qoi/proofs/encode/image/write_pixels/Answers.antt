@@ -10,16 +10,16 @@ use Rattle.qoi.proofs.encoding.piece.WriterProgress.{none_but}
 use Rattle.qoi.proofs.encode.image.write_pixels.Goals.{then-is_full+in_ok-send, else-is_full}
 use Rattle.qoi.proofs.encode.image.write_pixels.Goals as goal
 
-pub fill_piece-filled-requires : goal.fill_piece-filled-requires
-fill_piece-filled-requires g c =
+pub fill_piece-next_piece-requires : goal.fill_piece-next_piece-requires
+fill_piece-next_piece-requires g c =
     let was = c.loop-rest.invariant in
     (omega arith, (omega arith, (was.ready.whole, omega (arith, c.loop-rest-test.true, c.block_size-block.ensures, ap channels_number was.stays.0))))
 
 pub send-requires : goal.send-requires
 send-requires g c =
-    let filled = c.fill_piece-filled.result.0 in
+    let filled = c.fill_piece-next_piece.result.0 in
     let full = c.is_full.ensures.full c.if-is_full.true in
-    let room = room_kept c.loop-rest.invariant.ready c.fill_piece-filled.ensures.goes (omega (arith, kept_length filled, filled.within)) in
+    let room = room_kept c.loop-rest.invariant.ready c.fill_piece-next_piece.ensures.goes (omega (arith, kept_length filled, filled.within)) in
     (omega arith, (full, (omega (arith, full, kept_length filled, room), c.requires.large)))
 
 pub loop-rest-preserved : goal.loop-rest-preserved
@@ -28,13 +28,13 @@ loop-rest-preserved g c =
     let wrote = g.W.Writer.wrote in
     let a = c.loop-rest.writer in
     let was = c.loop-rest.invariant in
-    let old = c.fill_piece-filled.result.0 in
-    let filled = c.fill_piece-filled.ensures in
-    let but : WroteBut wrote a (kept_bytes old) (kept_bytes c.if-is_full.filled) c.if-is_full.writer = elim c.if-is_full.branch [
+    let old = c.fill_piece-next_piece.result.0 in
+    let filled = c.fill_piece-next_piece.ensures in
+    let but : WroteBut wrote a (kept_bytes old) (kept_bytes c.if-is_full.next_piece) c.if-is_full.writer = elim c.if-is_full.branch [
       | then-is_full+in_ok-send w ↦
-          sent_but a w.send.new.writer c.if-is_full.writer old w.send.new.self c.if-is_full.filled (g.row.ROOM - _) w.filled-is w.writer-is
+          sent_but a w.send.new.writer c.if-is_full.writer old w.send.new.self c.if-is_full.next_piece (g.row.ROOM - _) w.next_piece-is w.writer-is
           w.in_ok-send.ensures.written w.in_ok-send.ensures.kept
-      | else-is_full w ↦ subst (λ s. WroteBut wrote a (kept_bytes old) (kept_bytes s) c.if-is_full.writer) (sym w.filled-is)
+      | else-is_full w ↦ subst (λ s. WroteBut wrote a (kept_bytes old) (kept_bytes s) c.if-is_full.writer) (sym w.next_piece-is)
           (subst (WroteBut wrote a (kept_bytes old) (kept_bytes old)) (sym w.writer-is) (none_but (laws.nothing a)))
     ] in
     let now = subst (λ z. WroteBut wrote a (kept_bytes old) z c.if-is_full.writer) (sym c.open-piece.ensures) but in
@@ -51,5 +51,5 @@ pub returns-in_err-send-clause-written : goal.returns-in_err-send-clause-written
 returns-in_err-send-clause-written g c =
     let e = err_from_is_err_and c.from_residual.result c.from_residual.ensures.1 in
     let r = c.in_err-send.ensures.refused in
-    let goes = c.fill_piece-filled.ensures.goes in
+    let goes = c.fill_piece-next_piece.ensures.goes in
     rw (e.1, e.2) ((r.0, then_breaks g.met.W.Writer.laws.both c.loop-rest.invariant.written (sent_part goes r.1)), tt)

@@ -21,13 +21,13 @@ returns-then-this-eq3 g c = λ is.
     let cd = both (bit_and a b) d 65535 (omega (arith, and_le_l a b, first.ensures.few)) (omega (arith, third.ensures.few)) (omega (arith, all)) in
     let ab = both a b 65535 (omega (arith, first.ensures.few)) (omega (arith, second.ensures.few)) (omega (arith, cd.0)) in
     let sum : a + b * 2 ^ 16 % 2 ^ 64 + d * 2 ^ 32 % 2 ^ 64 ≡ 2 ^ 48 - 1 = omega (arith, ab.0, ab.1, cd.1) in
-    sym (bits_of_3 _ _ a b d (rw c.if-this-eq3.true refl) (omega (arith, c.args.front.long, c.if-this-eq3.true))
+    sym (bits_of_3 _ _ a b d (rw c.if-this-eq3.true refl) (omega (arith, c.requires, c.if-this-eq3.true))
     first.ensures.few second.ensures.few third.ensures.few first.ensures.bits second.ensures.bits third.ensures.bits)
     ∙ sum ∙ sym (ap (λ n. 2 ^ (n * 16) - 1) c.if-this-eq3.true))
 
 pub returns : goal.returns
 returns g c = λ is.
-    (let four : g.row.N ≡ 4 = omega (arith, c.args.front.raw.channels, c.if-this-eq3.false) in
+    (let four : g.row.N ≡ 4 = omega (arith, c.args.raw.channels, c.if-this-eq3.false) in
     let first = c.same_in_part-first in
     let second = c.same_in_part-second in
     let third = c.same_in_part-third in
@@ -42,6 +42,6 @@ returns g c = λ is.
     let cd = both (bit_and a b) d 65535 (omega (arith, and_le_l a b, first.ensures.few)) (omega (arith, third.ensures.few)) (omega (arith, last.0)) in
     let ab = both a b 65535 (omega (arith, first.ensures.few)) (omega (arith, second.ensures.few)) (omega (arith, cd.0)) in
     let sum : a + b * 2 ^ 16 % 2 ^ 64 + d * 2 ^ 32 % 2 ^ 64 + f * 2 ^ 48 % 2 ^ 64 ≡ 2 ^ 64 - 1 = omega (arith, ab.0, ab.1, cd.1, last.1) in
-    sym (bits_of_4 _ _ a b d f (rw four (refl {a = 64})) (omega (arith, c.args.front.long, four))
+    sym (bits_of_4 _ _ a b d f (rw four (refl {a = 64})) (omega (arith, c.requires, four))
     first.ensures.few second.ensures.few third.ensures.few fourth.ensures.few first.ensures.bits second.ensures.bits third.ensures.bits fourth.ensures.bits)
     ∙ sum ∙ sym (ap (λ n. 2 ^ (n * 16) - 1) four))

@@ -9,6 +9,6 @@ use Rattle.qoi.proofs.encode.repeats.repeats.Goals as goal
 
 pub returns : goal.returns
 returns g c =
-    let whole = ap (pixels_of g.row.N) (c.new.ensures ∙ c.split_at.ensures.front) ∙ whole_part g.row.N c.args.data.now c.requires in
+    let whole = ap (pixels_of g.row.N) (c.new.ensures.bytes ∙ c.split_at.ensures.front) ∙ whole_part g.row.N c.args.data.now c.requires in
     subst (λ ps. IsCount (rgba c.args.px) ps c.repeats_of.result) whole
     (subst (λ p. IsCount p (pixels_in c.new.result) c.repeats_of.result) c.packed.ensures.same c.repeats_of.ensures.counted)

@@ -1,7 +1,6 @@
 -- One more block repeats, or the count ends in it; and what is counted after the last block.
-use Rattle.std.proofs.Common.{◌≡◌, ◌+◌, ◌++◌, List, length, drop, replicate, refl, sym, ap, ◌∙◌, subst, arith}
+use Rattle.std.proofs.Common.{◌≡◌, ◌+◌, ◌++◌, List, length, replicate, refl, sym, ap, ◌∙◌, subst, arith}
 use Rattle.qoi.specs.Qoi.{RgbaPixel}
-use Rattle.qoi.specs.Runs.{IsCount}
 use Rattle.qoi.specs.inner.Coder.{pixels_in}
 use Rattle.qoi.proofs.encoding.lists.GroupRuns.{RepeatsSoFar, repeats_on, counted_on}
 use Rattle.qoi.proofs.encoding.coder.PixelsIn.{pixels_few}
@@ -13,7 +12,7 @@ loop-rest-init g c = record { within = omega (arith, pixels_few g.row.N c.args.r
 pub returns-then-more-lt16-clause-counted : goal.returns-then-more-lt16-clause-counted
 returns-then-more-lt16-clause-counted g c =
     counted_on c.args.pixel.px _ _ c.loop-rest.count c.repeats_in_block-more.result c.loop-rest.invariant.same
-    (subst (λ r. IsCount c.args.pixel.px (pixels_in r) c.repeats_in_block-more.result) c.front_of.ensures.raw (c.repeats_in_block-more.ensures.counted c.if-more-lt16.true))
+    (c.repeats_in_block-more.ensures.counted c.if-more-lt16.true)
 
 pub loop-rest-preserved : goal.loop-rest-preserved
 loop-rest-preserved g c =
@@ -22,7 +21,7 @@ loop-rest-preserved g c =
     let p : RgbaPixel = c.args.pixel.px in
     subst (λ more. RepeatsSoFar (length c.args.raw.bytes.now) (pixels_in c.args.raw) (pixels_in c.skip-rest.result) c.args.pixel.px (c.loop-rest.count + more)) (sym all)
     (repeats_on (length c.args.raw.bytes.now) 16 (pixels_in c.args.raw) (pixels_in c.loop-rest.rest) (pixels_in c.skip-rest.result) c.args.pixel.px c.loop-rest.count c.loop-rest.invariant
-    after.size (subst (λ r. pixels_in r ≡ replicate 16 p ++ drop 16 (pixels_in r)) c.front_of.ensures.raw (c.repeats_in_block-more.ensures.all all)
+    after.size (c.repeats_in_block-more.ensures.all all
     ∙ ap (λ (z : List RgbaPixel). replicate 16 p ++ z) (sym after.rest)))
 
 pub returns-clause-counted : goal.returns-clause-counted

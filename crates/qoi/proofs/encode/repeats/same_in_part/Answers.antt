@@ -14,7 +14,7 @@ pub returns : goal.returns
 returns g c =
     let part = c.skip-part in
     let size = length-take-le 16 part.result.now
-    (omega (arith, ap length part.ensures, length-drop (16 * g.row.PART) c.args.front.raw.bytes.now, c.args.front.raw.channels, c.requires, c.args.front.long)) in
+    (omega (arith, ap length part.ensures, length-drop (16 * g.row.PART) c.args.raw.bytes.now, c.args.raw.channels, c.requires.part, c.requires.long)) in
     let bits = compared_bits (take 16 part.result.now) c.repeated.result (size ∙ sym c.repeated.ensures.sixteen) (omega (arith, size)) in
     record {
       few = subst (λ b. b < 2 ^ 16) (sym bits) (few (take 16 part.result.now) c.repeated.result size c.repeated.ensures.sixteen);

@@ -33,7 +33,7 @@ loop-left-preserved g c =
     let rest = pixels_in c.loop-left.rest in
     let group = marks_group c.loop-left.coder.last.px rest lanes c.loop-left.left i.enough i.lanes_few i.marks_are (omega (arith, c.loop-left-test.true)) in
     let step = c.write_short_group-rest.ensures in
-    let raw = pixels_in c.args.front.raw in
+    let raw = pixels_in c.args.pixels.rest in
     let further : (16 - lanes) + (n + 1) ≡ 16 - (lanes - (n + 1)) = omega (arith, group.inside, i.lanes_few) in
     record {
       lanes_few = omega (arith, i.lanes_few);
@@ -51,13 +51,13 @@ pub returns-clause-rest : goal.returns-clause-rest
 returns-clause-rest g c =
     let i = c.loop-left.invariant in
     let lanes = c.loop-left.count in
-    let raw = pixels_in c.args.front.raw in
+    let raw = pixels_in c.args.pixels.rest in
     let sixteen : (16 - lanes) + lanes ≡ 16 = omega (arith, i.lanes_few) in
     c.skip.ensures.rest ∙ ap (drop lanes) i.rest_is ∙ drop-drop lanes (16 - lanes) raw ∙ ap (λ k. drop k raw) sixteen
 
 pub returns-clause-less : goal.returns-clause-less
 returns-clause-less g c =
-    omega (arith, c.skip.ensures.size, ap length c.loop-left.invariant.rest_is, length-drop (16 - c.loop-left.count) (pixels_in c.args.front.raw), c.args.front.enough, c.loop-left.invariant.lanes_few)
+    omega (arith, c.skip.ensures.size, ap length c.loop-left.invariant.rest_is, length-drop (16 - c.loop-left.count) (pixels_in c.args.pixels.rest), c.args.pixels.enough, c.loop-left.invariant.lanes_few)
 
 pub returns-clause-written : goal.returns-clause-written
 returns-clause-written g c = record {

@@ -95,7 +95,8 @@ fn store_four_shuffled(out: &mut [u8], at: usize, codes: u8, numbers: u32x4) -> 
     at + usize::from(TOTALS[codes as usize])
 }
 
-// Eight codes, each the low bits of a byte, as two numbers of four.
+// Eight codes, each the low bits of a byte, as two numbers of four. The factor's bits move the first
+// four side by side into the product's fourth byte, and the last four into its eighth.
 #[inline(always)]
 fn join(codes: u64) -> [u8; 2]
     ensures { (cs : List ℕ) → AreEight 3 cs codes
@@ -120,6 +121,7 @@ pub(in crate::encode) fn store_shuffled(
     ensures written { (alphas : List ℕ) → HaveCodes size
         → take result out.new ≡ take at out.old ++ sixteen_chunks size chunks alphas }
 {
+    // Code 3 stands for four bytes (`ORDERS`).
     let codes = halves(lesser(size, u8x16::splat(3)));
     let (first, second) = (join(codes[0]), join(codes[1]));
     let end = store_four_shuffled(out, at, first[0], chunks.one);

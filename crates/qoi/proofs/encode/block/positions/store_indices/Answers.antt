@@ -24,7 +24,7 @@ end_stored room out v size few long =
     ∙ drop_at (take end out) (v ++ rest) end (length-take-le end out (omega arith)) ∙ ap (λ z. v ++ z) none ∙ append-nil v
 
 pub returns-clause-front : goal.returns-clause-front
-returns-clause-front g c = front_stays g.row.ROOM c.args.out.now c.args.v c.requires.size c.requires.room c.fits-v.0
+returns-clause-front g c = front_stays g.row.ROOM c.args.out.now c.args.indices c.requires.size c.requires.room c.fits-indices.0
 
 pub returns-clause-lanes : goal.returns-clause-lanes
-returns-clause-lanes g c = λ _. end_stored g.row.ROOM c.args.out.now c.args.v c.requires.size c.requires.room c.fits-v.0
+returns-clause-lanes g c = λ _. end_stored g.row.ROOM c.args.out.now c.args.indices c.requires.size c.requires.room c.fits-indices.0

@@ -3,7 +3,7 @@
 use Rattle.std.proofs.Common.{◌≢◌, [], ◌+◌, ◌*◌, ◌<◌, ◌≤◌, length}
 use Rattle.qoi.specs.Qoi.{chunk_max}
 use Rattle.qoi.specs.inner.Coder.{pixels_in, CoderPasses, RUNS_AT_ONCE}
-use Rattle.qoi.proofs.encode.coder.Coder.write_one_by_one.Given as goal
+use Rattle.qoi.proofs.encode.coder.Coder.write_last_groups.Given as goal
 
 abbrev pub invariant-loop-rest : goal.invariant-loop-rest
 invariant-loop-rest g l = record {

@@ -5,7 +5,7 @@ use Rattle.std.specs.Prelude.{min}
 use Rattle.qoi.proofs.encoding.lanes.LaneTests.{lanes_from}
 use Rattle.qoi.proofs.encoding.lanes.Lanewise.{not_8}
 use Rattle.qoi.proofs.encoding.lanes.OverlaidRuns.{sizes_are}
-use Rattle.qoi.proofs.encode.block.spelling.with_none.Goals as goal
+use Rattle.qoi.proofs.encode.block.spelling.with_zeros.Goals as goal
 
 pub returns : goal.returns
 returns c = λ ls s r. c.lesser-2.ensures ∙ ap (λ m. zip2 min c.args.size (map not_8 m)) c.lesser.ensures

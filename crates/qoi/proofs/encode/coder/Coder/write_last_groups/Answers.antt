@@ -5,7 +5,7 @@ use Rattle.qoi.specs.Qoi.{Run, chunk_max}
 use Rattle.qoi.specs.inner.Coder.{pixels_in, kept_bytes, CoderBetween, RUNS_AT_ONCE}
 use Rattle.qoi.proofs.encoding.coder.CoderLink.{then_passes}
 use Rattle.qoi.proofs.encoding.coder.CoderSteps.{last_run}
-use Rattle.qoi.proofs.encode.coder.Coder.write_one_by_one.Goals as goal
+use Rattle.qoi.proofs.encode.coder.Coder.write_last_groups.Goals as goal
 
 pub loop-rest-preserved : goal.loop-rest-preserved
 loop-rest-preserved g c =
