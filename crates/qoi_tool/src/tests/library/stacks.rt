@@ -7,10 +7,12 @@ ghost use Rattle.qoi.specs.EncoderState.{EncoderState};
 ghost use Rattle.qoi.specs.Images.{front_image};
 ghost use Rattle.qoi.specs.pieces.PixelWriter.{HasTaken, and_raw};
 
-use crate::tests::library::support::{assert_decoded, made};
-use qoi::{Decoder, Error, Header, PixelWriter, Reader, Result, Style};
+use crate::tests::library::support::images::row;
+use crate::tests::library::support::{assert_decoded, assert_given, made};
+use qoi::{Channels, Decoder, Error, Header, PixelWriter, Reader, Result, Style};
 use std::alloc::Global;
 use std::io::Write;
+use std::process::Abort;
 
 /// Encodes a decoder's image behind what a writer took. `IfSome` stands where a variable for the bytes
 /// ahead would do, so that the prover finds what two calls in a row come to.
@@ -25,6 +27,23 @@ pub fn append_image<R: Reader + Drop, W: Write + Drop>(
 {
     let mut pixels = decoder.into_pixels();
     pixels.copy_to(writer)?;
+    Ok(())
+}
+
+/// Encodes two decoders' images behind what a writer took.
+pub fn append_both<R: Reader + Drop, S: Reader + Drop, W: Write + Drop>(
+    above: Decoder<R>,
+    below: Decoder<S>,
+    writer: &mut PixelWriter<W>,
+) -> Result<()>
+    ensures { (one other : List ℕ) (e : EncoderState) (before : Option (List ℕ))
+        → R.ahead above.reader ≡ Some one → S.ahead below.reader ≡ Some other
+        → HasTaken W.contents e before writer.old → OnOk result (HasTaken W.contents
+        (and_raw e (front_image above.channels above.header one
+        ++ front_image below.channels below.header other)) before writer.new) }
+{
+    above.into_pixels().copy_to(writer)?;
+    below.into_pixels().copy_to(writer)?;
     Ok(())
 }
 
@@ -85,7 +104,16 @@ pub fn stack<R: Reader + Drop, S: Reader + Drop, W: Write + Drop>(
     Ok(out)
 }
 
-// Two pictures of a row each, and one of another width.
+// A writer of two rows of two pixels.
+fn writer_of_four(rt: &impl Abort, alloc: Global) -> PixelWriter<Vec<u8>> {
+    let header = Header {
+        height: 2,
+        ..row(2, Channels::Rgb)
+    };
+    PixelWriter::new(alloc, header, Style::Reference, Vec::new(alloc)).expect(rt, "refused")
+}
+
+// Two pictures of a row each, in both ways, and one of another width.
 #[test]
 fn one_above_the_other(rt: HostRuntime) {
     let alloc = rt.alloc();
@@ -94,6 +122,10 @@ fn one_above_the_other(rt: HostRuntime) {
     let (first, second) = (made::slice(&rt, &above), made::stream(&rt, &below[..]));
     let both = stack(alloc, first, second, Vec::new(alloc)).expect(&rt, "refused");
     assert_decoded(&rt, alloc, &mut made::slice(&rt, &both), b"above.below.");
+    let (first, second) = (made::slice(&rt, &above), made::slice(&rt, &below));
+    let mut writer = writer_of_four(&rt, alloc);
+    append_both(first, second, &mut writer).expect(&rt, "refused");
+    assert_given(&rt, writer.finish(), &both);
     let tall = made::encoded(&rt, alloc, b"below.", 1, 2);
     let (first, second) = (made::slice(&rt, &above), made::slice(&rt, &tall));
     assert!(rt; stack(alloc, first, second, Vec::new(alloc)).is_err());
