@@ -1,6 +1,6 @@
-//! The loops over chunks in memory while input and output have room ahead: for eight short ones and
-//! a full one, which is tested once for all nine or, near the end of an output that goes on
-//! elsewhere, for one of each. `fast_chunks` and `chunks_ahead` of `stretches` enter them.
+//! The loops over chunks in memory while `INPUT_ROOM` is ahead and the output has room for eight
+//! short ones and a full one, which is tested once for all nine or, near the end of an output that
+//! goes on elsewhere, for one of each. `fast_chunks` and `chunks_ahead` of `stretches` enter them.
 ghost use Rattle.std.specs.Prelude.{◌≡◌, ◌⊎◌, ◌↔◌, IsTrue, ◌+◌, ◌-◌, ◌*◌, ◌/◌, ◌<◌, ◌≤◌, ◌^◌, length};
 ghost use Rattle.qoi.specs.Qoi.{run_tag, rgb_tag};
 ghost use Rattle.qoi.specs.Raw.{IsChannels};
@@ -226,8 +226,8 @@ impl<const N: usize, const F: usize> Progress<N, F> {
         }
     }
 
-    /// Decodes chunks while input and output have room ahead for `AT_ONCE` short ones and a full
-    /// one, up to a run that has none.
+    /// Decodes chunks while `INPUT_ROOM` is ahead and the output has room for `AT_ONCE` short ones
+    /// and a full one, up to a run that has none.
     #[inline(always)]
     pub(super) fn fast_loop<const AT_ONCE: usize>(
         self,

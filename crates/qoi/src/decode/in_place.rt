@@ -1,5 +1,5 @@
 //! A piece of an image that is decoded in place: by `fast_loop` (`chunks_ahead` of `stretches`),
-//! near its end with room for one short chunk and a full one, up to a run that goes on past it.
+//! near its end with room for one short chunk and a full one, up to a run to its end or past it.
 ghost use Rattle.std.specs.Prelude.{◌≡◌, ◌↔◌, IsTrue, false, ◌-◌, ◌*◌, ◌<◌, ◌≤◌, length, drop, Some};
 ghost use Rattle.qoi.specs.Qoi.{run_tag, rgb_tag};
 ghost use Rattle.qoi.specs.Raw.{IsChannels};

@@ -167,7 +167,7 @@ pub(super) fn store_exactly<const N: usize, const F: usize>(
     }
 }
 
-/// `store_exactly` as a call: in `fast_loop`, which seldom needs it, it makes each chunk slower.
+/// `store_exactly` as a call: inlined into `fast_loop`, which seldom needs it, it slows each chunk.
 #[inline(never)]
 pub(super) fn store_late_run<const N: usize, const F: usize>(
     out: &mut [u8],

@@ -40,7 +40,7 @@ fn chunks_by_stretches<const N: usize, const F: usize, const AT_ONCE: usize>(
     let input_end = bytes.len() - INPUT_ROOM;
     let mut stretch_end = input_end.min(now.taken + FIRST_STRETCH);
     while now.taken <= input_end {
-        // For this call the stretch's end is the input's.
+        // For this call the input ends behind the stretch.
         let stretch = now.fast_loop::<8>(table, &bytes[..stretch_end + INPUT_ROOM], out);
         // Within the stretch the output has no room for what comes; or the input ends.
         if stretch.taken <= stretch_end || input_end < stretch.taken {
@@ -53,8 +53,8 @@ fn chunks_by_stretches<const N: usize, const F: usize, const AT_ONCE: usize>(
     now.by_fields()
 }
 
-/// Decodes chunks while input and output have room ahead for `AT_ONCE` short ones and a full
-/// one, from where other chunks stopped.
+/// Decodes chunks while `INPUT_ROOM` is ahead and the output has room for `AT_ONCE` short ones and
+/// a full one, from where other chunks stopped.
 #[inline(always)]
 pub(super) fn chunks_ahead<const N: usize, const F: usize, const AT_ONCE: usize>(
     table: &mut TermTable,

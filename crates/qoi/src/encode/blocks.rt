@@ -97,7 +97,7 @@ fn write_full_runs<'a, 'p, const N: usize, const ROOM: usize>(
 
 // Writes what is at the front, in one of four ways:
 // - if the block repeats whole, the full runs of the repeats there, if any (`write_full_runs`);
-// - if few of its pixels are fresh, the block, from one of these to the next;
+// - if few of its pixels are fresh, the block, from one to the next of them (`goes_by_marks`);
 // - if in style `Tight` a pixel may be given by another index position than its own, repeats and
 //   the fresh pixel after them;
 // - else the block, in lanes.

@@ -1,5 +1,5 @@
-//! Writes pixels one by one, and groups of repeats, as chunks into a piece (QOI specification 1.0,
-//! "Data" and "Chunks").
+//! Writes pixels one by one, and groups of repeats with the fresh pixel after them, as chunks into
+//! a piece (QOI specification 1.0, "Data" and "Chunks").
 ghost use Rattle.std.specs.Prelude.{◌≡◌, ◌≢◌, ℕ, ◌+◌, ◌-◌, ◌*◌, ◌<◌, ◌≤◌, true, List, [], ◌∷◌, ◌++◌, Option, None, Some, length, take, drop, replicate, slice_get};
 ghost use Rattle.qoi.specs.Qoi.{Chunk, RgbaPixel, Past, run_max, chunk_max, marker_size, previous, seen, hash, IsChunk, bytes_of};
 ghost use Rattle.qoi.specs.Raw.{IsChannels, IsChannels-prop};

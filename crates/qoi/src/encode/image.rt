@@ -19,8 +19,8 @@ use crate::types::Channels::{self, Rgb, Rgba};
 use crate::types::Style::{self, Places, Reference, Tight};
 use crate::writers::Writer;
 
-/// The encoder's whole state between two pixels of an image: the table, channels and style, and the
-/// last pixel, with the repeats of it that wait. A `Coder` has the style and the last pixel, and a
+/// The encoder's whole state between two calls of `fill_piece`: the table, channels and style, and
+/// the last pixel, with the repeats of it that wait. A `Coder` has the style and the last pixel, a
 /// `Carry` what lanes need of the last pixel. Channels and style stand between table and last
 /// pixel: if these stood side by side, the zeros that both begin with would be cleared by a call.
 #[derive(Drop)]
@@ -100,8 +100,8 @@ fn fill_with_blocks<
     write_blocks::<N, STYLE, ROOM, ALL_RGBA>(&mut state.last, &mut state.table, piece, pixels)
 }
 
-// `fill_piece` in `N` channels. The loops are lent the last pixel (`&mut`): a copy of it would wait
-// until its parts, just stored, are in the cache.
+// `fill_piece` in `N` channels. `write_blocks` is lent the last pixel: by value it would wait until
+// its parts, just stored, are in the cache.
 #[inline(always)]
 fn fill_in_channels<'a, 'p, const N: usize, const ROOM: usize>(
     state: &mut ImageState,
@@ -131,7 +131,7 @@ fn fill_in_channels<'a, 'p, const N: usize, const ROOM: usize>(
 // Writes the front of whole pixels, which are a block or more, into the piece: by blocks, until it
 // is full or no block is left (`fill_with_blocks`); or only the repeats and the fresh pixel at the
 // front (`fill_with_opening`), after which neither need be so. Returns the piece, and the rest.
-// Which of the two ways it goes is asked only here, so mostly once a piece.
+// Which of the two ways it goes is asked mostly once a piece (`fill_in_channels`).
 #[inline(always)]
 fn fill_piece<'a, 'p, const ROOM: usize>(
     state: &mut ImageState,

@@ -15,17 +15,17 @@ use crate::utils::{copy_after, pick};
 use crate::writers::Writer;
 use std::simd::prelude::*;
 
-/// How many bytes of a piece's room come after the `ROOM - SPARE` that make it full, and that it
-/// sends at once: for what goes past those (the chunks of a block, runs, or the last chunks and the
-/// end marker), and for what is stored after that and means nothing, such as a block's index
+/// How many bytes of a piece's room come after the first `ROOM - SPARE`, which make it full and are
+/// sent at once: for what goes past those (the chunks of a block, runs, or the last chunks and the
+/// end marker), and for what is stored after that and isn't sent, such as a block's index
 /// positions.
 pub(super) const SPARE: usize = 128;
 
 /// How many bytes a piece in `LARGE_ROOM` sends at once.
 pub(super) const LARGE_BATCH: usize = 4096;
 
-/// The room of a piece for large images, those that have a block and go to a stream, and those in
-/// parts.
+/// The room of a piece for large images to memory, for images to a stream that have a block, and
+/// for images in parts.
 pub(super) const LARGE_ROOM: usize = LARGE_BATCH + SPARE;
 
 /// The room of a piece that sends 512 bytes at once, for a small image that goes to memory: zeroing

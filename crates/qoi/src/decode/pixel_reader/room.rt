@@ -20,9 +20,9 @@ pub(super) const DECODED_AHEAD: usize = 3072;
 /// `SHORT_OUTPUT`.
 pub(super) const IN_PLACE: usize = 512;
 
-/// How many bytes to decode ahead, if as many are left of the image, for a piece of so many bytes,
-/// of which the first `filled` are decoded: all that can be kept if none are, else those that the
-/// piece lacks, few behind `Unread::decode_while_runs_fit`, and room for a run.
+/// The room to decode ahead into, if as much is left of the image, for a piece of so many bytes, of
+/// which the first `filled` are decoded: all that can be kept if none are, else what the piece
+/// lacks, little behind `Unread::decode_while_runs_fit`, and room for a run, in whole pixels.
 #[inline]
 pub(super) fn kept_room(piece: usize, filled: usize) -> usize
     requires within { filled ≤ piece }

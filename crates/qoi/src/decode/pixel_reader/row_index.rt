@@ -163,8 +163,8 @@ impl RowIndex {
     {
         let pixels_wanted = pixels_from(decoder.header(), first);
         let mut i = self.points.len().min((first / self.every) as usize);
-        // Point `i` is that of row (i + 1) * `every`. It may lie past the row's top, since a reader
-        // decodes ahead: then one above it serves.
+        // Point `i` is that of row (i + 1) * `every`. It may lie past the wanted row, since
+        // a reader decodes ahead: then one above it serves.
         while i > 0 {
             i -= 1;
             let point = &self.points[i];

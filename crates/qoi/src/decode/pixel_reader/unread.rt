@@ -1,5 +1,5 @@
-//! What is unread of an image, and the loops that decode it piece by piece: what is decoded before
-//! a caller asks for it is kept.
+//! What is unread of an image, and how it is decoded piece by piece: what is decoded before a
+//! caller asks for it is kept.
 ghost use Rattle.std.specs.Prelude.{◌≡◌, ℕ, ◌+◌, ◌-◌, ◌*◌, ◌%◌, ◌^◌, ◌<◌, ◌≤◌, List, [], length, min, Option, Some, IfOk, OnOk, IfSome, None};
 ghost use Rattle.qoi.specs.Raw.{IsChannels};
 ghost use Rattle.qoi.specs.declared.decode.output.TheConstants.{RUN_ROOM};

@@ -147,8 +147,8 @@ fn sizes_of(fits: Fits, stands: u8x16) -> u8x16
 
 // The first bytes of fresh pixels' chunks, as they are passed, and of runs for repeats. The lesser
 // of `rep` and a run's byte is that byte for a repeat, else 0; of `&` the compiler would make a
-// blend, which takes longer. What was passed for a repeat, an index position or a difference of no
-// steps, is less than a run's byte.
+// blend, which takes longer. What was passed for a repeat, an index position (a contract allows a
+// difference of no steps, too), is less than a run's byte.
 #[inline(always)]
 fn with_runs(first: u8x16, rep: u8x16, count: u8x16) -> u8x16
     ensures { (ls : List Lane) (c : ℕ) (q : Bool) → AreBy ls first_of first
