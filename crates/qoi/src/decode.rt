@@ -195,7 +195,7 @@ impl<R: Read + Drop> Decoder<R> {
     /// it stood.
     ///
     /// A decoder asks its reader for a chunk's few bytes at a time, and never for a byte past the
-    /// end marker. For a reader with a buffer `from_buf_read` is three times as fast.
+    /// end marker. For a reader with a buffer `from_buf_read` is several times as fast.
     pub fn from_stream(mut reader: R) -> Result<Decoder<R>>
         // A success: the fourteen bytes of a valid header were taken. (`R.ahead`, of which the
         // methods speak, is `R.remaining` of a stream.)
