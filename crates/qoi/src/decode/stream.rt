@@ -20,7 +20,7 @@ use std::io::{ErrorKind, Read};
 
 // What reading past the end of a stream returns.
 #[cold]
-fn ended() -> io::Error {
+pub(super) fn ended() -> io::Error {
     io::Error::new(ErrorKind::UnexpectedEof, "the reader ended too early")
 }
 
