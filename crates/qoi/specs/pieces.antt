@@ -1,4 +1,5 @@
 -- Images that are read or written piece by piece.
+pub mod Sizes
 pub mod Unread
 pub mod PixelReader
 pub mod Mark
