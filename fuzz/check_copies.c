@@ -51,14 +51,13 @@ static int may_refuse(const struct session *it, size_t i, size_t at, size_t size
     return at + size + AHEAD + 62 * it->channels >= walked.pixels * it->channels;
 }
 
-/* How many raw bytes the reader gave of those to be copied, if the other side didn't fail: all, or whole pieces before one
-   that it may refuse. `left` says which, and what came out is compared. */
-static size_t check_gave(struct session *it, size_t i, size_t count) {
+/* The reader gave so many raw bytes of those to be copied, and the other side didn't fail: they are all, or whole pieces
+   before one that it may refuse. */
+static size_t check_gave(struct session *it, size_t i, size_t count, size_t gave) {
     const struct answer *answer = &it->answers[i + 1];
     size_t least = 0;
     while (least < count && !may_refuse(it, i, it->given + least, count - least < PIECE ? count - least : PIECE)) least += PIECE;
     if (least > count) least = count;
-    size_t gave = it->total - it->given - answer->left;
     if (gave > count || gave < least || (gave < count && gave % PIECE > 0) || !can_give(it, it->given + gave)) {
         differ("raw bytes read", least, gave);
         return 0;
@@ -78,10 +77,8 @@ static size_t check_gave(struct session *it, size_t i, size_t count) {
     return gave;
 }
 
-/* How many raw bytes the reader gave to a writer that failed: whole pieces, or all. That it is the first ones whose writing
-   fails is compared with a loop (`check_loops`). */
-static size_t check_gave_broken(struct session *it, size_t i, size_t count) {
-    size_t gave = it->total - it->given - it->answers[i + 1].left;
+/* The reader gave so many raw bytes to a writer that failed: whole pieces, or all. */
+static size_t check_gave_broken(struct session *it, size_t count, size_t gave) {
     if (gave > count || (gave < count && gave % PIECE > 0) || !can_give(it, it->given + gave)) {
         differ("raw bytes read", count, gave);
         return 0;
@@ -114,7 +111,10 @@ static void check_copy(struct session *it, size_t i) {
     else if (count > it->wanted - it->came) check_unchanged(it, i, wrong_length(it, it->came + count));
     else if (count > 0 && it->is_refused) check_unchanged(it, i, spent);
     else {
-        size_t from = it->given, gave = breaks(it, i) ? check_gave_broken(it, i, count) : check_gave(it, i, count);
+        /* What `left` says, which is compared with a loop, if it isn't all (`check_loops`). */
+        size_t from = it->given, gave = left - it->answers[i + 1].left;
+        gave = breaks(it, i) ? check_gave_broken(it, count, gave) : check_gave(it, i, count, gave);
+        if (gave < count || it->is_refused) it->wants_loops = 1;
         check_took(it, i, raw_of(it->file, it->image, it->channels) + from, gave, last_piece(gave));
     }
 }
@@ -178,7 +178,7 @@ static void check_to_raw(struct session *it, size_t i) {
         it->is_refused = 1, it->refused_act = ACTS;
         same("left", it->total - it->given, answer->left);
     } else {
-        size_t gave = check_gave(it, i, left);
+        size_t gave = check_gave(it, i, left, sent);
         struct passed some = model_to_raw(&it->target.raw, gave, act->size);
         same("a fault of the raw bytes' writer", 0, some.why.error);
         same("calls of the raw bytes' writer", some.all.calls, answer->raw.calls);
@@ -448,7 +448,7 @@ static void run_copies(struct random *random, struct subject_file *file, enum wa
     int had_failed = has_failed;
     check_session(&session);
     check_sent(&session);
-    if (session.is_broken || chance(random, 300)) check_loops(&session, fail_at, had_failed);
+    if (session.wants_loops || session.is_broken || chance(random, 200)) check_loops(&session, fail_at, had_failed);
 }
 
 /* Images of more than a piece come more often. Only whole ones are begun in the middle. */

@@ -171,7 +171,7 @@ static void stands_within(struct session *it, const struct answer *answer) {
     size_t least = (it->given + it->lost + c - 1) / c, most = (it->given + it->lost + AHEAD) / c;
     if (it->has_fault) most += it->asked / c + 1;
     struct walked low = model_walk(bytes, len, count, len, least), high = model_walk(bytes, len, count, len, most + 1);
-    stands(it, answer, low.at, most < count ? high.at : reading.taken);
+    stands(it, answer, low.at, high.pixels > most ? high.at : reading.taken);
     size_t at = it->at - from;
     /* A reader that failed may stand within a chunk. */
     if (it->has_fault || (at == reading.taken && it->given + it->lost + AHEAD >= reading.pixels * c)) return;

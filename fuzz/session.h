@@ -62,6 +62,7 @@ struct session {
     size_t wanted, came, offered;
     int is_open, is_broken, is_finished;
     size_t kept_at;     /* the answer that says what the writer had, or 0 */
+    int wants_loops;    /* a copy ended before all was copied: how far it went is compared with a loop */
 };
 
 static const struct refusal none = {0, 0, 0, 0}, spent = {BUFFER_END, 0, 0, 0};
