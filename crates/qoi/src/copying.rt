@@ -19,9 +19,9 @@ use crate::encode::PixelWriter;
 use crate::error::{Error, Result};
 use std::io::Write;
 
-// How many raw bytes go at once: no more than `copied_at_once`, by the clauses `refused`. What else
-// has to follow it by hand: PIECE of fuzz/check_decode.c, the numbers on the pages, and tests of readers
-// and writers that fail.
+// How many raw bytes go at once: no more than `copied_at_once`, by the clauses `refused`. By hand
+// have to follow PIECE of fuzz/check_decode.c, the numbers in comments and on the pages, and the
+// tests of readers and writers that fail.
 const PIECE: usize = 4096;
 
 impl<R: Reader> PixelReader<R> {

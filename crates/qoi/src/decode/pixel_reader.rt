@@ -293,9 +293,9 @@ impl<R: Reader> PixelReader<R> {
         ensures left { pixels_left self.new ≡ left }
         ensures unchanged { as_decoder self.new ≡ as_decoder self.old }
     {
-        self.refused = true;
         // There is no fault to take: what is kept is dropped.
         let _ = self.unread.take_fault(left);
+        self.refused = true;
     }
 
     /// Gives back the decoder, whose reader is as it stands: behind the end marker if no bytes are
