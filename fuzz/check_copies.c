@@ -12,9 +12,26 @@ static struct refusal wrong_length(const struct session *it, size_t length) {
     return (struct refusal){LENGTH, length, it->target.image.width, it->target.image.height};
 }
 
-/* Whether the writer's bad call came in this act. */
+/* Whether the writer failed in this act: its bad call came, or, if it isn't one with a plan, the act says so. */
 static int breaks(const struct session *it, size_t i) {
-    return !is_bad(&it->target.plan, it->answers[i].sent.calls) && is_bad(&it->target.plan, it->answers[i + 1].sent.calls);
+    const struct answer *answer = &it->answers[i + 1];
+    const struct plan *plan = &it->target.plan;
+    if (it->target.sink == TO_SINK) return !is_bad(plan, it->answers[i].sent.calls) && is_bad(plan, answer->sent.calls);
+    if (it->is_broken || it->acts[i].kind == TO_RAW || answer->error != IO) return 0;
+    return answer->first == (it->target.sink == TO_SLICE ? NO_BYTE_TAKEN : NO_MEMORY);
+}
+
+/* The writer failed in this act, and had a reason to: its bad call, an allocation, or, seen at the end, a slice that is full. */
+static void check_break(struct session *it, size_t i) {
+    const struct answer *answer = &it->answers[i + 1];
+    it->is_broken = 1;
+    if (it->target.sink == TO_SINK) {
+        refused_as(fault(&it->target.plan, NO_BYTE_TAKEN), answer);
+        same("calls of the writer, the last one the bad one", it->target.plan.bad, answer->sent.calls);
+    } else if (it->target.sink == TO_VECTOR) {
+        if (!has_failed) differ("a vector finds no memory", 0, 1);
+        has_failed = 0, it->had_no_memory = 1;
+    }
 }
 
 /* The last piece of bytes that went by pieces. */
@@ -94,10 +111,8 @@ static void check_took(struct session *it, size_t i, const uint8_t *bytes, size_
     it->offered = it->came + count;
     it->came = it->offered;
     if (breaks(it, i)) {
-        refused_as(fault(&it->target.plan, NO_BYTE_TAKEN), answer);
-        same("calls of the writer", it->target.plan.bad, answer->sent.calls);
         it->came -= last;
-        it->is_broken = 1;
+        check_break(it, i);
     }
     same("raw bytes missing", it->wanted - it->came, answer->missing);
 }
@@ -232,8 +247,7 @@ static void check_close(struct session *it, size_t i) {
     same_reader(it, i);
     it->is_open = 0;
     if (breaks(it, i)) {
-        refused_as(fault(&it->target.plan, NO_BYTE_TAKEN), answer);
-        same("calls of the writer", it->target.plan.bad, answer->sent.calls);
+        check_break(it, i);
         return;
     }
     int is_done = it->came == it->wanted;
@@ -298,6 +312,7 @@ void check_sent(const struct session *it) {
         for (sent = room; sent > 0 && out[sent - 1] == out[room]; sent--) {}
         if (is_back && sent > room - kept->kept) differ("bytes in the slice", room - kept->kept, sent);
         if (is_back) sent = room - kept->kept;
+        if (it->is_broken && (size <= room || (is_back && sent < room))) differ("a slice is full", room, sent);
     }
     if (sent > size || (it->is_finished && sent < size)) {
         differ("bytes sent", size, sent);
@@ -397,10 +412,12 @@ static size_t plan_copies(struct random *random, struct session *it) {
     add_act(it, chance(random, 500) ? INTO : FINISH, 0, &at);
     plan_reader(random, it);
     it->target.at = at;
-    return at + 22 + 5 * (size_t)it->target.image.width * it->target.image.height;
+    size_t most = 22 + 5 * (size_t)it->target.image.width * it->target.image.height;
+    /* The header has room. */
+    return at + (it->target.sink == TO_SLICE && chance(random, 300) ? between(random, 14, most) : most);
 }
 
-/* A session that copies makes two allocations at most, before its calls: a third one fails, but of a vector, which grows. */
+/* A session that copies makes two allocations at most, before its calls, if no vector grows: a third one fails. */
 static void make_calls(struct session *it, size_t fail_at) {
     it->out = fresh(it->size);
     begin(way_names[it->way], fail_at);
@@ -443,7 +460,7 @@ static void run_copies(struct random *random, struct subject_file *file, enum wa
     session.size = plan_copies(random, &session);
     if (session.size > OUT_ROOM) return;
     size_t fail_at = chance(random, 60) ? between(random, 1, 3) : 3;
-    if (session.target.sink == TO_VECTOR) fail_at = 0;
+    if (session.target.sink == TO_VECTOR) fail_at = chance(random, 300) ? between(random, 1, 8) : 0;
     make_calls(&session, fail_at);
     int had_failed = has_failed;
     check_session(&session);

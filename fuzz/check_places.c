@@ -74,20 +74,25 @@ static void check_rows(struct random *random, struct subject_file *file, const s
     if (!why.error && begins_with(other, file)) check_known_rows(file, acts, answers, out);
 }
 
-/* Rows behind a point of an index are read without the bytes before it: these may be any. The point of row `above` serves: what
-   is decoded ahead of it ends before the rows that are read. */
+/* The row of the last point of an index that serves for row `first`, with a point each `every` rows: what was decoded ahead
+   at that point ends above the row. 0 if there is none. */
+static size_t point_above(struct header header, uint32_t first, size_t every) {
+    size_t row = (size_t)header.width * header.channels, above = first / every * every;
+    while (above > 0 && (above >= header.height || (first - above) * row < AHEAD)) above -= every;
+    return above;
+}
+
+/* Rows behind a point of an index are read without the bytes before it: those may be any. */
 static void check_points(struct random *random, struct subject_file *file) {
     struct header header = file->header;
-    struct image_at *it = image_at(file, 14);
-    size_t row = (size_t)header.width * header.channels, every = between(random, 1, 1 + header.height / 4);
-    uint32_t first = below(random, header.height + 1);
-    size_t above = first / every * every;
-    while (above > 0 && (above >= header.height || (first - above) * row < AHEAD)) above -= every;
+    size_t count = pixel_count(header), row = (size_t)header.width * header.channels;
+    uint32_t every = between(random, 1, 1 + header.height / 4), first = below(random, header.height + 1);
+    size_t above = point_above(header, first, every), where = first * row;
     if (above == 0) return;
-    struct walked front = model_walk(file->bytes + 14, file->len - 14, pixel_count(header), file->len, above * header.width + 1);
-    /* The last of these chunks goes past the row's beginning, and may be a run: it stays. */
+    struct walked front = model_walk(file->bytes + 14, file->len - 14, count, file->len, above * header.width);
     struct bytes other = {malloc(file->len), file->len};
     memcpy(other.at, file->bytes, file->len);
+    /* The last chunk before the point's row may be a run that goes on into it: it stays. */
     for (size_t i = 14; i + 5 < 14 + front.at; i++) other.at[i] = next(random);
     struct act acts[2] = {{ROWS, first, 0, 0}, {READ, 0, 0, below(random, 3 * row + 2)}};
     struct answer answers[2], made = {0};
@@ -97,10 +102,10 @@ static void check_points(struct random *random, struct subject_file *file) {
     fuzz_rows(file->bytes, file->len, every, other.at, other.len, acts, 2, out, acts[1].size, &made, answers, 2);
     end();
     free(other.at);
-    size_t where = first * row;
-    refused_as((struct refusal){0}, &made);
-    if (refused_as((struct refusal){0}, &answers[0])) return;
-    check_known_piece(&acts[1], &answers[1], raw_of(file, it, header.channels), pixel_count(header) * header.channels, &where, out);
+    refused_as(none, &made);
+    if (refused_as(none, &answers[0])) return;
+    const uint8_t *raw = raw_of(file, image_at(file, 14), header.channels);
+    check_known_piece(&acts[1], &answers[1], raw, count * header.channels, &where, out);
 }
 
 static void check_marks(struct random *random, struct subject_file *file, const struct bytes *other) {
@@ -173,27 +178,37 @@ static void check_c_library(struct random *random, struct subject_file *file) {
 static void check_c_library(struct random *random, struct subject_file *file) { (void)random, (void)file; }
 #endif
 
-/* The file before, of which an index is made to read this one. */
-static void keep_other(struct bytes *kept, const uint8_t *bytes, size_t len) {
-    if (len > FILE_ROOM) return;
-    if (!kept->at) kept->at = malloc(FILE_ROOM + 16);
-    memcpy(kept->at, bytes, len);
-    kept->len = len;
+/* This file with some bytes behind it. */
+static const struct bytes *longer_file(struct random *random, const struct subject_file *file) {
+    static struct bytes it;
+    if (!it.at) it.at = malloc(FILE_ROOM + 16);
+    memcpy(it.at, file->bytes, file->len);
+    it.len = file->len;
+    for (int i = below(random, 16); i > 0; i--) it.at[it.len++] = next(random);
+    return &it;
+}
+
+static const struct bytes *another_file(struct random *random) {
+    static struct bytes it;
+    if (!it.at) it.at = malloc(FILE_ROOM);
+    make_file(random, &it);
+    return &it;
+}
+
+/* A file that is read by an index or a mark of this one: itself, one that begins with it, or another. */
+static const struct bytes *file_for(struct random *random, const struct subject_file *file) {
+    static struct bytes itself;
+    itself = (struct bytes){(uint8_t *)file->bytes, file->len};
+    size_t kind = below(random, 3);
+    return kind == 0 ? &itself : kind == 1 ? longer_file(random, file) : another_file(random);
 }
 
 void check_places(struct random *random, struct subject_file *file) {
-    static struct bytes before, longer;
-    struct bytes itself = {(uint8_t *)file->bytes, file->len};
-    keep_other(&longer, file->bytes, file->len);
-    for (int i = below(random, 16); i > 0; i--) longer.at[longer.len++] = next(random);
-    const struct bytes *others[] = {&itself, &longer, &before};
-    const struct bytes *other = others[before.at ? below(random, 3) : below(random, 2)];
     int is_known = !file->why.error && pixel_count(file->header) < IMAGE_PIXELS;
     int is_whole = is_known && image_at(file, 14)->reading.verdict == WHOLE;
-    if ((is_known || file->why.error) && chance(random, 400)) check_rows(random, file, other);
-    if (is_whole && file->header.height > 3 && pixel_count(file->header) > PIECE / 3) check_points(random, file);
-    if (is_whole && chance(random, 300)) check_marks(random, file, other);
+    if ((is_known || file->why.error) && chance(random, 400)) check_rows(random, file, file_for(random, file));
+    if (is_whole && pixel_count(file->header) > PIECE / 4) check_points(random, file);
+    if (is_whole && chance(random, 300)) check_marks(random, file, file_for(random, file));
     if (is_whole && chance(random, 100)) check_clones(random, file);
     if (is_whole && chance(random, 300)) check_c_library(random, file);
-    if (file->len < 3000 && chance(random, 50)) keep_other(&before, file->bytes, file->len);
 }

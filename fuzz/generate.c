@@ -4,7 +4,8 @@
 
 /* Sizes */
 
-/* Mostly small images; rows of one pixel, and single rows; and now and then one that passes the sizes of pieces, by its rows alone, too. */
+/* Mostly small images; rows of one pixel, and single rows; and now and then one that passes the sizes of pieces, by its rows
+   alone, too. */
 static void make_size(struct random *random, struct header *header, size_t least_kind) {
     size_t kind = between(random, least_kind, 9999), w = 0, h = 0;
     if (kind < 5500) w = between(random, 1, 8), h = between(random, 1, 6);

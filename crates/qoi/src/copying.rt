@@ -20,7 +20,7 @@ use crate::error::{Error, Result};
 use std::io::Write;
 
 // How many raw bytes go at once: no more than `copied_at_once`, by the clauses `refused`. By hand
-// have to follow PIECE of fuzz/check_decode.c, the numbers in comments and on the pages, and the
+// have to follow PIECE of fuzz/session.h, the numbers in comments and on the pages, and the
 // tests of readers and writers that fail.
 const PIECE: usize = 4096;
 
