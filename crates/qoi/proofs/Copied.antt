@@ -7,7 +7,7 @@ use Rattle.std.proofs.KnownBytes.{Appends-trans, Consumes-trans}
 use Rattle.std.specs.Io.KnownBytes.{Appends, Consumes, Keeps}
 use Rattle.qoi.specs.Qoi.{Error, pixel_count, channels_number}
 use Rattle.qoi.specs.Images.{front_image}
-use Rattle.qoi.specs.Rectangles.{rectangle}
+use Rattle.qoi.specs.Rectangles.{rectangle, row_size}
 use Rattle.qoi.specs.Decoded.{HasDecoded}
 use Rattle.qoi.specs.Decoding.{RefusesBytes}
 use Rattle.qoi.specs.DecoderState.{DecoderState, output_byte_count}
@@ -15,7 +15,7 @@ use Rattle.qoi.specs.EncoderState.{EncoderState}
 use Rattle.qoi.specs.pieces.PixelReader.{PixelsState, pixels_left, HasGiven, HasRows, RefusesPixels, IsSpent}
 use Rattle.qoi.specs.pieces.PixelWriter.{WriterState, and_raw, HasTaken, HasFailed}
 use Rattle.qoi.specs.pieces.Sizes.{copied_at_once, decoded_ahead}
-use Rattle.qoi.specs.pieces.Copying.{StopsBehind, FailsBehind, BreaksCopy, BreaksRaw, BreaksInput}
+use Rattle.qoi.specs.pieces.Copying.{rows_size, StopsBehind, FailsBehind, BreaksCopy, BreaksRaw, BreaksInput}
 use Rattle.qoi.proofs.decoding.PixelPieces.{piece_follows, rows_next}
 
 -- what was given first, and what behind it, was given
@@ -148,3 +148,9 @@ unfolding HasGiven
 rows_are d now bytes stride k n given more p h before long =
     rows_next (front_image d.channels d.header bytes) given more stride k n (length more)
     (take_all (length more) more (omega arith) ∙ piece_follows d.channels d.header bytes given more h.front) before long long
+
+-- the reader's rows are those of its decoder
+pub rows_same : {R : Type 0} (d : DecoderState R) (start now : Option (List ℕ)) (given : List ℕ) (p : PixelsState R) (rows : ℕ) → HasGiven d start now given p
+    → rows_size p rows ≡ row_size d.channels d.header * rows
+unfolding HasGiven
+rows_same d start now given p rows h = ap (λ x. row_size x p.header * rows) h.channels ∙ ap (λ x. row_size d.channels x * rows) h.header

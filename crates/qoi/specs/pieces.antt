@@ -6,3 +6,4 @@ pub mod Mark
 pub mod RowIndex
 pub mod PixelWriter
 pub mod Copying
+pub mod Skipping

@@ -16,6 +16,7 @@ pub(super) mod mark;
 mod room;
 pub(super) mod row_index;
 mod seek_point;
+mod skipping;
 pub(super) mod unread;
 
 use crate::decode::Decoder;
