@@ -88,7 +88,9 @@ function listen() {
     event.preventDefault();
     document.body.classList.add("over");
   });
-  document.addEventListener("dragleave", () => document.body.classList.remove("over"));
+  document.addEventListener("dragleave", (event) => {
+    if (!event.relatedTarget) document.body.classList.remove("over");
+  });
   document.addEventListener("drop", (event) => {
     event.preventDefault();
     document.body.classList.remove("over");
