@@ -18,7 +18,8 @@ import time
 # What bindings/README.md names, and the style sheet of index.html and its empty icon; a server sends it with each file.
 NAMED_POLICY = "script-src 'self' 'wasm-unsafe-eval'; worker-src 'self'; connect-src 'self'"
 POLICY = f"default-src 'none'; {NAMED_POLICY}; style-src 'self'; img-src data:"
-FLAGS = ["--headless", "--no-sandbox", "--disable-gpu", "--no-first-run", "--disable-background-networking", "--disable-extensions"]
+FLAGS = ["--headless", "--no-sandbox", "--disable-gpu", "--disable-dev-shm-usage", "--no-first-run"]
+FLAGS += ["--disable-background-networking", "--disable-extensions"]
 PATIENCE = 60  # seconds
 
 

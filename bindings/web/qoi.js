@@ -83,8 +83,10 @@ function cut() {
 export async function decode(bytes, { maxPixels = MAX_PIXELS, signal } = {}) {
   signal?.throwIfAborted();
   checkSupport();
-  const { width, height } = checkFile(bytes, { maxPixels });
-  const pixels = await inWorker(inMemory(() => viewOf(bytes).slice()), 4 * width * height, signal);
+  // A copy: the worker takes it, and memory that is shared may change
+  const file = inMemory(() => viewOf(bytes).slice());
+  const { width, height } = checkFile(file, { maxPixels });
+  const pixels = await inWorker(file, 4 * width * height, signal);
   return new ImageData(pixels, width, height);
 }
 

@@ -88,7 +88,9 @@ function listen() {
     event.preventDefault();
     document.body.classList.add("over");
   });
-  document.addEventListener("dragleave", () => document.body.classList.remove("over"));
+  document.addEventListener("dragleave", (event) => {
+    if (!event.relatedTarget) document.body.classList.remove("over");
+  });
   document.addEventListener("drop", (event) => {
     event.preventDefault();
     document.body.classList.remove("over");
@@ -101,9 +103,6 @@ function listen() {
 // A pixel is decoded first, so that a time has no loading of the decoder in it.
 const pixel = Uint8Array.of(0x71, 0x6f, 0x69, 0x66, 0, 0, 0, 1, 0, 0, 0, 1, 3, 0, 0xc0, 0, 0, 0, 0, 0, 0, 0, 1);
 const warm = decode(pixel).catch(() => {});
-if (isSupported()) {
-  listen();
-} else {
-  document.getElementById("ways").hidden = true;
-  document.getElementById("unsupported").hidden = false;
-}
+document.getElementById("asleep").hidden = true;
+document.getElementById(isSupported() ? "ways" : "unsupported").hidden = false;
+if (isSupported()) listen();

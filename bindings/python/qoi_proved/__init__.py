@@ -26,7 +26,7 @@ import operator
 import os
 from typing import TYPE_CHECKING, Any, NamedTuple, Optional, SupportsIndex, Tuple, Union
 
-from ._library import Bytes, CError, CHeader, check, fresh, held, library, size, start
+from ._library import Bytes, CError, CHeader, check, fresh, held, library, no_rows, size, start
 from .errors import (
     Error,
     InvalidChannels,
@@ -150,7 +150,7 @@ def decode_rows(
     with held(file, "file") as given:
         whole = _needed(given, wanted, max_pixels)[0]
         if first + count > whole.height:
-            raise IndexError(f"rows {first} to {first + count} are wanted, and the picture has {whole.height}")
+            raise no_rows(first, count, whole.height)
         if not count:
             return whole, b""
         rows = fresh(count * whole.width * (wanted or whole.channels))

@@ -140,6 +140,11 @@ def check(error: CError) -> None:
         raise _exception(error)
 
 
+def no_rows(first: int, count: int, height: int) -> IndexError:
+    """The refusal of rows that a picture of this height doesn't have."""
+    return IndexError(f"rows {first} to {first + count} are wanted, and the picture has {height}")
+
+
 def _exception(e: CError) -> Exception:
     if e.code == 1:
         return errors.InvalidMagic(e.magic)
@@ -158,5 +163,5 @@ def _exception(e: CError) -> Exception:
     if e.code == 8:
         return errors.InvalidPadding()
     if e.code == 14:
-        return IndexError(f"rows {e.first_row} to {e.first_row + e.rows} of a picture that has {e.height}")
+        return no_rows(e.first_row, e.rows, e.height)
     return RuntimeError(f"libqoi_proved.so answers with number {e.code}, which this package doesn't know")

@@ -251,6 +251,7 @@ globalThis.tests = {
     for (const name of ["load", "error"]) element.addEventListener(name, () => heard.push([name, element.naturalWidth]));
     await pause(20);
     element.src = "/pictures/10/model.qoi";
+    await nextEvent(element);
     await pause(600);
     wrong.push(...differs("a new src", heard.splice(0), [["load", 64]]));
     element.src = "/slow/0.qoi";
