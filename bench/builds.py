@@ -1,4 +1,4 @@
-"""What bench/run and bench/compare share: copies and builds of the port and of the Rust crate, in a folder of their own."""
+"""What the commands of this folder share: copies and builds of the port and of the Rust crate, in a folder of their own."""
 import os
 import pathlib
 import re
@@ -13,6 +13,7 @@ TOP = HERE.parent
 ROOM = pathlib.Path(os.environ.get("BENCH_ROOM", pathlib.Path(tempfile.gettempdir(), "qoi-bench")))
 CRATE = os.environ.get("QOI_CRATE")
 BEFORE = os.environ.get("BEFORE")
+SHIFTS = (16, 32, 48, 64)
 
 # Cargo takes the crate's dependency from Debian's package, and asks no registry.
 CARGO_CONFIG = """[source.crates-io]
@@ -46,6 +47,17 @@ def packages(*names):
     if missing:
         run("apt-get", "update", "-q")
         run("apt-get", "install", "-y", "-q", "--no-install-recommends", *missing)
+
+
+def version(package):
+    return run("dpkg-query", "-W", "-f", "${Version}", package)
+
+
+def here(command):
+    """What is timed, and where."""
+    commit = run("git", "-C", TOP, "describe", "--always", "--dirty").strip()
+    processors = re.findall(r"model name\s*: (.*)", pathlib.Path("/proc/cpuinfo").read_text()) or ["unknown"]
+    return f"{command} at {commit}, {run('rt', 'version').strip()}, on {len(processors)} x {processors[0]}"
 
 
 def kit():

@@ -94,6 +94,12 @@ void check_header(struct header header, const struct answer *answer) {
     same("height", header.height, answer->height);
     same("channels", header.channels, answer->channels);
     same("color space", header.colorspace, answer->colorspace);
+    same("n_pixels", pixel_count(header), answer->pixels);
+}
+
+void check_rows_of(struct header header, uint32_t channels, const struct answer *answer) {
+    same("channels asked for", channels, answer->asked);
+    same("bytes_per_row", (size_t)header.width * channels, answer->row);
 }
 
 /* Readers and writers */

@@ -34,6 +34,8 @@ extern int has_failed;
 /* Whether an answer has the error that is expected, with its fields. */
 int refused_as(struct refusal why, const struct answer *answer);
 void check_header(struct header header, const struct answer *answer);
+/* That an answer is in these channels, and says how long their rows are. */
+void check_rows_of(struct header header, uint32_t channels, const struct answer *answer);
 
 /* How a writer goes that gets so many bytes. */
 struct plan make_plan(struct random *random, size_t size);

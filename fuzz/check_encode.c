@@ -5,6 +5,8 @@
 #include <string.h>
 
 #define ACTS 48
+/* `encode_to_stream` sends pieces of so many bytes, and one of the rest. */
+#define SENT_AT_ONCE 4096
 #define MOST_FILE (22 + 5 * (size_t)IMAGE_PIXELS)
 
 /* An image, and the files that it has in the three styles, those that were asked for. */
@@ -16,6 +18,9 @@ struct subject_image {
     uint8_t files[3][MOST_FILE];
     size_t sizes[3];
 };
+
+/* Where answers go that no call writes. */
+static struct answer unused;
 
 /* What file an image has to get. */
 struct wanted { struct picture picture; const uint8_t *file; size_t size; };
@@ -77,10 +82,12 @@ static void check_buffer(struct random *random, struct subject_image *image, con
     struct plan plan = {0};
     begin(is_free ? "encode_to_buf (free)" : "Encoder::encode_to_buf", 0);
     if (is_free) fuzz_encode_free(0, &it->picture, image->raw, image->len, out, size, &answer);
-    else fuzz_encode(0, &it->picture, &plan, image->raw, image->len, out, size, &answer);
+    else fuzz_encode(0, &it->picture, &plan, image->raw, image->len, out, size, &answer, &unused);
     end();
     if (!is_free) {
         check_header(image->header, &answer);
+        check_rows_of(image->header, image->header.channels, &answer);
+        same("style", it->picture.style, answer.style);
         same("required_buf_len", needed, answer.left);
     }
     if (size >= needed) {
@@ -98,7 +105,7 @@ static void check_vector(struct random *random, struct subject_image *image, con
     size_t fail_at = chance(random, 60) ? between(random, 1, 2) : 0;
     begin(is_free ? "encode_to_vec (free)" : "Encoder::encode_to_vec", fail_at);
     if (is_free) fuzz_encode_free(1, &it->picture, image->raw, image->len, out, it->size, &answer);
-    else fuzz_encode(1, &it->picture, &plan, image->raw, image->len, out, it->size, &answer);
+    else fuzz_encode(1, &it->picture, &plan, image->raw, image->len, out, it->size, &answer, &unused);
     end();
     /* The second allocation gives back what the file leaves, and may fail. */
     if (has_failed && fail_at == 1) refused_as((struct refusal){MEMORY, 0, 0, 0}, &answer);
@@ -117,25 +124,49 @@ static void check_beginning(const struct wanted *it, const uint8_t *out, size_t 
     untouched("bytes behind those sent", out + sent, size - sent + GUARD);
 }
 
+/* A writer that failed goes on, and is called again: behind the beginning it gets the whole file. */
+static void check_writer_again(const struct wanted *it, const struct plan *plan, const struct answer *first,
+                               const struct answer *again, const uint8_t *out, size_t size) {
+    size_t sent = again->bytes - first->bytes;
+    if (is_bad(plan, again->calls) && !is_bad(plan, first->calls)) {
+        refused_as(fault(plan, NO_BYTE_TAKEN), again);
+    } else if (size < it->size) {
+        refused_as((struct refusal){IO, NO_BYTE_TAKEN, 0, 0}, again);
+        same("bytes sent again", size, sent);
+    } else if (!refused_as((struct refusal){0}, again)) {
+        same("size", it->size, again->size);
+        same("bytes sent again", it->size, sent);
+    }
+    check_beginning(it, out, size, sent);
+}
+
 static void check_writer(struct random *random, struct subject_image *image, const struct wanted *it) {
     struct plan plan = make_plan(random, it->size);
-    size_t size = chance(random, 100) ? below(random, it->size) : it->size + below(random, 20);
+    size_t size = chance(random, 100) ? below(random, it->size) : it->size * between(random, 1, 2) + below(random, 20);
     uint8_t *out = fresh(size);
-    struct answer answer = {0};
+    struct answer answer = {0}, again = {0};
     begin("encode_to_stream, a writer", 0);
-    fuzz_encode(2, &it->picture, &plan, image->raw, image->len, out, size, &answer);
+    fuzz_encode(2, &it->picture, &plan, image->raw, image->len, out, size, &answer, &again);
     end();
-    check_beginning(it, out, size, answer.bytes);
+    same("flushes", 0, answer.flushes + again.flushes);
     if (is_bad(&plan, answer.calls)) {
         same("calls of the writer", plan.bad, answer.calls);
         refused_as(fault(&plan, NO_BYTE_TAKEN), &answer);
     } else if (size < it->size) {
         refused_as((struct refusal){IO, NO_BYTE_TAKEN, 0, 0}, &answer);
         same("bytes sent", size, answer.bytes);
-    } else {
-        check_file_of(it, &answer, out, size);
+    } else if (!refused_as((struct refusal){0}, &answer)) {
+        same("size", it->size, answer.size);
         same("bytes sent", it->size, answer.bytes);
+        if (plan.most >= SENT_AT_ONCE) same("pieces sent", (it->size + SENT_AT_ONCE - 1) / SENT_AT_ONCE, answer.calls);
     }
+    if (answer.bytes > it->size || answer.bytes > size) {
+        differ("bytes sent", it->size, answer.bytes);
+        return;
+    }
+    same_bytes("the file's beginning", it->file, out, answer.bytes);
+    if (answer.error) check_writer_again(it, &plan, &answer, &again, out + answer.bytes, size - answer.bytes);
+    else untouched("bytes behind the file", out + it->size, size - it->size + GUARD);
 }
 
 static void check_slice(struct random *random, struct subject_image *image, const struct wanted *it) {
@@ -144,7 +175,7 @@ static void check_slice(struct random *random, struct subject_image *image, cons
     struct answer answer = {0};
     struct plan plan = {0};
     begin("encode_to_stream, a slice", 0);
-    fuzz_encode(3, &it->picture, &plan, image->raw, image->len, out, size, &answer);
+    fuzz_encode(3, &it->picture, &plan, image->raw, image->len, out, size, &answer, &unused);
     end();
     if (size >= it->size) {
         check_file_of(it, &answer, out, size);
@@ -159,7 +190,7 @@ static void check_growing(struct random *random, struct subject_image *image, co
     struct answer answer = {0};
     struct plan plan = {0};
     begin("encode_to_stream, a vector", chance(random, 100) ? between(random, 1, 3) : 0);
-    fuzz_encode(4, &it->picture, &plan, image->raw, image->len, out, it->size, &answer);
+    fuzz_encode(4, &it->picture, &plan, image->raw, image->len, out, it->size, &answer, &unused);
     end();
     check_beginning(it, out, it->size, answer.bytes);
     if (has_failed) refused_as((struct refusal){IO, NO_MEMORY, 0, 0}, &answer);
@@ -220,7 +251,9 @@ static void plan_pieces(struct random *random, struct pieces *it, size_t row) {
 
 static int is_hit_now(const struct pieces *it, size_t i) {
     size_t before = i > 0 ? it->answers[i - 1].calls : 0;
-    return it->sink == TO_SINK && it->plan.bad > before && it->plan.bad <= it->answers[i].calls;
+    if (it->sink != TO_SINK || it->plan.bad <= before || it->plan.bad > it->answers[i].calls) return 0;
+    same("calls of the writer, the last one the bad one", it->plan.bad, it->answers[i].calls);
+    return 1;
 }
 
 static void check_given(struct pieces *it, size_t i) {
@@ -251,6 +284,7 @@ static void check_finished(struct pieces *it, size_t i) {
     const struct picture *picture = &it->it->picture;
     if (it->has_fault) {
         refused_as((struct refusal){IO, BROKEN, 0, 0}, answer);
+        same("calls of the writer", it->answers[i].calls, answer->calls);
     } else if (it->came < it->total) {
         refused_as((struct refusal){LENGTH, it->came, picture->width, picture->height}, answer);
         same("calls of the writer", it->answers[i].calls, answer->calls);
@@ -273,6 +307,7 @@ static size_t bytes_sent(const struct pieces *it) {
 static void check_acts(struct pieces *it) {
     const struct answer *made = &it->answers[0];
     size_t last = it->count - 1;
+    for (size_t i = 0; i <= it->count; i++) same("flushes", 0, it->answers[i].flushes);
     if (is_hit_now(it, 0)) {
         refused_as(fault(&it->plan, NO_BYTE_TAKEN), made);
     } else if (has_failed && made->error == MEMORY) {
@@ -281,6 +316,7 @@ static void check_acts(struct pieces *it) {
         refused_as((struct refusal){IO, NO_MEMORY, 0, 0}, made);
     } else if (!refused_as((struct refusal){0}, made)) {
         same("left", it->total, made->left);
+        same("style", it->it->picture.style, made->style);
         for (size_t i = 0; i < last; i++) check_given(it, i);
         if (it->acts[last].kind == FINISH) check_finished(it, last);
     }
@@ -353,7 +389,7 @@ static void check_refused(struct random *random, struct subject_image *image) {
     struct answer answer = {0};
     struct plan plan = {.most = 100};
     begin("Encoder::new", 0);
-    if (chance(random, 500)) fuzz_encode(below(random, 5), &picture, &plan, image->raw, len, out, 60, &answer);
+    if (chance(random, 500)) fuzz_encode(below(random, 5), &picture, &plan, image->raw, len, out, 60, &answer, &unused);
     else fuzz_encode_free(below(random, 2), &picture, image->raw, len, out, 60, &answer);
     end();
     refused_as(why, &answer);
@@ -374,6 +410,9 @@ static void check_sizes(struct random *random) {
     int is_refused = pixels == 0 || pixels > 400000000;
     struct refusal why = {DIMENSIONS, picture.width, picture.height, 0};
     if (!refused_as(is_refused ? why : (struct refusal){0}, &answer)) check_header(header, &answer);
+    same("n_pixels", pixels, answer.pixels);
+    same("bytes_per_row", (uint64_t)picture.width * picture.channels, answer.row);
+    same("encode_max_len of a header", most_bytes(picture.width, picture.height, picture.channels), answer.kept);
     unsigned __int128 bytes = (unsigned __int128)pixels * picture.channels;
     same("n_bytes", bytes > UINT64_MAX ? UINT64_MAX : (uint64_t)bytes, answer.size);
     same("encode_max_len", most_bytes(picture.width, picture.height, picture.channels), answer.left);

@@ -4,7 +4,8 @@
 
 /* Sizes */
 
-/* Mostly small images; rows of one pixel, and single rows; and now and then one that passes the sizes of pieces. */
+/* Mostly small images; rows of one pixel, and single rows; and now and then one that passes the sizes of pieces, by its rows
+   alone, too. */
 static void make_size(struct random *random, struct header *header, size_t least_kind) {
     size_t kind = between(random, least_kind, 9999), w = 0, h = 0;
     if (kind < 5500) w = between(random, 1, 8), h = between(random, 1, 6);
@@ -12,7 +13,9 @@ static void make_size(struct random *random, struct header *header, size_t least
     else if (kind < 8600) w = 1, h = between(random, 1, 200);
     else if (kind < 9700) w = between(random, 1, 400), h = 1;
     else if (kind < 9930) w = between(random, 1, 150), h = between(random, 1, 40);
-    else if (kind < 9998) w = between(random, 1, 300), h = between(random, 1, 120);
+    else if (kind < 9985) w = between(random, 1, 300), h = between(random, 1, 120);
+    /* Rows longer than what is copied at once. */
+    else if (kind < 9998) w = between(random, 1366, 3000), h = between(random, 1, 5);
     else w = between(random, 100, 700), h = between(random, 80, 280);
     header->width = w, header->height = h;
     header->channels = between(random, 3, 4);

@@ -105,6 +105,17 @@ struct reading model_read(const uint8_t *bytes, size_t len, size_t wanted, struc
     return (struct reading){is_marked ? WHOLE : WRONG, pixels, before, at, at + 8};
 }
 
+struct walked model_walk(const uint8_t *bytes, size_t len, size_t wanted, size_t offset, size_t pixels) {
+    struct walked it = {0, 0};
+    while (it.at < offset && it.pixels < pixels && it.pixels < wanted) {
+        if (it.at == len || chunk_length(bytes[it.at]) > len - it.at) break;
+        it.pixels += chunk_repeats(bytes[it.at]);
+        it.at += chunk_length(bytes[it.at]);
+    }
+    if (it.pixels > wanted) it.pixels = wanted;
+    return it;
+}
+
 void model_raw(const struct pixel *image, size_t count, uint32_t file_channels, uint32_t channels, uint8_t *raw) {
     for (size_t i = 0; i < count; i++, raw += channels) {
         raw[0] = image[i].r, raw[1] = image[i].g, raw[2] = image[i].b;

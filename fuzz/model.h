@@ -30,6 +30,9 @@ size_t pixel_count(struct header header);
 int model_header(const uint8_t *bytes, size_t len, struct header *header, struct refusal *why);
 /* `image` has room for `wanted` pixels, or 62 for each byte if that is less. */
 struct reading model_read(const uint8_t *bytes, size_t len, size_t wanted, struct pixel *image);
+/* How far whole chunks of an image of `wanted` pixels go that reach this offset or so many pixels. */
+struct walked { size_t at, pixels; };
+struct walked model_walk(const uint8_t *bytes, size_t len, size_t wanted, size_t offset, size_t pixels);
 void model_raw(const struct pixel *image, size_t count, uint32_t file_channels, uint32_t channels, uint8_t *raw);
 void model_pixels(const uint8_t *raw, size_t count, uint32_t channels, struct pixel *image);
 

@@ -1,19 +1,21 @@
 -- Raw bytes that go from a reader to a writer piece by piece.
-use Rattle.std.proofs.Common.{◌≡◌, ◌+◌, ◌*◌, ℕ, List, [], ◌++◌, length, drop, Option, Some, Bool, IsTrue, Result, Ok, Err, OnOk, IsErrAnd, inl, inr, append_assoc, append-nil, length-append, arith, refl, sym, ap, ◌∙◌, subst}
+use Rattle.std.proofs.Common.{◌≡◌, ◌+◌, ◌*◌, ◌≤◌, min, ℕ, List, [], ◌++◌, length, drop, Option, Some, Bool, IsTrue, Result, Ok, Err, OnOk, IfErr, OnErr, IsErrAnd, inl, inr, append_assoc, append-nil, length-append, arith, refl, sym, ap, ◌∙◌, subst}
 use Rattle.std.proofs.lemmas.List.{drop_at, take_all}
 use Rattle.std.proofs.lemmas.Result.{err_from_is_err_and}
 use Rattle.std.proofs.Math.Nat.{mul-add}
 use Rattle.std.proofs.KnownBytes.{Appends-trans, Consumes-trans}
 use Rattle.std.specs.Io.KnownBytes.{Appends, Consumes, Keeps}
-use Rattle.qoi.specs.Qoi.{Error}
+use Rattle.qoi.specs.Qoi.{Error, pixel_count, channels_number}
 use Rattle.qoi.specs.Images.{front_image}
-use Rattle.qoi.specs.Rectangles.{rectangle}
+use Rattle.qoi.specs.Rectangles.{rectangle, row_size}
 use Rattle.qoi.specs.Decoded.{HasDecoded}
-use Rattle.qoi.specs.DecoderState.{DecoderState}
+use Rattle.qoi.specs.Decoding.{RefusesBytes}
+use Rattle.qoi.specs.DecoderState.{DecoderState, output_byte_count}
 use Rattle.qoi.specs.EncoderState.{EncoderState}
 use Rattle.qoi.specs.pieces.PixelReader.{PixelsState, pixels_left, HasGiven, HasRows, RefusesPixels, IsSpent}
 use Rattle.qoi.specs.pieces.PixelWriter.{WriterState, and_raw, HasTaken, HasFailed}
-use Rattle.qoi.specs.pieces.Copying.{StopsBehind, BreaksCopy, BreaksRaw, BreaksInput}
+use Rattle.qoi.specs.pieces.Sizes.{copied_at_once, decoded_ahead}
+use Rattle.qoi.specs.pieces.Copying.{rows_size, StopsBehind, FailsBehind, BreaksCopy, BreaksRaw, BreaksInput}
 use Rattle.qoi.proofs.decoding.PixelPieces.{piece_follows, rows_next}
 
 -- what was given first, and what behind it, was given
@@ -41,19 +43,36 @@ stops_both in_memory ahead d start given more piece p error r = record {
   spent = r.spent;
   left = r.left;
   kept = r.kept;
+  early = λ held bytes n is fits enough. r.early held bytes n is fits (omega (arith, enough, length-append given more, length-append more piece));
+}
+
+-- and so did one whose writer failed
+fails_both : {R : Type 0} (ahead : R → Option (List ℕ)) (d : DecoderState R) (start : Option (List ℕ)) (given more next piece : List ℕ) (p : PixelsState R)
+    → FailsBehind ahead d start (given ++ more) next piece p → FailsBehind ahead d start given (more ++ next) piece p
+fails_both ahead d start given more next piece p f = record {
+  was = f.was;
+  read = subst (λ x. HasGiven d start (ahead f.was.reader) (given ++ x) f.was) (sym (append_assoc more next piece)) (given_both d start (ahead f.was.reader) given more (next ++ piece) f.was f.read);
+  reader = f.reader;
+  spent = f.spent;
+  left = f.left;
+  short = f.short;
 }
 
 -- the first bytes were read, and then the image was refused
 pub stops_at : {R : Type 0} (in_memory : Bool) (ahead : R → Option (List ℕ)) (d : DecoderState R) (start : Option (List ℕ)) (given : List ℕ) (was p : PixelsState R) (error : Error)
     → HasGiven d start (ahead was.reader) given was → RefusesPixels in_memory d start (ahead p.reader) error → IsSpent p × (pixels_left p ≡ pixels_left was)
-    → (IsTrue in_memory → Keeps (ahead was.reader) (ahead p.reader)) → StopsBehind in_memory ahead d start given [] p error
-stops_at in_memory ahead d start given was p error h why spent kept = record {
+    → (IsTrue in_memory → Keeps (ahead was.reader) (ahead p.reader))
+    → (IsTrue in_memory → (bytes : List ℕ) (n : ℕ) → start ≡ Some bytes → n ≤ pixel_count d.header
+    → min (length given + copied_at_once + decoded_ahead) (output_byte_count d) ≤ n * channels_number d.channels → RefusesBytes n bytes error)
+    → StopsBehind in_memory ahead d start given [] p error
+stops_at in_memory ahead d start given was p error h why spent kept early = record {
   was = was;
   read = subst (λ x. HasGiven d start (ahead was.reader) x was) (sym (append-nil given)) h;
   why = why;
   spent = spent.0;
   left = spent.1;
   kept = kept;
+  early = λ held bytes n is fits enough. early held bytes n is fits (omega (arith, enough));
 }
 
 -- what was taken, and nothing more
@@ -68,7 +87,7 @@ pub breaks_later : {R W : Type 0} (in_memory : Bool) (ahead : R → Option (List
 breaks_later in_memory ahead contents d start given e before more p w error (piece, inl r) =
     (more ++ piece, inl (stops_both in_memory ahead d start given more piece p error r.0, taken_both contents e before more piece w r.1))
 breaks_later in_memory ahead contents d start given e before more p w error (piece, inr f) =
-    (more ++ piece, inr (f.0, given_both d start (ahead p.reader) given more piece p f.1, failed_both contents e before more piece w f.2))
+    (more ++ piece, inr (f.0, given_both d start (ahead p.reader) given more piece p f.1, failed_both contents e before more piece w f.2, f.3))
 
 -- the same of raw bytes
 pub raw_breaks_later : {R : Type 0} (in_memory : Bool) (ahead : R → Option (List ℕ)) (d : DecoderState R) (start : Option (List ℕ)) (given more : List ℕ)
@@ -76,27 +95,26 @@ pub raw_breaks_later : {R : Type 0} (in_memory : Bool) (ahead : R → Option (Li
     → BreaksRaw in_memory ahead d start (given ++ more) now p new error → BreaksRaw in_memory ahead d start given old p new error
 raw_breaks_later in_memory ahead d start given more old now new p error went (piece, inl r) =
     (more ++ piece, inl (stops_both in_memory ahead d start given more piece p error r.0, Appends-trans old now new more piece went r.1))
-raw_breaks_later in_memory ahead d start given more old now new p error went (piece, inr f) = (
-  more ++ piece,
-  inr (
-    f.0,
-    given_both d start (ahead p.reader) given more piece p f.1,
-    (more ++ f.2.0, f.2.1, ap (λ x. more ++ x) f.2.2 ∙ sym (append_assoc more f.2.0 f.2.1), Appends-trans old now new more f.2.0 went f.2.3),
-  ),
-)
+raw_breaks_later in_memory ahead d start given more old now new p error went (next, inr (io, piece, later, f, then, part)) =
+    (more ++ next, inr (io, piece, later, fails_both ahead d start given more next piece p f, Appends-trans old now later more next went then, part))
 
 -- and of raw bytes that come
 pub input_breaks_later : {W : Type 0} (contents : W → Option (List ℕ)) (old now new : Option (List ℕ)) (e : EncoderState) (before : Option (List ℕ)) (raw : List ℕ)
     (w : WriterState W) (error : Error) → Consumes old now raw → BreaksInput contents now new (and_raw e raw) before w error → BreaksInput contents old new e before w error
-input_breaks_later contents old now new e before raw w error came (io, piece, inl (later, given, t)) =
-    (io, raw ++ piece, inl (later, Consumes-trans old now later raw piece came given, taken_both contents e before raw piece w t))
-input_breaks_later contents old now new e before raw w error came (io, piece, inr (given, f)) =
-    (io, raw ++ piece, inr (Consumes-trans old now new raw piece came given, failed_both contents e before raw piece w f))
+input_breaks_later contents old now new e before raw w error came (io, piece, given, inl t) =
+    (io, raw ++ piece, Consumes-trans old now new raw piece came given, inl (taken_both contents e before raw piece w t))
+input_breaks_later contents old now new e before raw w error came (io, piece, given, inr f) =
+    (io, raw ++ piece, Consumes-trans old now new raw piece came given, inr (failed_both contents e before raw piece w f.0, f.1))
 
 -- two facts of a success
 pub both_ok : {T E : Type 0} (P Q : Type 0) (r : Result T E) → OnOk r P → OnOk r Q → OnOk r (P × Q)
 both_ok P Q (Ok x) p q = (p, q)
 both_ok P Q (Err e) p q = tt
+
+-- a refusal, and a fact of each refusal
+pub refusal_and : {T E : Type 0} (P : E → Type 0) (Q : Type 0) (r : Result T E) → IfErr r P → OnErr r Q → IfErr r (λ e. P e × Q)
+refusal_and P Q (Ok x) p q = tt
+refusal_and P Q (Err e) p q = (p, q)
 
 -- what holds of the error that a `?` hands on
 pub handed_and : {T E : Type 0} (P : E → Type 0) {e : E} (r : Result T E) → IsErrAnd r (λ y. y ≡ e) → P e → IsErrAnd r P
@@ -130,3 +148,9 @@ unfolding HasGiven
 rows_are d now bytes stride k n given more p h before long =
     rows_next (front_image d.channels d.header bytes) given more stride k n (length more)
     (take_all (length more) more (omega arith) ∙ piece_follows d.channels d.header bytes given more h.front) before long long
+
+-- the reader's rows are those of its decoder
+pub rows_same : {R : Type 0} (d : DecoderState R) (start now : Option (List ℕ)) (given : List ℕ) (p : PixelsState R) (rows : ℕ) → HasGiven d start now given p
+    → rows_size p rows ≡ row_size d.channels d.header * rows
+unfolding HasGiven
+rows_same d start now given p rows h = ap (λ x. row_size x p.header * rows) h.channels ∙ ap (λ x. row_size d.channels x * rows) h.header

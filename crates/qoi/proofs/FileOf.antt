@@ -24,7 +24,7 @@ use Rattle.qoi.proofs.format.WholePixels.{by_channels, take_whole}
 use Rattle.qoi.proofs.decoding.Ahead.{stands_after}
 use Rattle.qoi.proofs.decoding.FrontImage.{file_image_is, file_rest_is, decodes_file}
 use Rattle.qoi.proofs.decoding.ImageSize.{channels_are}
-use Rattle.qoi.proofs.decoding.Tiles.{tile_put, sent_image, sent_kept, sent_known, sent_stay}
+use Rattle.qoi.proofs.decoding.Tiles.{picture_put, tile_put, sent_header, sent_image, sent_kept, sent_known, sent_pictures, sent_stay}
 use Rattle.qoi.proofs.format.HeaderBytes.{accepted_says}
 use Rattle.qoi.proofs.format.RawPixels.{pixels_of_are, pixels_of_have, length-pixels_of, output-pixels_of}
 use Rattle.qoi.proofs.encoding.styles.StyleLists.{list_written, style_chunks, style_means, style_unique, style_reaches, style_fits, style_length, style_exact, style_apart, style_regular, style_upper}
@@ -268,6 +268,9 @@ sends_file e bytes old new n f is sent = record {
   stay = sent_stay bytes old new sent;
   put = λ before after was is. tile_put e.style e.header e.raw bytes before after f (sent_known bytes old new sent before after was is);
   kept = sent_kept bytes old new sent;
+  header = sent_header e.style e.header e.raw bytes old new f sent;
+  picture = λ before after was is. picture_put e.style e.header e.raw bytes before after f (sent_known bytes old new sent before after was is);
+  pictures = sent_pictures bytes old new sent;
 }
 
 -- or a beginning of it

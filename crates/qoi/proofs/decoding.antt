@@ -12,7 +12,7 @@ pub mod InPlace
 pub mod Marks
 pub mod PieceSteps
 pub mod PixelPieces
-pub mod Places
+pub mod Points
 pub mod Progress
 pub mod Promised
 pub mod Refusals

@@ -12,7 +12,7 @@ use Rattle.qoi.specs.Verdicts.{IsWhole, AreCut, AreWrong}
 use Rattle.qoi.specs.Decoding.{DecodesFile, ReadsImage, RefusesImage, RefusesFile, TakesBytes, TakesHeader, RefusesTakenHeader, least_byte_count}
 use Rattle.qoi.specs.EncoderState.{EncoderState}
 use Rattle.qoi.specs.Sent.{MakesFile}
-use Rattle.qoi.specs.Tiles.{HasTile}
+use Rattle.qoi.specs.Tiles.{HasTile, HasPicture}
 use Rattle.qoi.specs.DecoderState.{DecoderState, output_byte_count, TakesAtMost}
 use Rattle.qoi.specs.Reading.{IsDecoderOf, IsImage, StandsAhead}
 use Rattle.qoi.specs.Images.{front_image, front_rest, file_image, file_image_in, file_rest, BeginsWithFile}
@@ -110,6 +110,8 @@ pub record HasDecodedFile (bytes : List ℕ) (h : Header) (out : List ℕ) : Typ
   pub rest_then : (more : List ℕ) → file_rest (bytes ++ more) ≡ file_rest bytes ++ more
   -- behind other bytes, the file is a tile
   pub put : (before after : List ℕ) → after ≡ before ++ bytes → HasTile after (length before) out
+  -- and a picture with this header
+  pub picture : (before after : List ℕ) → after ≡ before ++ bytes → HasPicture after (length before) h out
   -- there are `n_bytes` raw bytes
   pub size : HasImageLength (capped_byte_count h) out
   -- for each of the bytes at most 62 pixels, and 248 raw bytes
@@ -129,6 +131,8 @@ pub record HasRefusedFile (bytes : List ℕ) (e : Error) : Type 0 where
   pub why : RefusesFile bytes e
   -- no file stands at their front
   pub not_file : (h : Header) (cs : List Chunk) (rest : List ℕ) → IsFile h cs → bytes ≡ file h cs ++ rest → ⊥
+  -- in one word
+  pub not_begins : BeginsWithFile bytes → ⊥
   -- so they aren't the file of an image
   pub not_whole : (style : Style) (h : Header) (raw : List ℕ) → IsFileOf style h raw bytes → ⊥
   -- nor does one stand at their front

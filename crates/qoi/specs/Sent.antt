@@ -2,14 +2,14 @@
 -- or sent to a writer. A record's meaning is its fields up to `same` (`HasFileLength`), `file`
 -- (`MakesFile`), `new_is` (`PutsFile`), `sent` (`SendsFile`, `SendsPart`), all (`SendsSomeFile`)
 -- and `makes` (`IsFileFor`). The other fields follow from these; callers need them at hand.
-use Rattle.std.specs.Prelude.{◌≡◌, ℕ, ◌≤◌, List, ◌++◌, take, drop, length, slice_set, Option, Some, IfSome, Ok}
+use Rattle.std.specs.Prelude.{◌≡◌, ℕ, ◌≤◌, List, ◌++◌, take, drop, length, slice_set, Option, Some, IfSome, Result, Ok}
 use Rattle.qoi.specs.Styles.{Style, Reference, Places, Tight}
-use Rattle.qoi.specs.Qoi.{ColorSpace, Srgb, Header, AreBytes, IsValid, colorspace_at, colorspace_number}
+use Rattle.qoi.specs.Qoi.{Error, ColorSpace, Srgb, Header, header_of, AreBytes, IsValid, colorspace_at, colorspace_number}
 use Rattle.qoi.specs.Encoded.{image_file, image_header, IsFileLength, IsFileOf, IsShortest}
 use Rattle.qoi.specs.Images.{file_image}
 use Rattle.qoi.specs.Raw.{image_byte_count}
 use Rattle.qoi.specs.EncoderState.{EncoderState, free_encoder}
-use Rattle.qoi.specs.Tiles.{HasTile}
+use Rattle.qoi.specs.Tiles.{HasTile, HasPicture}
 use Rattle.qoi.specs.Writers.{AppendsBeginning}
 use Rattle.std.specs.Io.KnownBytes.{Appends}
 
@@ -80,6 +80,14 @@ pub record SendsFile (e : EncoderState) (old new : Option (List ℕ)) (n : ℕ) 
   pub put : (before after : List ℕ) → old ≡ Some before → new ≡ Some after → HasTile after (length before) e.raw
   -- and tiles before it stay
   pub kept : IfSome old (λ before. IfSome new (λ after. (offset : ℕ) (tile : List ℕ) → HasTile before offset tile → HasTile after offset tile))
+  -- the same with headers: the encoder's is read from where the file was put
+  pub header : (head : Result Header Error) (before : List ℕ) → head ≡ Ok e.header → old ≡ Some before
+      → IfSome new (λ after. header_of (drop (length before) after) ≡ head)
+  -- the file is a picture there
+  pub picture : (before after : List ℕ) → old ≡ Some before → new ≡ Some after → HasPicture after (length before) e.header e.raw
+  -- and pictures before it stay
+  pub pictures : IfSome old (λ before. IfSome new (λ after. (offset : ℕ) (h : Header) (raw : List ℕ) → HasPicture before offset h raw
+      → HasPicture after offset h raw))
 
 -- The file of some image with this header, which is valid, in this style, was sent to a writer: of raw
 -- bytes that the contract doesn't tell, of the right number.

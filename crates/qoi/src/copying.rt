@@ -10,6 +10,7 @@ ghost use Rattle.qoi.specs.Rectangles.{rectangle, row_size};
 ghost use Rattle.qoi.specs.pieces.Copying.{rows_size, Gives, Takes, BreaksCopy};
 ghost use Rattle.qoi.specs.pieces.PixelReader.{pixels_left, HasGiven, HasRows, IsSpent};
 ghost use Rattle.qoi.specs.pieces.PixelWriter.{raw_left, and_raw, HasTaken, HasFailed};
+ghost use Rattle.qoi.specs.pieces.Sizes.{copied_at_once};
 
 mod raw;
 
@@ -18,7 +19,9 @@ use crate::encode::PixelWriter;
 use crate::error::{Error, Result};
 use std::io::Write;
 
-// How many raw bytes go at once.
+// How many raw bytes go at once: no more than `copied_at_once`, by the clauses `refused`. By hand
+// have to follow PIECE of fuzz/session.h, the numbers in comments and on the pages, and the
+// tests of readers and writers that fail.
 const PIECE: usize = 4096;
 
 impl<R: Reader> PixelReader<R> {
@@ -26,10 +29,14 @@ impl<R: Reader> PixelReader<R> {
     /// allocates nothing. It doesn't finish the writer, which may take further images. Raw bytes
     /// are copied as they come: whether both sides have the same channels isn't asked.
     ///
-    /// Refusals, in this order: `IoError` if the writer reported a fault before;
-    /// `InvalidImageLength` if more bytes are left than the writer takes; and then nothing is read.
-    /// Else those of `read`, behind which the writer has what was read before, and those of
-    /// `write`.
+    /// Refusals, in this order: `IoError` of kind `BrokenPipe` if the writer reported a fault
+    /// before; `InvalidImageLength` if more bytes are left than the writer takes; and then nothing
+    /// is read. Else those of `read`, behind which the writer has what was read before and takes
+    /// more; and `IoError` as in `write`. Then the reader stands behind the piece with which the
+    /// writer failed, of at most 4,096 bytes, perhaps within a row: `left` says where. It goes on
+    /// there, to another writer.
+    ///
+    /// Whose an `IoError` is, `writer.write(&[])` tells: it is one, too, if the writer failed.
     ///
     /// ```
     /// let mut pixels = Decoder::from_buf_read(reader)?.into_pixels();
@@ -102,8 +109,9 @@ impl<R: Reader> PixelReader<R> {
     /// Copies the next rows of the image to a writer of pieces, so many: `copy_to` for a part. It
     /// counts from where the reader stands, which may be within a row.
     ///
-    /// `UnexpectedBufferEnd` if fewer are left, and then nothing is read; else the refusals are
-    /// those of `copy_to`.
+    /// `UnexpectedBufferEnd` if fewer are left, and then nothing is read: compare `left` first, as a
+    /// cut image is refused by the same error. Else the refusals, and what they leave, are those of
+    /// `copy_to`.
     ///
     /// ```
     /// let mut pixels = index.rows(file, 4000)?;
@@ -237,6 +245,7 @@ impl<R: Reader> PixelReader<R> {
         piece: &mut [u8],
     ) -> Result<()>
         requires fits { length piece.old ≤ pixels_left self.old }
+        requires short { length piece.old ≤ copied_at_once }
         requires room { length piece.old ≤ raw_left writer.old }
         ensures given { OnOk result (Gives R.ahead piece.new self.old self.new) }
         ensures taken { OnOk result (Takes W.contents piece.new writer.old writer.new) }

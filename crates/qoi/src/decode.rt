@@ -31,7 +31,7 @@ pub use crate::decode::pixel_reader::mark::Mark;
 pub use crate::decode::pixel_reader::row_index::RowIndex;
 use crate::decode::reader::Conversion;
 pub use crate::decode::reader::{Buffered, Bytes, Reader};
-pub(crate) use crate::decode::stream::read_exact;
+pub(crate) use crate::decode::stream::ended;
 use crate::error::{Error, Result};
 use crate::header::Header;
 use crate::types::Channels;
@@ -194,8 +194,12 @@ impl<R: Read + Drop> Decoder<R> {
     /// `decode_header` on them. After a refusal the reader is dropped, so no contract can say where
     /// it stood.
     ///
+    /// If a later call refuses the image, don't decode it again: the reader stands after the bytes
+    /// that were read, mostly within a chunk, and what is decoded there is other pixels, or another
+    /// error. Start anew, with a reader that stands at the beginning of the file.
+    ///
     /// A decoder asks its reader for a chunk's few bytes at a time, and never for a byte past the
-    /// end marker. For a reader with a buffer `from_buf_read` is three times as fast.
+    /// end marker. For a reader with a buffer `from_buf_read` is several times as fast.
     pub fn from_stream(mut reader: R) -> Result<Decoder<R>>
         // A success: the fourteen bytes of a valid header were taken. (`R.ahead`, of which the
         // methods speak, is `R.remaining` of a stream.)
@@ -235,7 +239,8 @@ impl<R: BufRead + Drop> Decoder<Buffered<R>> {
     /// bytes are taken and no more. The channels are the header's.
     ///
     /// Refusals, in this order: `IoError` if fourteen bytes can't be read, and then those of
-    /// `decode_header` on them. After a refusal the reader is dropped, as in `from_stream`.
+    /// `decode_header` on them. After a refusal the reader is dropped, as in `from_stream`. Nor can
+    /// an image be decoded again that a later call refused.
     ///
     /// A decoder goes over the bytes that the reader's buffer shows, and takes those of whole
     /// chunks and never a byte past the end marker. With a buffer of some kilobytes, as in a
@@ -351,8 +356,9 @@ impl<R: Reader> Decoder<R> {
     /// dropped.
     ///
     /// After a refusal the header and the channels are as before. So are the bytes ahead in a
-    /// slice; a reader stands after the bytes that were read. The first `required_buf_len` bytes of
-    /// the buffer may then be overwritten; later bytes never are.
+    /// slice; a reader stands after the bytes that were read, where no image can be decoded
+    /// (`from_stream`). The first `required_buf_len` bytes of the buffer may then be overwritten;
+    /// later bytes never are.
     pub fn decode_to_buf(&mut self, buf: &mut [u8]) -> Result<usize>
         // A success: the image at the front of the bytes ahead stands in the front of the buffer.
         ensures decoded { IfOk result (λ size. (size ≡ output_byte_count self.old)

@@ -327,8 +327,8 @@ impl<'a> Encoder<'a> {
     /// written. The writer isn't flushed.
     ///
     /// `IoError` if the writer reports a fault (an interruption is one) or takes no byte (kind
-    /// `WriteZero`); then a beginning of the file was written. The file is written in pieces of
-    /// 4096 bytes and a last one of the rest.
+    /// `WriteZero`); then a beginning of the file was written, behind which a further call writes it
+    /// all. The file is written in pieces of 4096 bytes and a last one of the rest.
     pub fn encode_to_stream<W: Write>(&self, writer: &mut W) -> Result<usize>
         // A success: all of the file was sent.
         ensures sent { IfOk result

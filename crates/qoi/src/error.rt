@@ -47,7 +47,7 @@ pub enum Error {
         required: usize,
     },
     /// The input slice ends before header, chunks and end marker are whole, a mark or a row isn't in
-    /// it, or a `PixelReader` refused the image before.
+    /// it, or a `PixelReader` refused the image before or has fewer rows than are to be copied.
     UnexpectedBufferEnd,
     /// The eight bytes after the chunks aren't the end marker.
     InvalidPadding,

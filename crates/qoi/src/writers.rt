@@ -202,8 +202,8 @@ impl<'a, W: Write> Writer for GenericWriter<'a, W> {
 
     ghost laws = { wrote_laws _ _ _ _ };
 
-    /// Writes by one call of `write`. A write that takes no byte is a fault of kind `WriteZero`,
-    /// and an interruption is a fault.
+    /// Writes by one call of `write`. A write that takes no byte is a fault, whose kind is then
+    /// `WriteZero`.
     fn write_one(&mut self, v: u8) -> Result<()> {
         if self.writer.write(&[v])? == 0 {
             return Err(no_byte_taken());
@@ -213,7 +213,7 @@ impl<'a, W: Write> Writer for GenericWriter<'a, W> {
     }
 
     /// Writes by `write`, again after each short write. A write that takes no byte is a fault of
-    /// kind `WriteZero`, and an interruption is a fault.
+    /// kind `WriteZero`.
     fn write_many(&mut self, v: &[u8]) -> Result<()> {
         let mut rest = v;
         while !rest.is_empty() {

@@ -1,22 +1,47 @@
 -- A store of frames: one is put or found behind the others, the last is cut off, and each is read.
-use Rattle.std.proofs.Common.{◌≡◌, ◌+◌, ◌-◌, ◌<◌, ◌≤◌, ℕ, zero, suc, inl, inr, Option, Some, List, [], ◌∷◌, ◌++◌, length, take, drop, get_or, slice_index, slice_index_or, refl, arith, ap, sym, subst, ◌∙◌, append_assoc}
+use Rattle.std.proofs.Common.{◌≡◌, ◌+◌, ◌-◌, ◌<◌, ◌≤◌, ℕ, zero, suc, inl, inr, Option, Some, List, [], ◌∷◌, ◌++◌, length, take, drop, Ok, get_or, slice_index, slice_index_or, refl, arith, ap, sym, subst, ◌∙◌, append_assoc}
 use Rattle.std.proofs.lemmas.Bool.{cases_lt}
 use Rattle.std.proofs.lemmas.List.{append-nil, length-append, length-drop, length-take-le, take-append-drop, get_or_append_left, append_cancel_right, same_from_push}
 use Rattle.std.proofs.Math.Seq.{get_or-append_seam, take-append_seam, take-append-add}
 use Rattle.qoi.specs.EncoderState.{EncoderState}
-use Rattle.qoi.specs.Qoi.{Header, Chunk, channels_number, file, file_pixels, IsFile}
+use Rattle.qoi.specs.Qoi.{Header, Chunk, channels_number, default_header, file, file_pixels, header_of, IsFile}
 use Rattle.qoi.specs.Sent.{SendsFile}
 use Rattle.qoi.specs.Raw.{output}
 use Rattle.qoi.specs.Decoding.{DecodesFile}
 use Rattle.qoi.specs.Images.{file_image, file_rest, BeginsWithFile}
-use Rattle.qoi.specs.Tiles.{HasTile, AreFrames, none, more}
+use Rattle.qoi.specs.Tiles.{HasPicture, AreFrames, none, more, ArePictures, no_picture, one_more}
 use Rattle.qoi.proofs.decoding.Ahead.{file_ahead}
 use Rattle.qoi.proofs.decoding.FrontImage.{file_image_is, file_rest_is, decodes_file}
-use Rattle.qoi.proofs.decoding.Tiles.{file_put, sent_known, tile_kept, tile_within}
+use Rattle.qoi.proofs.decoding.Tiles.{picture_file, picture_kept, sent_known, tile_within}
 
 -- no frame
 pub no_frames : AreFrames [] [] []
 no_frames = none
+
+-- nor a picture
+pub no_pictures : ArePictures [] [] [] []
+no_pictures = no_picture
+
+-- one picture more, of a file
+picture_more : (bytes offsets new next raw : List ℕ) (headers : List Header) (images : List (List ℕ)) (h : Header) (cs : List Chunk)
+    → ArePictures bytes offsets headers images → IsFile h cs → new ≡ bytes ++ file h cs → next ≡ offsets ++ length bytes ∷ [] → raw ≡ file_image (file h cs)
+    → ArePictures new next (headers ++ h ∷ []) (images ++ raw ∷ [])
+picture_more bytes offsets new next raw headers images h cs pictures f is grown image =
+    rw (is, grown, image) (one_more bytes offsets headers images h cs pictures f)
+
+-- pictures are frames
+pub pictures_are_frames : (bytes offsets : List ℕ) (headers : List Header) (images : List (List ℕ)) → ArePictures bytes offsets headers images
+    → AreFrames bytes offsets images
+pictures_are_frames _ _ _ _ no_picture = none
+pictures_are_frames _ _ _ _ (one_more bytes offsets headers images h cs pictures f) =
+    more bytes offsets images h cs (pictures_are_frames bytes offsets headers images pictures) f
+
+-- and frames have headers
+pub frames_have_headers : (bytes offsets : List ℕ) (images : List (List ℕ)) → AreFrames bytes offsets images
+    → (headers : List Header) × ArePictures bytes offsets headers images
+frames_have_headers _ _ _ none = ([], no_picture)
+frames_have_headers _ _ _ (more bytes offsets images h cs frames f) =
+    let before = frames_have_headers bytes offsets images frames in (before.0 ++ h ∷ [], one_more bytes offsets before.0 images h cs before.1 f)
 
 -- one frame more, of a file
 frame_more : (bytes offsets new next raw : List ℕ) (images : List (List ℕ)) (h : Header) (cs : List Chunk) → AreFrames bytes offsets images → IsFile h cs
@@ -51,16 +76,25 @@ begins h cs rest f =
       size = ap (λ z. length (file h cs) + length z) left ∙ sym (length-append (file h cs) rest);
     }
 
--- the file of an image is sent behind the frames
+-- the file of an image is sent behind the pictures
+pub picture_sent : (e : EncoderState) (n : ℕ) (before after : Option (List ℕ)) (raw old new offsets next : List ℕ) (headers : List Header)
+    (images : List (List ℕ)) → SendsFile e before after n → before ≡ Some old → after ≡ Some new → ArePictures old offsets headers images → raw ≡ e.raw
+    → next ≡ offsets ++ length old ∷ [] → ArePictures new next (headers ++ e.header ∷ []) (images ++ raw ∷ [])
+picture_sent e n before after raw old new offsets next headers images sends was is pictures own grown =
+    let d : DecodesFile sends.bytes e.header [] e.raw = file_ahead e.style e.header e.raw sends.bytes [] sends.bytes sends.file (sym (append-nil sends.bytes)) in
+    let whole : sends.bytes ≡ file e.header d.cs = d.split ∙ append-nil (file e.header d.cs) in
+    let sent : new ≡ old ++ sends.bytes = sent_known sends.bytes before after sends.sent old new was is in
+    picture_more old offsets new next raw headers images e.header d.cs pictures d.is_file (sent ∙ ap (λ z. old ++ z) whole) grown
+    (own ∙ file_image_is sends.bytes e.header [] e.raw d ∙ ap file_image whole)
+
+-- so it is a frame more
 pub frame_put : (e : EncoderState) (n : ℕ) (before after : Option (List ℕ)) (raw old new offsets next : List ℕ) (images : List (List ℕ))
     → SendsFile e before after n → before ≡ Some old → after ≡ Some new → AreFrames old offsets images → raw ≡ e.raw → next ≡ offsets ++ length old ∷ []
     → AreFrames new next (images ++ raw ∷ [])
 frame_put e n before after raw old new offsets next images sends was is frames own grown =
-    let d : DecodesFile sends.bytes e.header [] e.raw = file_ahead e.style e.header e.raw sends.bytes [] sends.bytes sends.file (sym (append-nil sends.bytes)) in
-    let whole : sends.bytes ≡ file e.header d.cs = d.split ∙ append-nil (file e.header d.cs) in
-    let sent : new ≡ old ++ sends.bytes = sent_known sends.bytes before after sends.sent old new was is in
-    frame_more old offsets new next raw images e.header d.cs frames d.is_file (sent ∙ ap (λ z. old ++ z) whole) grown
-    (own ∙ file_image_is sends.bytes e.header [] e.raw d ∙ ap file_image whole)
+    let have = frames_have_headers old offsets images frames in
+    pictures_are_frames new next (have.0 ++ e.header ∷ []) (images ++ raw ∷ [])
+    (picture_sent e n before after raw old new offsets next have.0 images sends was is have.1 own grown)
 
 -- a file is found behind the frames
 pub frame_found : (bytes offsets next : List ℕ) (images : List (List ℕ)) (at end : ℕ) → AreFrames (take at bytes) offsets images
@@ -84,51 +118,118 @@ frame_count _ _ _ none = refl
 frame_count _ _ _ (more bytes offsets images h cs frames f) =
     length-append images _ ∙ ap (λ n. n + 1) (frame_count bytes offsets images frames) ∙ sym (length-append offsets _)
 
--- a file behind other bytes is a tile
-tile_alone : (h : Header) (cs : List Chunk) (bytes : List ℕ) → IsFile h cs → HasTile (bytes ++ file h cs) (length bytes) (file_image (file h cs))
+-- and as many headers
+pub header_count : (bytes offsets : List ℕ) (headers : List Header) (images : List (List ℕ)) → ArePictures bytes offsets headers images
+    → length headers ≡ length offsets
+header_count _ _ _ _ no_picture = refl
+header_count _ _ _ _ (one_more bytes offsets headers images h cs pictures f) =
+    length-append headers _ ∙ ap (λ n. n + 1) (header_count bytes offsets headers images pictures) ∙ sym (length-append offsets _)
+
+-- a file behind other bytes is a picture
+picture_alone : (h : Header) (cs : List Chunk) (bytes : List ℕ) → IsFile h cs
+    → HasPicture (bytes ++ file h cs) (length bytes) h (file_image (file h cs))
 unfolding raw_of
-tile_alone h cs bytes f =
+picture_alone h cs bytes f =
     let own = file h cs in
     let d = decodes_file h cs own [] (raw_of h cs) f (sym (append-nil own)) refl in
-    subst (λ z. HasTile (bytes ++ own) (length bytes) z) (file_image_is own h [] (raw_of h cs) d) (file_put own h [] (raw_of h cs) bytes (bytes ++ own) d refl)
+    subst (λ z. HasPicture (bytes ++ own) (length bytes) h z) (file_image_is own h [] (raw_of h cs) d)
+    (picture_file own h [] (raw_of h cs) bytes (bytes ++ own) d refl)
 
--- each frame is a tile
-frame_tile : (bytes offsets : List ℕ) (images : List (List ℕ)) (k : ℕ) → AreFrames bytes offsets images → k < length offsets
-    → HasTile bytes (slice_index offsets k) (slice_index_or images k [])
-frame_tile _ _ _ k none below = absurd (omega (arith, below))
-frame_tile _ _ _ k (more bytes offsets images h cs frames f) below =
+-- each of them stands at its offset
+pub picture_at : (bytes offsets : List ℕ) (headers : List Header) (images : List (List ℕ)) (k : ℕ) → ArePictures bytes offsets headers images
+    → k < length offsets → HasPicture bytes (slice_index offsets k) (slice_index_or headers k default_header) (slice_index_or images k [])
+picture_at _ _ _ _ k no_picture below = absurd (omega (arith, below))
+picture_at _ _ _ _ k (one_more bytes offsets headers images h cs pictures f) below =
     let own = file h cs in
-    let count = frame_count bytes offsets images frames in
+    let count = frame_count bytes offsets images (pictures_are_frames bytes offsets headers images pictures) in
+    let heads = header_count bytes offsets headers images pictures in
     elim (cases_lt k (length offsets)) [
       | inl less ↦
-          rw (get_or_append_left offsets (length bytes ∷ []) 0 k less, get_or_append_left images (file_image own ∷ []) [] k (omega (arith, less, count)))
-          (tile_kept (slice_index_or images k []) bytes (bytes ++ own) own (slice_index offsets k) refl (frame_tile bytes offsets images k frames less))
+          rw (
+            get_or_append_left offsets (length bytes ∷ []) 0 k less,
+            get_or_append_left headers (h ∷ []) default_header k (omega (arith, less, heads)),
+            get_or_append_left images (file_image own ∷ []) [] k (omega (arith, less, count)),
+          )
+          (picture_kept (slice_index_or images k []) bytes (bytes ++ own) own (slice_index offsets k) (slice_index_or headers k default_header) refl
+          (picture_at bytes offsets headers images k pictures less))
       | inr least ↦
           let last : k ≡ length offsets = omega (arith, least, below, length-append offsets (length bytes ∷ [])) in
           let at : get_or (offsets ++ length bytes ∷ []) k 0 ≡ length bytes =
           ap (λ n. get_or (offsets ++ length bytes ∷ []) n 0) last ∙ get_or-append_seam offsets (length bytes) [] 0 in
+          let head : get_or (headers ++ h ∷ []) k default_header ≡ h =
+          ap (λ n. get_or (headers ++ h ∷ []) n default_header) (last ∙ sym heads) ∙ get_or-append_seam headers h [] default_header in
           let image : get_or (images ++ file_image own ∷ []) k [] ≡ file_image own =
           ap (λ n. get_or (images ++ file_image own ∷ []) n []) (last ∙ sym count) ∙ get_or-append_seam images (file_image own) [] [] in
-          rw (at, image) (tile_alone h cs bytes f)
+          rw (at, head, image) (picture_alone h cs bytes f)
     ]
 
--- so its image is read at its offset
+-- so each frame's image is read at its offset
 pub frame_read : (bytes offsets : List ℕ) (images : List (List ℕ)) (k : ℕ) → AreFrames bytes offsets images → k < length offsets
     → file_image (drop (slice_index offsets k) bytes) ≡ slice_index_or images k []
-frame_read bytes offsets images k frames below = (frame_tile bytes offsets images k frames below).image
+frame_read bytes offsets images k frames below =
+    let have = frames_have_headers bytes offsets images frames in (picture_at bytes offsets have.0 images k have.1 below).image
 
 -- which lies within the bytes
 pub frame_within : (bytes offsets : List ℕ) (images : List (List ℕ)) (k : ℕ) → AreFrames bytes offsets images → k < length offsets
     → slice_index offsets k ≤ length bytes
 frame_within bytes offsets images k frames below =
-    tile_within bytes (slice_index_or images k []) (slice_index offsets k) (frame_tile bytes offsets images k frames below)
+    let have = frames_have_headers bytes offsets images frames in
+    tile_within bytes (slice_index_or images k []) (slice_index offsets k) (picture_at bytes offsets have.0 images k have.1 below).tile
 
 -- and its file stands there
 pub frame_stands : (bytes offsets : List ℕ) (images : List (List ℕ)) (k : ℕ) → AreFrames bytes offsets images → k < length offsets
     → BeginsWithFile (drop (slice_index offsets k) bytes)
 frame_stands bytes offsets images k frames below =
-    let tile = frame_tile bytes offsets images k frames below in
-    subst BeginsWithFile (sym tile.decodes.split) (begins tile.header tile.decodes.cs tile.rest tile.decodes.is_file)
+    let have = frames_have_headers bytes offsets images frames in (picture_at bytes offsets have.0 images k have.1 below).stands
+
+-- the header of a picture is read at its offset
+pub picture_header : (bytes offsets : List ℕ) (headers : List Header) (images : List (List ℕ)) (k : ℕ) → ArePictures bytes offsets headers images
+    → k < length offsets → header_of (drop (slice_index offsets k) bytes) ≡ Ok (slice_index_or headers k default_header)
+picture_header bytes offsets headers images k pictures below = (picture_at bytes offsets headers images k pictures below).header
+
+-- and its image
+pub picture_read : (bytes offsets : List ℕ) (headers : List Header) (images : List (List ℕ)) (k : ℕ) → ArePictures bytes offsets headers images
+    → k < length offsets → file_image (drop (slice_index offsets k) bytes) ≡ slice_index_or images k []
+picture_read bytes offsets headers images k pictures below = (picture_at bytes offsets headers images k pictures below).image
+
+-- within the bytes
+pub picture_within : (bytes offsets : List ℕ) (headers : List Header) (images : List (List ℕ)) (k : ℕ) → ArePictures bytes offsets headers images
+    → k < length offsets → slice_index offsets k ≤ length bytes
+picture_within bytes offsets headers images k pictures below =
+    tile_within bytes (slice_index_or images k []) (slice_index offsets k) (picture_at bytes offsets headers images k pictures below).tile
+
+-- where its file stands
+pub picture_stands : (bytes offsets : List ℕ) (headers : List Header) (images : List (List ℕ)) (k : ℕ) → ArePictures bytes offsets headers images
+    → k < length offsets → BeginsWithFile (drop (slice_index offsets k) bytes)
+picture_stands bytes offsets headers images k pictures below = (picture_at bytes offsets headers images k pictures below).stands
+
+-- there are as many images as offsets
+pub picture_count : (bytes offsets : List ℕ) (headers : List Header) (images : List (List ℕ)) → ArePictures bytes offsets headers images
+    → length images ≡ length offsets
+picture_count bytes offsets headers images pictures = frame_count bytes offsets images (pictures_are_frames bytes offsets headers images pictures)
+
+-- the last picture is cut off from pictures that are given by equations
+picture_cut_at : (bytes offsets fewer last : List ℕ) (all headers : List Header) (h : Header) (images before : List (List ℕ)) (at : ℕ)
+    → ArePictures bytes offsets all images → all ≡ headers ++ h ∷ [] → images ≡ before ++ last ∷ [] → offsets ≡ fewer ++ at ∷ []
+    → ArePictures (take at bytes) fewer headers before
+picture_cut_at _ _ fewer last _ headers h _ before at no_picture heads images_are are = absurd (omega (arith, ap length are, length-append fewer (at ∷ [])))
+picture_cut_at _ _ fewer last _ heads_before k _ before at (one_more bytes offsets headers images h cs pictures f) heads images_are are =
+    let whole : take at (bytes ++ file h cs) ≡ bytes =
+    ap (λ n. take n (bytes ++ file h cs)) (sym (same_from_push offsets fewer (length bytes) at are).1) ∙ take-append_seam bytes (file h cs) in
+    rw (
+      whole,
+      sym (same_from_push offsets fewer (length bytes) at are).0,
+      sym (same_from_push headers heads_before h k heads).0,
+      sym (same_from_push images before (file_image (file h cs)) last images_are).0,
+    )
+    pictures
+
+-- the last picture is cut off
+pub last_picture : (bytes offsets fewer new last : List ℕ) (headers : List Header) (h : Header) (images : List (List ℕ)) (at : ℕ)
+    → ArePictures bytes offsets (headers ++ h ∷ []) (images ++ last ∷ []) → offsets ≡ fewer ++ at ∷ [] → new ≡ take at bytes
+    → ArePictures new fewer headers images
+last_picture bytes offsets fewer new last headers h images at pictures is cut =
+    rw cut (picture_cut_at bytes offsets fewer last (headers ++ h ∷ []) headers h (images ++ last ∷ []) images at pictures refl refl is)
 
 -- the last frame is cut off from frames that are given by equations
 cut_at : (bytes offsets fewer last : List ℕ) (images before : List (List ℕ)) (at : ℕ) → AreFrames bytes offsets images

@@ -9,6 +9,7 @@ use Rattle.qoi.specs.inner.Chunks.{Conversion, RefusesFilling}
 use Rattle.qoi.specs.Raw.{IsChannels}
 use Rattle.qoi.specs.inner.Filling.{Reached, HasWritten, reached, filling}
 use Rattle.qoi.specs.inner.Hashed.{pixel_of_lanes}
+use Rattle.qoi.specs.pieces.Sizes.{decoded_ahead}
 use Rattle.qoi.specs.pieces.Unread.{Refused, Unread, kept_raw, bytes_left, KeepsPixels, IsUnread, AreEnough, GivesMore, RefusesMore, Asks, Steps, TakesInPlace, IsInPlace}
 use Rattle.qoi.proofs.decoding.PieceSteps.{Lent, gives, kept_long, minus_whole, piece_lent, piece_read, placed_most, read_two}
 use Rattle.qoi.proofs.format.WholePixels.{by_channels}
@@ -100,14 +101,14 @@ faulted Why is why = rw is why
 
 -- pixels that are enough are those of an output, too
 enough_lent : {f c n m all : ℕ} {start ahead : Option (List ℕ)} {given : List ℕ} {p : Unread} {out : List ℕ} {at : ℕ} (size : ℕ) → IsChannels c
-    → (l : Lent f c n m start ahead given p out at) → length out ≤ size + 3072 → AreEnough c n (length given + size) all → length l.gone + m ≤ all
+    → (l : Lent f c n m start ahead given p out at) → length out ≤ size + decoded_ahead → AreEnough c n (length given + size) all → length l.gone + m ≤ all
 enough_lent {n = n} {m} {all} {given = given} {out = out} size is l fits enough =
-    by_channels (λ k. k * (length l.gone + m) ≡ length given + length out → min (length given + size + 3072) (n * k) ≤ all * k → length l.gone + m ≤ all) is
+    by_channels (λ k. k * (length l.gone + m) ≡ length given + length out → min (length given + size + decoded_ahead) (n * k) ≤ all * k → length l.gone + m ≤ all) is
     (λ a b. omega (arith, a, b, fits, l.most)) (λ a b. omega (arith, a, b, fits, l.most)) l.ends enough.1
 
 -- chunks were refused for an output that was lent
 pub refuses_lent : {f c m at size : ℕ} {in_memory : Bool} {ahead rest : Option (List ℕ)} {p : Unread} {out : List ℕ} {fault : Option Error} {e : Error}
-    → IsChannels c → length out ≤ size + 3072 → ((n : ℕ) (start : Option (List ℕ)) (given : List ℕ) → IsUnread f c n start ahead given p → Lent f c n m start ahead given p out at)
+    → IsChannels c → length out ≤ size + decoded_ahead → ((n : ℕ) (start : Option (List ℕ)) (given : List ℕ) → IsUnread f c n start ahead given p → Lent f c n m start ahead given p out at)
     → RefusesFilling f c in_memory ahead rest (filling p.table (reached p.last at) out) e → fault ≡ Some e → RefusesMore f c size in_memory ahead rest p fault
 refuses_lent {size = size} channels fits lends why is = record {
   refused = λ n start given h all enough. let l = lends n start given h in faulted _ is (why l.gone _ _ l.before all (enough_lent size channels l fits enough));

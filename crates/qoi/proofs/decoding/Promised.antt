@@ -10,7 +10,7 @@ use Rattle.qoi.proofs.format.OneVerdict.{cut_not_wrong, whole_not_cut, whole_not
 use Rattle.std.proofs.Math.Nat.{mul_comm}
 use Rattle.std.proofs.lemmas.List.{append-nil, append_assoc, length-append, length-drop, take-append-drop, take_at}
 use Rattle.qoi.specs.declared.types.Channels.TheVariants.{Rgb, Rgba}
-use Rattle.qoi.specs.Qoi.{Error, UnexpectedBufferEnd, InvalidPadding, IoError, Chunk, Header, Channels, channels_number, pixel_count, header_size, header_of, IsValid, AreBytes, file}
+use Rattle.qoi.specs.Qoi.{Error, UnexpectedBufferEnd, InvalidPadding, IoError, Chunk, Header, Channels, channels_number, pixel_count, header_size, header_of, IsFile, IsValid, AreBytes, file}
 use Rattle.qoi.specs.Raw.{HasImageLength, capped_byte_count, image_byte_count, byte_count}
 use Rattle.qoi.specs.DecoderState.{DecoderState, output_byte_count}
 use Rattle.qoi.specs.inner.Chunks.{Conversion, conversion_of, ReadsIn}
@@ -24,7 +24,7 @@ use Rattle.qoi.proofs.decoding.FrontImage.{file_image_is, file_rest_is, file_res
 use Rattle.qoi.proofs.decoding.ImageSize.{bounded_by, channels_are, image_length, pixels_of_size}
 use Rattle.qoi.proofs.format.HeaderBytes.{header_front as header_at_front}
 use Rattle.qoi.proofs.decoding.Refusals.{whole_not_refused, whole_not_refused_in}
-use Rattle.qoi.proofs.decoding.Tiles.{file_put}
+use Rattle.qoi.proofs.decoding.Tiles.{file_in_front, file_put, picture_file}
 
 -- cut bytes in memory are refused for their end
 pub cut_in_memory : (n : ℕ) (bytes : List ℕ) (e : Error) → AreCut n bytes → RefusesBytes n bytes e → e ≡ UnexpectedBufferEnd
@@ -203,12 +203,6 @@ not_part bytes h rest out f style other raw whole n g part below =
     let size : length rest + length (drop n whole) ≡ 0 = sym (length-append rest (drop n whole)) ∙ ap length same in
     omega (arith, size, length-drop n whole)
 
--- bytes from which a file is decoded begin with it
-file_in_front : (bytes : List ℕ) (h : Header) (rest out : List ℕ) → DecodesFile bytes h rest out → BeginsWithFile bytes
-file_in_front bytes h rest out f =
-    let split : bytes ≡ file h f.cs ++ file_rest bytes = f.split ∙ ap (λ z. file h f.cs ++ z) (file_rest_is bytes h rest out f) in
-    record { header = h; cs = f.cs; is_file = f.is_file; split = split; size = sym (ap length split ∙ length-append (file h f.cs) (file_rest bytes)) }
-
 -- what a decoder made of the bytes decodes is the file at their front
 pub has_decoded_file : (bytes : List ℕ) (d : DecoderState (List ℕ)) (left out : List ℕ) → AreBytes bytes → header_of bytes ≡ Ok d.header
     → d.channels ≡ d.header.channels → d.reader ≡ drop header_size bytes → HasDecoded d (Some d.reader) (Some left) out → HasDecodedFile bytes d.header out
@@ -225,6 +219,7 @@ has_decoded_file bytes d left out fits read own after decoded =
       image_then = λ more. sym (file_image_is (bytes ++ more) h (left ++ more) out (decodes_more bytes more h left out f));
       rest_then = λ more. file_rest_then bytes more h left out f;
       put = λ before after is. file_put bytes h left out before after f is;
+      picture = λ before after is. picture_file bytes h left out before after f is;
       size = (size ∙ sym (capped_is h f.is_file.valid), decoded.size.1);
       per_byte = bounded_by (pixel_count h) (length out) h.channels d.reader bytes decoded.enough
           (omega (arith, ap length after, length-drop header_size bytes)) (omega (arith, size));
@@ -256,9 +251,12 @@ has_refused_file bytes e why =
     (λ style h raw front rest f split.
     let d = file_ahead style h raw front rest bytes f split in
     not_refused bytes e why h d.cs rest d.header d.whole) in
+    let not_file : (h : Header) (cs : List Chunk) (rest : List ℕ) → IsFile h cs → bytes ≡ file h cs ++ rest → ⊥ =
+    (λ h cs rest f split. not_refused bytes e why h cs rest (file_has_header h cs bytes rest f split) (file_is_whole h cs bytes rest f split)) in
     record {
       why = why;
-      not_file = λ h cs rest f split. not_refused bytes e why h cs rest (file_has_header h cs bytes rest f split) (file_is_whole h cs bytes rest f split);
+      not_file = not_file;
+      not_begins = λ begins. not_file begins.header begins.cs (file_rest bytes) begins.is_file begins.split;
       not_whole = λ style h raw f. not_front style h raw bytes [] f (sym (append-nil bytes));
       not_front = not_front;
       cut = λ h read cut. cut_in_memory (pixel_count h) (drop header_size bytes) e cut (why_after bytes e why h read);

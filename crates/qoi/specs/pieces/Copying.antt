@@ -1,14 +1,16 @@
 -- What a contract says of raw bytes that are copied from a pixel reader, or to a pixel writer.
-use Rattle.std.specs.Prelude.{◌≡◌, ℕ, ◌*◌, List, ◌++◌, Option, Bool, IsTrue, ◌⊎◌}
+use Rattle.std.specs.Prelude.{◌≡◌, ℕ, ◌+◌, ◌*◌, ◌≤◌, min, List, ◌++◌, length, Option, Some, Bool, IsTrue, ◌⊎◌}
 use Rattle.std.specs.Io.KnownBytes.{Appends, Consumes, Keeps}
-use Rattle.qoi.specs.Qoi.{Error}
+use Rattle.qoi.specs.Qoi.{Error, pixel_count, channels_number}
 use Rattle.qoi.specs.Rectangles.{row_size}
 use Rattle.qoi.specs.Errors.{IsIoError}
 use Rattle.qoi.specs.Writers.{AppendsBeginning}
-use Rattle.qoi.specs.DecoderState.{DecoderState}
+use Rattle.qoi.specs.Decoding.{RefusesBytes}
+use Rattle.qoi.specs.DecoderState.{DecoderState, output_byte_count}
 use Rattle.qoi.specs.EncoderState.{EncoderState}
 use Rattle.qoi.specs.pieces.PixelReader.{PixelsState, pixels_left, HasGiven, RefusesPixels, IsSpent}
 use Rattle.qoi.specs.pieces.PixelWriter.{WriterState, and_raw, HasTaken, HasFailed}
+use Rattle.qoi.specs.pieces.Sizes.{copied_at_once, decoded_ahead}
 
 -- how many raw bytes so many rows of the reader's image have
 abbrev pub rows_size : {R : Type 0} → PixelsState R → ℕ → ℕ
@@ -34,24 +36,42 @@ pub record StopsBehind {R : Type 0} (in_memory : Bool) (ahead : R → Option (Li
   pub spent : IsSpent p
   pub left : pixels_left p ≡ pixels_left was
   pub kept : IsTrue in_memory → Keeps (ahead was.reader) (ahead p.reader)
+  -- In memory no more counts than one more piece and what may be decoded ahead of it: the bytes are
+  -- refused as an image of n pixels, too, if these go so far or are all.
+  pub early : IsTrue in_memory → (bytes : List ℕ) (n : ℕ) → start ≡ Some bytes → n ≤ pixel_count d.header
+      → min (length given + length more + copied_at_once + decoded_ahead) (output_byte_count d) ≤ n * channels_number d.channels
+      → RefusesBytes n bytes error
+
+-- Of the decoder's image the raw bytes `given` were read, then `more`, and then a piece with which a writer
+-- failed. The reader p counts that piece as unread, and gives no more of the image.
+pub record FailsBehind {R : Type 0} (ahead : R → Option (List ℕ)) (d : DecoderState R) (start : Option (List ℕ)) (given more piece : List ℕ) (p : PixelsState R) : Type 0 where
+  -- the reader as it stood behind the piece
+  pub was : PixelsState R
+  pub read : HasGiven d start (ahead was.reader) (given ++ (more ++ piece)) was
+  -- and as it stands at the end
+  pub reader : p.reader ≡ was.reader
+  pub spent : IsSpent p
+  pub left : pixels_left p ≡ pixels_left was + length piece
+  pub short : length piece ≤ copied_at_once
 
 -- A copy to a pixel writer broke off: the image was refused, behind bytes that the writer took, or the
--- writer failed, with bytes that were read.
+-- writer failed, and the reader goes on behind the bytes that the writer was given, of which a piece may be lost.
 abbrev pub BreaksCopy : {R W : Type 0} → Bool → (R → Option (List ℕ)) → (W → Option (List ℕ)) → DecoderState R → Option (List ℕ) → List ℕ → EncoderState → Option (List ℕ) → PixelsState R → WriterState W → Error → Type 0
 BreaksCopy in_memory ahead contents d start given e before p w error = (more : List ℕ)
     × ((StopsBehind in_memory ahead d start given more p error × HasTaken contents (and_raw e more) before w)
-    ⊎ (IsIoError error × HasGiven d start (ahead p.reader) (given ++ more) p × HasFailed contents (and_raw e more) before w))
+    ⊎ (IsIoError error × HasGiven d start (ahead p.reader) (given ++ more) p × HasFailed contents (and_raw e more) before w
+    × (w.came ≤ copied_at_once)))
 
 -- A copy of raw bytes to any writer broke off: the image was refused, behind bytes that were written, or the
--- writer failed, behind a beginning of those that were read.
+-- writer failed, behind bytes that were written and a beginning of one more piece.
 abbrev pub BreaksRaw : {R : Type 0} → Bool → (R → Option (List ℕ)) → DecoderState R → Option (List ℕ) → List ℕ → Option (List ℕ) → PixelsState R → Option (List ℕ) → Error → Type 0
 BreaksRaw in_memory ahead d start given old p new error = (more : List ℕ)
     × ((StopsBehind in_memory ahead d start given more p error × Appends old new more)
-    ⊎ (IsIoError error × HasGiven d start (ahead p.reader) (given ++ more) p × AppendsBeginning old new more))
+    ⊎ (IsIoError error × (piece : List ℕ) × (now : Option (List ℕ)) × FailsBehind ahead d start given more piece p
+    × Appends old now more × AppendsBeginning now new piece))
 
--- A copy of raw bytes from any reader broke off: the reader failed, behind bytes that it gave and the pixel
--- writer took, or the pixel writer failed with those that the reader gave.
+-- A copy of raw bytes from any reader broke off: the pixel writer was given all bytes that the reader gave, and
+-- took them, or failed with a last piece of them.
 abbrev pub BreaksInput : {W : Type 0} → (W → Option (List ℕ)) → Option (List ℕ) → Option (List ℕ) → EncoderState → Option (List ℕ) → WriterState W → Error → Type 0
-BreaksInput contents old new e before w error = IsIoError error × (raw : List ℕ)
-    × (((later : Option (List ℕ)) × Consumes old later raw × HasTaken contents (and_raw e raw) before w)
-    ⊎ (Consumes old new raw × HasFailed contents (and_raw e raw) before w))
+BreaksInput contents old new e before w error = IsIoError error × (raw : List ℕ) × Consumes old new raw
+    × (HasTaken contents (and_raw e raw) before w ⊎ (HasFailed contents (and_raw e raw) before w × (w.came ≤ copied_at_once)))

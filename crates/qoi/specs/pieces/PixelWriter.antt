@@ -8,13 +8,15 @@ use Rattle.qoi.specs.Sent.{SendsPart}
 use Rattle.qoi.specs.EncoderState.{EncoderState}
 use Rattle.qoi.specs.inner.Sending.{appended, ImageBetween, ImageState}
 
--- the writer as it stands, header and style of the file, how many raw bytes haven't come, whether the
--- writer reported a fault, the raw bytes that are held, and what stands between two blocks
+-- the writer as it stands, header and style of the file, how many raw bytes haven't come, how many came with
+-- the last call, whether the writer reported a fault, the raw bytes that are held, and what stands between two
+-- blocks
 pub record WriterState (W : Type 0) : Type 0 where
   pub writer : W
   pub header : Header
   pub style : Style
   pub left : ℕ
+  pub came : ℕ
   pub failed : Bool
   pub held : List ℕ
   pub pending : ImageState
@@ -46,13 +48,15 @@ HasTaken contents e before p = TakesSoFar contents e before p
 abbrev pub SendsSome : EncoderState → Option (List ℕ) → Option (List ℕ) → Type 0
 SendsSome e before now = (more : List ℕ) → length (e.raw ++ more) ≡ image_byte_count e.header → AreBytes more → SendsPart (and_raw e more) before now
 
--- The pixel writer was made with the style and header of e, over such a writer, and failed after it
--- was given the raw bytes of e, no more than the image has.
+-- The pixel writer was made with the style and header of e, over such a writer, and failed after it was
+-- given the raw bytes of e, no more than the image has and none besides: those of the call that failed were the
+-- last ones, and count as missing.
 pub record HasFailed {W : Type 0} (contents : W → Option (List ℕ)) (e : EncoderState) (before : Option (List ℕ)) (p : WriterState W) : Type 0 where
   pub header_is : p.header ≡ e.header
   pub style_is : p.style ≡ e.style
   pub fails : p.failed ≡ true
   pub size : length e.raw ≤ image_byte_count e.header
+  pub given : length e.raw + p.left ≡ image_byte_count e.header + p.came
   pub part : SendsSome e before (contents p.writer)
 
 -- The error of a pixel writer that had taken the raw bytes of e, and was given others: a fault if they

@@ -5,6 +5,7 @@ pub use Rattle.qoi.specs.declared.decode.pixel_reader.unread.Refused.{Refused}
 use Rattle.qoi.specs.Qoi.{Error, Header, Channels, Past, run_max, channels_number, IsValid}
 use Rattle.qoi.specs.Raw.{output, byte_count}
 use Rattle.qoi.specs.Decoding.{ReadsImage}
+use Rattle.qoi.specs.pieces.Sizes.{decoded_ahead}
 use Rattle.qoi.specs.inner.Chunks.{RefusesChunks}
 use Rattle.qoi.specs.inner.Filling.{Reached, Filling, DecoderAfter, FromAny}
 use Rattle.qoi.specs.inner.Hashed.{pixel_of_lanes}
@@ -65,9 +66,10 @@ pub record GivesMore (file_channels channels : ℕ) (ahead rest : Option (List �
   -- and `fault` is as before
   pub fault : new.fault ≡ old.fault
 
--- of an image of n pixels the first `all` have so many raw bytes and 3,072 more, or are all there are
+-- of an image of n pixels the first `all` have so many raw bytes and as many more as may be decoded ahead, or are
+-- all there are
 abbrev pub AreEnough : ℕ → ℕ → ℕ → ℕ → Type 0
-AreEnough channels n bytes all = (all ≤ n) × (min (bytes + 3072) (n * channels) ≤ all * channels)
+AreEnough channels n bytes all = (all ≤ n) × (min (bytes + decoded_ahead) (n * channels) ≤ all * channels)
 
 -- A step that was to give `size` bytes was refused: `fault` has an error, and of each image it
 -- says why chunks are refused, also if the image had no more pixels than are enough.

@@ -10,11 +10,12 @@ ghost use Rattle.qoi.specs.Qoi.{Error};
 ghost use Rattle.qoi.specs.pieces.Copying.{BreaksRaw, BreaksInput};
 ghost use Rattle.qoi.specs.pieces.PixelReader.{pixels_left, HasGiven, IsSpent};
 ghost use Rattle.qoi.specs.pieces.PixelWriter.{raw_left, and_raw, HasTaken, HasFailed};
+ghost use Rattle.qoi.specs.pieces.Sizes.{copied_at_once};
 
 use crate::copying::PIECE;
-use crate::decode::{PixelReader, Reader, read_exact};
+use crate::decode::{PixelReader, Reader, ended};
 use crate::encode::{PixelWriter, send_bytes};
-use crate::error::Result;
+use crate::error::{Error, Result};
 use std::io::{Read, Write};
 
 impl<R: Reader> PixelReader<R> {
@@ -22,7 +23,12 @@ impl<R: Reader> PixelReader<R> {
     /// allocates nothing. It doesn't flush.
     ///
     /// Refusals are those of `read`, behind which the writer has what was read before, and
-    /// `IoError` if the writer reports a fault or takes no byte.
+    /// `IoError` if the writer reports a fault or takes no byte. Then it also has a beginning of the
+    /// next piece, of at most 4,096 bytes, and nothing says how much of it. So no more of the image
+    /// can be read, as after a refusal of `read`, and the piece counts in `left`.
+    ///
+    /// Over a slice each `IoError` is the writer's. Over a stream nothing tells whose it is: use
+    /// `read` and `write_all` in a loop.
     ///
     /// ```
     /// let mut pixels = Decoder::from_buf_read(reader)?.into_pixels();
@@ -73,9 +79,11 @@ impl<R: Reader> PixelReader<R> {
         Ok(())
     }
 
-    // Writes the next raw bytes, as many as `buf` has or as are left.
+    // Writes the next raw bytes, as many as `buf` has or as are left. If the writer fails, they count
+    // as unread, and the rest is refused: the writer may have a beginning of them.
     fn copy_raw_piece<W: Write>(&mut self, out: &mut W, buf: &mut [u8]) -> Result<()>
         requires some { 0 < length buf.old }
+        requires short { length buf.old ≤ copied_at_once }
         requires more { 0 < pixels_left self.old }
         ensures copied { (d : DecoderState R) (start : Option (List ℕ)) (given : List ℕ)
             → HasGiven d start (R.ahead self.old.reader) given self.old
@@ -92,8 +100,15 @@ impl<R: Reader> PixelReader<R> {
         ensures unchanged { (self.new.header ≡ self.old.header)
             × (self.new.channels ≡ self.old.channels) }
     {
+        let left = self.left();
         let size = self.read(buf)?;
-        send_bytes(out, &buf[..size])
+        match send_bytes(out, &buf[..size]) {
+            Ok(()) => Ok(()),
+            Err(fault) => {
+                self.refuse_rest(left);
+                Err(fault)
+            }
+        }
     }
 }
 
@@ -101,8 +116,10 @@ impl<W: Write + Drop> PixelWriter<W> {
     /// Takes all raw bytes that are missing from a reader, by an array of 4,096 bytes, and no byte
     /// more: it allocates nothing. It doesn't finish the writer.
     ///
-    /// Refusals: `IoError` if the reader reports a fault or ends before, behind which the writer
-    /// has whole pieces of what was read; and `IoError` as in `write`.
+    /// Refusals: `IoError` if the reader reports a fault, also an interruption, or ends before. The
+    /// writer took all bytes that came, and a further call goes on behind them. And `IoError` as in
+    /// `write`: the last bytes that came, at most 4,096, may then be lost, and no further call reads
+    /// any. `self.write(&[])` tells whose it is: it is one, too, if the writer failed.
     ///
     /// ```
     /// let mut pixels = PixelWriter::new(alloc, header, Style::Reference, writer)?;
@@ -140,21 +157,25 @@ impl<W: Write + Drop> PixelWriter<W> {
         Ok(())
     }
 
-    // Takes as many raw bytes as `piece` has.
+    // Takes the raw bytes that the reader gives at once into `piece`.
     fn take_raw_piece<R: Read>(&mut self, input: &mut R, piece: &mut [u8]) -> Result<()>
         requires some { 0 < length piece.old }
+        requires short { length piece.old ≤ copied_at_once }
         requires fits { length piece.old ≤ raw_left self.old }
         ensures taken { (e : EncoderState) (before : Option (List ℕ))
-            → HasTaken W.contents e before self.old → OnOk result
-            (Consumes (R.remaining input.old) (R.remaining input.new) piece.new
-            × HasTaken W.contents (and_raw e piece.new) before self.new) }
-        ensures left { OnOk result (raw_left self.new + length piece.old ≡ raw_left self.old) }
+            → HasTaken W.contents e before self.old → OnOk result ((raw : List ℕ)
+            × Consumes (R.remaining input.old) (R.remaining input.new) raw
+            × HasTaken W.contents (and_raw e raw) before self.new) }
+        ensures less { OnOk result (raw_left self.new < raw_left self.old) }
         ensures refused { (e : EncoderState) (before : Option (List ℕ))
             → HasTaken W.contents e before self.old
             → IfErr result (BreaksInput W.contents (R.remaining input.old)
             (R.remaining input.new) e before self.new) }
     {
-        read_exact(input, piece)?;
-        self.write(piece)
+        let count = input.read(piece)?;
+        if count == 0 {
+            return Err(Error::IoError(ended()));
+        }
+        self.write(&piece[..count])
     }
 }

@@ -11,16 +11,17 @@ use crate::decode::in_place::take_in_place;
 use crate::decode::output::RUN_ROOM;
 use crate::decode::reached::Reached;
 use crate::decode::reader::Buffered;
-use crate::decode::stream::{next_chunk, stream_marker};
+use crate::decode::stream::{ended, next_chunk, stream_marker};
 use crate::decode::stretches::fast_chunks;
 use crate::decode::table::TermTable;
-use crate::error::Result;
+use crate::error::{Error, Result};
 use std::io;
 use std::io::BufRead;
 
 // Decodes chunks from what the reader's buffer shows, after what others reached, while there is room
 // ahead, and takes just those. The reader is asked for its buffer only while pixels are missing, so
-// a fault leaves the image cut. An interruption is a fault.
+// a fault leaves the image cut, and so does its end: it isn't asked again behind one. An
+// interruption is a fault.
 #[inline(always)]
 fn chunks_in_buffer<R: BufRead, const N: usize, const F: usize>(
     reader: &mut R,
@@ -40,6 +41,9 @@ fn chunks_in_buffer<R: BufRead, const N: usize, const F: usize>(
         return Ok(from);
     }
     let bytes = reader.fill_buf()?;
+    if bytes.is_empty() {
+        return Err(ended());
+    }
     let now = fast_chunks::<N, F, false>(table, from, bytes, out);
     reader.consume(now.taken);
     Ok(now.reached)
@@ -109,6 +113,9 @@ impl<R: BufRead, const N: usize, const F: usize> Chunks<N, F> for Buffered<R> {
         out: &mut [u8],
     ) -> Result<(Reached, usize)> {
         let bytes = self.0.fill_buf()?;
+        if bytes.is_empty() {
+            return Err(Error::IoError(ended()));
+        }
         let (now, run) = take_in_place::<N, F>(table, from, bytes, out);
         self.0.consume(now.taken);
         Ok((now.reached, run))

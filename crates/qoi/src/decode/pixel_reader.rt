@@ -7,6 +7,7 @@ ghost use Rattle.qoi.specs.DecoderState.{DecoderState, output_byte_count};
 ghost use Rattle.qoi.specs.Images.{front_image, front_rest};
 ghost use Rattle.qoi.specs.pieces.PixelReader.{PixelsState, as_decoder, pixels_left, HasGiven, HasRows, RefusesPixels, IsSpent};
 ghost use Rattle.qoi.specs.Qoi.{Error, channels_number, pixel_count, pixels_max};
+ghost use Rattle.qoi.specs.pieces.Sizes.{decoded_ahead};
 ghost use Rattle.qoi.specs.pieces.Unread.{bytes_left, IsRestOf, KeepsPixels, Asks, Steps};
 ghost use Rattle.qoi.specs.Reading.{StandsAhead, IsCutAhead, IsWrongAhead, SaysWhy};
 ghost use Rattle.qoi.specs.Rectangles.{row_bytes, rectangle, row_size};
@@ -15,6 +16,7 @@ pub(super) mod mark;
 mod room;
 pub(super) mod row_index;
 mod seek_point;
+mod skipping;
 pub(super) mod unread;
 
 use crate::decode::Decoder;
@@ -169,6 +171,7 @@ impl<R: Reader> PixelReader<R> {
     pub fn left(&self) -> usize
         ensures left { result ≡ pixels_left self.now }
         ensures most { result ≤ 4 * pixels_max }
+        ensures within { result ≤ output_byte_count (as_decoder self.now) }
         // If none are left, the decoder's image was decoded, and these are its bytes.
         ensures all { (d : DecoderState R) (start : Option (List ℕ)) (given : List ℕ)
             → HasGiven d start (R.ahead self.now.reader) given self.now → result ≡ 0
@@ -194,9 +197,10 @@ impl<R: Reader> PixelReader<R> {
     /// taken, and no byte past it.
     ///
     /// Refusals are those of `Decoder::decode_to_buf`, but for `OutputBufferTooSmall`. They come at
-    /// the latest with the last bytes, and earlier if what is decoded ahead is broken. A slice that is
-    /// cut is refused once fewer than eight bytes are left: up to seven runs, of 1,736 raw bytes in
-    /// all, aren't read then. After a refusal the bytes of `buf` may be overwritten, as many as would
+    /// the latest with the last bytes, and earlier if what is decoded ahead is broken, or the reader
+    /// fails there: what came well before that isn't given either. A slice that is cut is refused
+    /// once fewer than eight bytes are left: up to seven runs, of 1,736 raw bytes in all, aren't read
+    /// then. After a refusal the bytes of `buf` may be overwritten, as many as would
     /// have been read; a slice's tail is as before the call, and a stream stands after the bytes that
     /// were read. `left` is as before, and no more of the image can be read: each further `read` into
     /// a buffer that isn't empty returns `UnexpectedBufferEnd`.
@@ -244,7 +248,7 @@ impl<R: Reader> PixelReader<R> {
         ensures early { (d : DecoderState R) (bytes given : List ℕ) (n : ℕ)
             → HasGiven d (Some bytes) (R.ahead self.old.reader) given self.old
             → IsTrue R.in_memory → n ≤ pixel_count d.header
-            → min (length given + length buf.old + 3072) (output_byte_count d)
+            → min (length given + length buf.old + decoded_ahead) (output_byte_count d)
             ≤ n * channels_number d.channels → IfErr result (RefusesBytes n bytes) }
         // In memory an image that stands whole isn't refused.
         ensures missing { (d : DecoderState R) (bytes given : List ℕ)
@@ -281,8 +285,23 @@ impl<R: Reader> PixelReader<R> {
         }
     }
 
+    /// Refuses what is left of the image, as after a refusal of `read`: so many bytes count as left.
+    #[tactic(auto, unfolding(crate::specs::pieces::PixelReader::pixels_left))]
+    pub(crate) fn refuse_rest(&mut self, left: usize)
+        requires some { 0 < left }
+        requires within { left ≤ output_byte_count (as_decoder self.old) }
+        ensures spent { IsSpent self.new }
+        ensures left { pixels_left self.new ≡ left }
+        ensures unchanged { as_decoder self.new ≡ as_decoder self.old }
+    {
+        // There is no fault to take: what is kept is dropped.
+        let _ = self.unread.take_fault(left);
+        self.refused = true;
+    }
+
     /// Gives back the decoder, whose reader is as it stands: behind the end marker if no bytes are
-    /// left, so that the decoder goes on there. Else call `finish` instead: it takes the rest.
+    /// left, so that the decoder goes on there. Else call `finish` instead: it takes the rest. In
+    /// mid-image, also after a refusal, a stream's decoder gives other pixels (`from_stream`).
     pub fn into_decoder(self) -> Decoder<R>
         ensures { result ≡ as_decoder self }
     {

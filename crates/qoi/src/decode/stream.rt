@@ -18,9 +18,9 @@ use crate::error::{Error, Result};
 use std::io;
 use std::io::{ErrorKind, Read};
 
-// What reading past the end of a stream returns.
+/// What reading past the end of a stream returns.
 #[cold]
-fn ended() -> io::Error {
+pub(crate) fn ended() -> io::Error {
     io::Error::new(ErrorKind::UnexpectedEof, "the reader ended too early")
 }
 
@@ -29,7 +29,7 @@ fn ended() -> io::Error {
 // first read fills it, so that one stands before the loop. Inlined, so that the reader isn't lent to
 // a call in the loop over chunks, and the compiler can keep it in registers.
 #[inline(always)]
-pub(crate) fn read_exact<R: Read>(reader: &mut R, buf: &mut [u8]) -> io::Result<()>
+pub(super) fn read_exact<R: Read>(reader: &mut R, buf: &mut [u8]) -> io::Result<()>
     requires { 0 < length buf.old }
     ensures read { OnOk result
         (Consumes (R.remaining reader.old) (R.remaining reader.new) buf.new) }

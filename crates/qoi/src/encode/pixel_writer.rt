@@ -31,9 +31,9 @@ use std::marker::Model;
 /// Writes the file of one image, whose raw bytes come piece by piece: that of `Encoder` for all of
 /// them, in memory that doesn't grow with the image.
 ///
-/// A contract sees the writer, header and style of the file, how many raw bytes haven't come,
-/// whether the writer reported a fault, the raw bytes that are held, and the state between two
-/// blocks.
+/// A contract sees the writer, header and style of the file, how many raw bytes haven't come, how
+/// many came with the last call, whether the writer reported a fault, the raw bytes that are held,
+/// and the state between two blocks.
 ///
 /// ```
 /// let header = Header::try_new(640, 480, Channels::Rgb, ColorSpace::Srgb)?;
@@ -48,6 +48,7 @@ pub struct PixelWriter<W> {
     writer: W,
     header: Header,
     left: usize,
+    came: usize,
     failed: bool,
     workspace: Box<Workspace>,
 }
@@ -60,6 +61,7 @@ impl<W> Model for PixelWriter<W> {
       header = p.header;
       style = p.workspace.value.state.style;
       left = p.left;
+      came = p.came;
       failed = p.failed;
       held = p.workspace.value.held;
       pending = p.workspace.value.state;
@@ -100,6 +102,7 @@ impl<W: Write + Drop> PixelWriter<W> {
             writer,
             header,
             left: header.n_bytes(),
+            came: 0,
             failed: false,
             workspace,
         })
@@ -143,8 +146,8 @@ impl<W: Write + Drop> PixelWriter<W> {
     ///
     /// `InvalidImageLength`, with the number of all bytes that came, if there are more than the
     /// image has; then none of them is taken, and nothing is sent. `IoError` if the writer reports
-    /// a fault or takes no byte; then a beginning of the file was sent, `left` is as before, and
-    /// each further `write`, and `finish`, sends nothing and refuses with an `IoError`.
+    /// a fault or takes no byte; then a beginning of the file was sent, `left` is as before, and each
+    /// further `write`, and `finish`, sends nothing and returns an `IoError` of kind `BrokenPipe`.
     #[tactic(auto, unfolding(crate::specs::pieces::PixelWriter::HasTaken))]
     pub fn write(&mut self, raw: &[u8]) -> Result<()>
         // A success: these raw bytes came, too.
@@ -177,6 +180,7 @@ impl<W: Write + Drop> PixelWriter<W> {
         }
         // It stays set if a fault ends the call.
         self.failed = true;
+        self.came = raw.len();
         let workspace = &mut *self.workspace;
         if workspace.held.takes(raw.len()) {
             workspace.held.push(raw);

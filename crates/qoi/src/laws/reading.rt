@@ -1,10 +1,10 @@
 //! Laws on reading: bytes have one verdict, and files are read as they were put together.
 ghost use Rattle.std.specs.Prelude.{◌≡◌, ℕ, ◌+◌, ◌-◌, ◌*◌, ◌<◌, ◌≤◌, ◌⊎◌, List, [], ◌∷◌, ◌++◌, length, take, drop, slice_index, slice_index_or, Ok, Err, Option, Some};
 ghost use Rattle.qoi.specs.declared.types.Style.{Style};
-ghost use Rattle.qoi.specs.Qoi.{Error, Header, Channels, ColorSpace, Chunk, AreBytes, IsFile, file, file_pixels, header_bytes, pixel_count, IsValid, header_of, header_size, channels_number, pixels_max};
+ghost use Rattle.qoi.specs.Qoi.{Error, Header, Channels, ColorSpace, Chunk, AreBytes, IsFile, file, file_pixels, default_header, header_bytes, pixel_count, IsValid, header_of, header_size, channels_number, pixels_max};
 ghost use Rattle.qoi.specs.Raw.{output, without_fourth, image_byte_count};
 ghost use Rattle.qoi.specs.Encoded.{IsFileOf, IsReadBack, image_file, image_header};
-ghost use Rattle.qoi.specs.Tiles.{HasTile, AreFrames};
+ghost use Rattle.qoi.specs.Tiles.{HasTile, HasPicture, AreFrames, ArePictures};
 ghost use Rattle.qoi.specs.Verdicts.{IsWhole, IsCut, IsWrong, AreCut};
 ghost use Rattle.qoi.specs.Decoding.{DecodesFile, IsNoFile};
 ghost use Rattle.qoi.specs.Decoded.{HasHeader, HasDecoded, HasRefusedFile};
@@ -248,4 +248,58 @@ pub fn frames_are_found()
         (images found : List (List ℕ)) → AreFrames front offsets images → bytes ≡ front ++ rest
         → (BeginsWithFile rest → ⊥) → AreFrames (take at bytes) ends found
         → (BeginsWithFile (drop at bytes) → ⊥) → found ≡ images }
+{}
+
+/// A file after other bytes, of any origin, is a picture there, with its header, and pictures stay
+/// whatever is appended.
+pub fn pictures_stay()
+    ensures put { (style : Style) (h : Header) (raw bytes old new : List ℕ)
+        → IsFileOf style h raw bytes → new ≡ old ++ bytes → HasPicture new (length old) h raw }
+    ensures put_file { (bytes : List ℕ) (h : Header) (rest raw old new : List ℕ)
+        → DecodesFile bytes h rest raw → new ≡ old ++ bytes → HasPicture new (length old) h raw }
+    ensures kept { (raw old new more : List ℕ) (offset : ℕ) (h : Header) → new ≡ old ++ more
+        → HasPicture old offset h raw → HasPicture new offset h raw }
+{}
+
+/// A store of pictures: none, one more that was sent behind them, and the last one cut off. Frames
+/// are pictures, and pictures are frames.
+pub fn stores_stay()
+    ensures none { ArePictures [] [] [] [] }
+    ensures put { (e : EncoderState) (n : ℕ) (before after : Option (List ℕ))
+        (raw old new offsets more : List ℕ) (headers : List Header) (images : List (List ℕ))
+        → SendsFile e before after n → before ≡ Some old → after ≡ Some new
+        → ArePictures old offsets headers images → raw ≡ e.raw
+        → more ≡ offsets ++ length old ∷ []
+        → ArePictures new more (headers ++ e.header ∷ []) (images ++ raw ∷ []) }
+    ensures last { (bytes offsets fewer new last : List ℕ) (headers : List Header) (h : Header)
+        (images : List (List ℕ)) (at : ℕ)
+        → ArePictures bytes offsets (headers ++ h ∷ []) (images ++ last ∷ [])
+        → offsets ≡ fewer ++ at ∷ [] → new ≡ take at bytes
+        → ArePictures new fewer headers images }
+    ensures frames { (bytes offsets : List ℕ) (headers : List Header) (images : List (List ℕ))
+        → ArePictures bytes offsets headers images → AreFrames bytes offsets images }
+    ensures pictures { (bytes offsets : List ℕ) (images : List (List ℕ))
+        → AreFrames bytes offsets images
+        → (headers : List Header) × ArePictures bytes offsets headers images }
+{}
+
+/// Each picture of a store is read at its offset.
+pub fn pictures_are_read()
+    ensures header { (bytes offsets : List ℕ) (headers : List Header) (images : List (List ℕ))
+        (k : ℕ) → ArePictures bytes offsets headers images → k < length offsets
+        → header_of (drop (slice_index offsets k) bytes)
+        ≡ Ok (slice_index_or headers k default_header) }
+    ensures read { (bytes offsets : List ℕ) (headers : List Header) (images : List (List ℕ)) (k : ℕ)
+        → ArePictures bytes offsets headers images → k < length offsets
+        → file_image (drop (slice_index offsets k) bytes) ≡ slice_index_or images k [] }
+    ensures within { (bytes offsets : List ℕ) (headers : List Header) (images : List (List ℕ))
+        (k : ℕ) → ArePictures bytes offsets headers images → k < length offsets
+        → slice_index offsets k ≤ length bytes }
+    ensures stands { (bytes offsets : List ℕ) (headers : List Header) (images : List (List ℕ))
+        (k : ℕ) → ArePictures bytes offsets headers images → k < length offsets
+        → BeginsWithFile (drop (slice_index offsets k) bytes) }
+    ensures count { (bytes offsets : List ℕ) (headers : List Header) (images : List (List ℕ))
+        → ArePictures bytes offsets headers images → length images ≡ length offsets }
+    ensures heads { (bytes offsets : List ℕ) (headers : List Header) (images : List (List ℕ))
+        → ArePictures bytes offsets headers images → length headers ≡ length offsets }
 {}

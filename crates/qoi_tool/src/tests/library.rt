@@ -4,6 +4,7 @@
 
 mod any_row;
 mod broken;
+mod called_again;
 mod callers;
 mod calls;
 mod choices;

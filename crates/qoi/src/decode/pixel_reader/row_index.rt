@@ -1,15 +1,18 @@
 //! Rows of an image, read from any of them on.
-ghost use Rattle.std.specs.Prelude.{◌≡◌, ℕ, ◌+◌, ◌-◌, ◌*◌, ◌/◌, ◌<◌, ◌≤◌, List, ◌++◌, ◌⊎◌, max, min, length, drop, Some, Ok, Err, false, IsOk, IfOk, IfErr, OnOk, IsErrOf};
+ghost use Rattle.std.specs.Prelude.{◌≡◌, ℕ, ◌+◌, ◌-◌, ◌*◌, ◌/◌, ◌<◌, ◌≤◌, List, [], ◌∷◌, ◌++◌, ◌⊎◌, max, min, length, drop, Some, Ok, Err, false, IsOk, IfOk, IfErr, OnOk, IsErrOf};
 ghost use Rattle.qoi.specs.Decoded.{HasRefusedFile};
 ghost use Rattle.qoi.specs.Images.{front_image, file_image};
 ghost use Rattle.qoi.specs.Qoi.{Error, Header, Channels, channels_number, header_of, header_size, pixel_count, IsValid};
 ghost use Rattle.qoi.specs.Reading.{StandsAhead};
 ghost use Rattle.qoi.specs.Rectangles.{rectangle};
 ghost use Rattle.qoi.specs.pieces.PixelReader.{pixels_left, HasRows};
-ghost use Rattle.qoi.specs.pieces.RowIndex.{file_decoder, row_size, ArePlaces, ReadsFile, IsRowIndex, IsFileDecoder};
+ghost use Rattle.qoi.specs.pieces.RowIndex.{file_decoder, row_size, PointState, IsPointOf, points_count, ReadsFile, HasPoints, IsRowIndex, IsNearest, IsFileDecoder};
+ghost use Rattle.qoi.specs.pieces.Sizes.{decoded_ahead};
+ghost use Rattle.qoi.specs.pieces.Unread.{bytes_left};
 
 use crate::decode::Decoder;
 use crate::decode::pixel_reader::PixelReader;
+use crate::decode::pixel_reader::room::DECODED_AHEAD;
 use crate::decode::pixel_reader::seek_point::{SeekPoint, size_in};
 use crate::decode::reader::Bytes;
 use crate::error::{Error, Result};
@@ -18,17 +21,13 @@ use crate::types::Channels;
 use std::alloc::Global;
 use std::marker::Model;
 
-// How many raw bytes are skipped at once. By 4096 the index of a picture of long runs took a fifth
-// longer.
-const SKIPPED: usize = 16384;
-
 /// Points in a file's image, so many rows apart, from which its rows are read without those above.
 /// It holds no part of the file.
 ///
-/// An index of an image of `height` rows with a point each `every` rows holds
-/// 288 * ((`height` - 1) / `every`) bytes.
+/// An index of an image of `height` rows with a point each `every` rows holds at most
+/// 288 * ((`height` - 1) / `every`) bytes: the last rows, up to 3,072 bytes, have no point.
 ///
-/// A contract sees the points (`PlaceState`).
+/// A contract sees the points (`PointState`).
 ///
 /// ```
 /// let index = RowIndex::new(alloc, file, 64)?;
@@ -43,13 +42,13 @@ pub struct RowIndex {
 
 impl Model for RowIndex {
     ghost use Rattle.std.specs.Prelude.{◌<◌, List};
-    ghost use Rattle.qoi.specs.pieces.RowIndex.{PlaceState};
+    ghost use Rattle.qoi.specs.pieces.RowIndex.{PointState, AreApart};
 
-    ghost Value = { List PlaceState };
+    ghost Value = { List PointState };
 
     ghost view = { λ i. i.points.items };
 
-    ghost invariant = { λ i. 0 < i.every };
+    ghost invariant = { λ i. (0 < i.every) × AreApart i.every i.points.items };
 }
 
 // How many pixels an image has from this row on; none from its height on.
@@ -83,31 +82,36 @@ fn skip_to(reader: &mut PixelReader<Bytes<'_>>, bytes_left: usize) -> Result<()>
         → ReadsFile channels h file reader.old → StandsAhead h (drop header_size file)
         → IsOk result }
 {
-    let mut buf = [0; SKIPPED];
-    while reader.left() > bytes_left {
-        let size = buf.len().min(reader.left() - bytes_left);
-        reader.read(&mut buf[..size])?;
-    }
-    Ok(())
+    let count = reader.left().saturating_sub(bytes_left);
+    reader.skip_bytes(count)
 }
 
-// Keeps the point behind what a reader decoded, unless the image ends there.
+// Keeps the point behind what a reader decoded, for the row at which the reader stands.
 fn keep_point(
     points: &mut Vec<SeekPoint>,
     file: &[u8],
     reader: &PixelReader<Bytes<'_>>,
+    row: u32,
 ) -> Result<()>
-    requires { reader.now.refused ≡ false }
-    ensures points { (channels : Channels) (h : Header) → ReadsFile channels h file.now reader.now
-        → ArePlaces (pixel_count h) file.now points.old.items
-        → OnOk result (ArePlaces (pixel_count h) file.now points.new.items) }
-    ensures few { OnOk result (length points.new.items ≤ length points.old.items + 1) }
+    requires going { reader.now.refused ≡ false }
+    requires some { decoded_ahead < bytes_left reader.now.unread }
+    ensures kept { OnOk result ((m : PointState) × IsPointOf file.now row reader.now m
+        × (points.new.items ≡ points.old.items ++ m ∷ [])) }
     ensures refused { IfErr result (λ e. e ≡ Error.OutOfMemory) }
 {
-    if reader.unread.undecoded > 0 {
-        points.push(SeekPoint::of(file, reader))?;
-    }
+    points.push(SeekPoint::of(file, reader, row))?;
     Ok(())
+}
+
+// How many points an index has, with one for each `every` rows: none for the last rows, which a reader
+// may decode ahead.
+fn count_points(header: &Header, every: u32) -> u32
+    requires valid { IsValid header.now }
+    requires some { 0 < every }
+    ensures { result ≡ points_count header.now every }
+{
+    let last = DECODED_AHEAD / header.bytes_per_row();
+    header.height.saturating_sub(1 + last as u32) / every
 }
 
 impl RowIndex {
@@ -124,7 +128,10 @@ impl RowIndex {
         // The image has as many rows as its header says.
         ensures size { (h : Header) → header_of file.now ≡ Ok h
             → OnOk result (length (file_image file.now) ≡ row_size h.channels h * h.height) }
-        // It has no more points than this.
+        // It has a point for each `every` rows, but for the last ones.
+        ensures points { (h : Header) → header_of file.now ≡ Ok h
+            → IfOk result (HasPoints h (max every 1)) }
+        // So it has no more points than this.
         ensures few { (h : Header) → header_of file.now ≡ Ok h
             → IfOk result (λ i. length i ≤ (h.height - 1) / max every 1) }
         // The refusals: memory runs out after a valid header, or the bytes are refused.
@@ -133,17 +140,20 @@ impl RowIndex {
     {
         let decoder = Decoder::new(file)?;
         let header = *decoder.header();
-        let every = every.max(1);
-        let count = header.height.saturating_sub(1) / every;
+        let apart = every.max(1);
+        let count = count_points(&header, apart);
         let mut points = Vec::with_capacity(alloc, count as usize)?;
         let mut reader = decoder.into_pixels();
         for k in 0..count {
-            let row = every.saturating_mul(k + 1);
+            let row = apart * (k + 1);
             skip_to(&mut reader, bytes_from(&header, header.channels, row))?;
-            keep_point(&mut points, file, &reader)?;
+            keep_point(&mut points, file, &reader, row)?;
         }
         skip_to(&mut reader, 0)?;
-        Ok(RowIndex { every, points })
+        Ok(RowIndex {
+            every: apart,
+            points,
+        })
     }
 
     // A reader from the last point above row `first` of the file's image, or from the image's top.
@@ -160,6 +170,9 @@ impl RowIndex {
         ensures left { IfOk result (λ p. decoder.entry.header.width
             * (decoder.entry.header.height - first) * channels_number decoder.entry.channels
             ≤ pixels_left p) }
+        // No point that serves stands for a row further below.
+        ensures nearest { IsRowIndex file.entry.now self.now → IfOk result (IsNearest
+            decoder.entry.channels decoder.entry.header first self.now) }
     {
         let pixels_wanted = pixels_from(decoder.header(), first);
         let mut i = self.points.len().min((first / self.every) as usize);

@@ -3,7 +3,9 @@ ghost use Rattle.std.specs.Prelude.{◌≡◌, ◌*◌, ◌<◌, ◌≤◌, leng
 ghost use Rattle.qoi.specs.Qoi.{Past, channels_number, pixel_count, pixels_max};
 ghost use Rattle.qoi.specs.inner.Hashed.{pixel_of_lanes, HoldsSeen};
 ghost use Rattle.qoi.specs.inner.Table.{Holds};
-ghost use Rattle.qoi.specs.pieces.RowIndex.{IsPlaceOf, GoesOnAt};
+ghost use Rattle.qoi.specs.pieces.RowIndex.{IsPointOf, GoesOnAt};
+ghost use Rattle.qoi.specs.pieces.Sizes.{decoded_ahead};
+ghost use Rattle.qoi.specs.pieces.Unread.{kept_count, bytes_left, KeepsWithin};
 
 use crate::decode::Decoder;
 use crate::decode::hashed::Hashed;
@@ -18,9 +20,11 @@ use std::marker::Model;
 
 /// A point between two chunks of a file's image: the pixels that the index positions hold, the last
 /// pixel, how many bytes of the file stand before the point, how many pixels are to come, and how
-/// many of those are copies of the last pixel, from the run before the point.
+/// many of those are copies of the last pixel, from the run before the point. And the row for which
+/// it was noted: the point stands in it, or a little below.
 ///
-/// It has 288 bytes. A contract sees these five as `PlaceState`, the last two as `left` and `run`.
+/// It has 288 bytes. A contract sees these six as `PointState`, the two counts of pixels as `left`
+/// and `run`.
 #[derive(Drop)]
 pub(super) struct SeekPoint {
     table: [Packed; 64],
@@ -28,14 +32,15 @@ pub(super) struct SeekPoint {
     at: usize,
     undecoded_pixels: usize,
     run_pixels: usize,
+    row: u32,
 }
 
 impl Model for SeekPoint {
     ghost use Rattle.std.specs.Prelude.{◌≡◌, ◌≤◌, ◌<◌, length};
     ghost use Rattle.qoi.specs.Qoi.{run_max};
-    ghost use Rattle.qoi.specs.pieces.RowIndex.{PlaceState};
+    ghost use Rattle.qoi.specs.pieces.RowIndex.{PointState};
 
-    ghost Value = { PlaceState };
+    ghost Value = { PointState };
 
     ghost view = { λ p. record {
       table = p.table;
@@ -43,6 +48,7 @@ impl Model for SeekPoint {
       at = p.at;
       left = p.undecoded_pixels;
       run = p.run_pixels;
+      row = p.row;
     } };
 
     ghost invariant = { λ p. (length p.table ≡ 64)
@@ -97,20 +103,33 @@ pub(super) fn size_in(channels: Channels, pixels: usize) -> usize
     }
 }
 
+// How many raw bytes of the image aren't decoded: some, if more are left than a reader keeps.
+fn undecoded(unread: &Unread) -> usize
+    requires { KeepsWithin unread.now }
+    ensures same { result ≡ unread.now.undecoded }
+    ensures some { decoded_ahead < bytes_left unread.now → 0 < result }
+    ensures few { kept_count unread.now ≤ decoded_ahead }
+{
+    unread.undecoded
+}
+
 impl SeekPoint {
-    /// The point behind what a reader of the file keeps, which isn't the end of the image.
-    pub(super) fn of(file: &[u8], reader: &PixelReader<Bytes<'_>>) -> SeekPoint
+    /// The point behind what a reader of the file keeps, noted for this row. It isn't the end of the
+    /// image, since more is left than a reader keeps.
+    pub(super) fn of(file: &[u8], reader: &PixelReader<Bytes<'_>>, row: u32) -> SeekPoint
         requires going { reader.now.refused ≡ false }
-        requires some { 0 < reader.now.unread.undecoded }
-        ensures { IsPlaceOf file.now reader.now result }
+        requires some { decoded_ahead < bytes_left reader.now.unread }
+        ensures { IsPointOf file.now row reader.now result }
     {
         let channels = reader.decoder.channels.as_u8() as usize;
+        let undecoded = undecoded(&reader.unread);
         SeekPoint {
             table: pixels_of(&reader.unread.table),
             last: packed(reader.unread.last),
             at: file.len().saturating_sub(reader.decoder.reader.0.len()),
-            undecoded_pixels: reader.unread.undecoded / channels,
+            undecoded_pixels: undecoded / channels,
             run_pixels: reader.unread.run / channels,
+            row,
         }
     }
 

@@ -17,6 +17,12 @@ returns-in_err-bytes-clause-refused g c =
     rw (sym c.self.view_is) (handed_on _ _ _ c.from_residual.ensures.1
     (stream_refused _ [] (none_taken c.requires.fillable) c.requires.inside (Consumes-kept _ _ _ [] (Consumes-nil _) kept.0) (part_empty [] (omega arith)) c.in_err-bytes.field-0.0))
 
+pub returns-then-is_empty-clause-refused : goal.returns-then-is_empty-clause-refused
+returns-then-is_empty-clause-refused g c =
+    let rested = c.fill_buf.follows.lender-at-none in
+    let kept = subst (FillKeeps _ (g.R.Read.remaining rested) (g.R.BufRead.consumable_len rested)) c.in_ok-bytes.was c.fill_buf.follows.holds-at-none in
+    rw (sym c.self.view_is) (stream_refused _ [] (none_taken c.requires.fillable) c.requires.inside (Consumes-kept _ _ _ [] (Consumes-nil _) kept.0) (part_empty [] (omega arith)) c.ended.result)
+
 pub returns-clause-takes : goal.returns-clause-takes
 returns-clause-takes g c =
     let shown = c.in_ok-bytes.bytes.now in

@@ -4,7 +4,7 @@ use Rattle.std.proofs.lemmas.List.{take_all}
 use Rattle.std.proofs.lemmas.Result.{MatchResult-weaker}
 use Rattle.qoi.specs.pieces.PixelReader.{HasGiven}
 use Rattle.qoi.specs.pieces.PixelWriter.{HasTaken}
-use Rattle.qoi.proofs.Copied.{stops_at, taken_none}
+use Rattle.qoi.proofs.Copied.{refusal_and, stops_at, taken_none}
 use Rattle.qoi.proofs.decoding.Refusals.{handed_on}
 use Rattle.qoi.proofs.decode.pixel_reader.PixelReader.copy_piece.Goals as goal
 
@@ -14,7 +14,9 @@ returns-in_err-read-clause-refused g c d start given e before h t =
       [],
       inl (
         stops_at g.R.Reader.in_memory g.R.Reader.ahead d start given c.args.self.now c.read.new.self _ h (c.in_err-read.ensures.refused d start given h)
-            c.in_err-read.ensures.spent c.in_err-read.ensures.kept,
+            c.in_err-read.ensures.spent c.in_err-read.ensures.kept
+            (λ held bytes n is fits enough. c.in_err-read.ensures.early d bytes given n (subst (λ s. HasGiven d s (g.R.Reader.ahead c.args.self.now.reader) given c.args.self.now) is h) held fits
+            (omega (arith, enough, c.requires.short))),
         taken_none g.W.Write.contents e before c.args.writer.now t,
       ),
     )
@@ -27,8 +29,8 @@ returns-clause-refused g c d start given e before h t =
     let read = subst (λ x. HasGiven d start (g.R.Reader.ahead c.read.new.self.reader) (given ++ x) c.read.new.self)
     (take_all size piece (omega (arith, c.in_ok-read.ensures.size, c.requires.fits, c.read.auto.buf)))
     (c.in_ok-read.ensures.read d start given h) in
-    MatchResult-weaker c.write.result (c.write.ensures.refused e before t) (λ _ _. tt)
-    (λ error r. elim r [
-      | inl f ↦ (piece, inr (f.0, read, f.1))
+    MatchResult-weaker c.write.result (refusal_and _ _ c.write.result (c.write.ensures.refused e before t) c.write.ensures.left_stays) (λ _ _. tt)
+    (λ error (why, left). elim why [
+      | inl f ↦ (piece, inr (f.0, read, f.1, omega (arith, f.1.given, left, t.size, length-append e.raw piece, c.requires.short, c.read.auto.buf)))
       | inr many ↦ absurd (omega (arith, many.1, length-append e.raw piece, t.size, c.requires.room, c.read.auto.buf))
     ])

@@ -1,20 +1,12 @@
 -- The bytes of these rows are the next ones.
-use Rattle.std.proofs.Common.{◌≡◌, ◌*◌, List, length, ℕ, Option, Some, arith, sym, ap, ◌∙◌, subst}
+use Rattle.std.proofs.Common.{◌≡◌, ◌*◌, length, Some, arith, sym, ap, ◌∙◌, subst}
 use Rattle.std.proofs.lemmas.Result.{on_ok_weaker}
 use Rattle.std.proofs.Math.Nat.{mul-le-mul_right}
-use Rattle.qoi.specs.Rectangles.{row_size}
-use Rattle.qoi.specs.DecoderState.{DecoderState}
-use Rattle.qoi.specs.pieces.PixelReader.{PixelsState, HasGiven, HasRows}
+use Rattle.qoi.specs.pieces.PixelReader.{HasRows}
 use Rattle.qoi.specs.pieces.PixelWriter.{and_raw, HasTaken}
 use Rattle.qoi.specs.pieces.Copying.{rows_size}
-use Rattle.qoi.proofs.Copied.{rows_after, rows_are}
+use Rattle.qoi.proofs.Copied.{rows_after, rows_are, rows_same}
 use Rattle.qoi.proofs.decode.pixel_reader.PixelReader.copy_rows_to.Goals as goal
-
--- the reader's rows are those of its decoder
-rows_same : {R : Type 0} (d : DecoderState R) (start now : Option (List ℕ)) (given : List ℕ) (p : PixelsState R) (rows : ℕ) → HasGiven d start now given p
-    → rows_size p rows ≡ row_size d.channels d.header * rows
-unfolding HasGiven
-rows_same d start now given p rows h = ap (λ x. row_size x p.header * rows) h.channels ∙ ap (λ x. row_size d.channels x * rows) h.header
 
 pub overflow_mul-count : goal.overflow_mul-count
 overflow_mul-count g c = omega (arith, c.bytes_per_row.ensures.most, mul-le-mul_right c.args.rows c.bytes_per_row.ensures.most, c.ranges.rows)

@@ -43,6 +43,7 @@ returns-in_err-take_raw-clause-refused g c = λ e before taken.
         style_is = c.take_raw.ensures.stays.1 ∙ ap (λ (k : Workspace). k.state.style) c.deref_mut-workspace.ensures.value ∙ t.style_is;
         fails = refl;
         size = omega (arith, t.size, length-append e.raw raw);
+        given = omega (arith, t.size, length-append e.raw raw);
         part = λ more size are.
             let left : length (raw ++ more) ≡ c.self.inside.left = omega (arith, size, length-append (e.raw ++ raw) more, length-append e.raw raw, length-append raw more, t.size) in
             let start = starts g (goal.at.returns-in_err-take_raw-clause-refused g c).After-deref_mut-workspace e before more (t.writes (raw ++ more) left (bytes_append raw more raw_are are)) in

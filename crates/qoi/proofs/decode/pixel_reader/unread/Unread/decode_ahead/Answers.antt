@@ -3,6 +3,7 @@ use Rattle.std.proofs.Common.{refl, ◌≡◌, ℕ, ◌+◌, ◌*◌, ◌/◌, �
 use Rattle.std.proofs.lemmas.List.{length-take, length-take-le}
 use Rattle.qoi.specs.Raw.{IsChannels}
 use Rattle.qoi.specs.inner.Chunks.{RefusesChunks}
+use Rattle.qoi.specs.pieces.Sizes.{decoded_ahead}
 use Rattle.qoi.specs.pieces.Unread.{Unread, KeepsNothing, IsUnread, AreEnough}
 use Rattle.qoi.proofs.format.WholePixels.{by_channels, whole_pixels}
 use Rattle.qoi.proofs.decoding.Progress.{none_written}
@@ -19,17 +20,17 @@ room_lent {c = c} p room is h same within whole long =
 
 -- room for the rest is
 rest_lent : {f c n : ℕ} {start old : Option (List ℕ)} {given : List ℕ} (p : Unread) → IsChannels c → IsUnread f c n start old given p
-    → KeepsNothing p → length p.bytes ≡ 3072 → 0 < p.undecoded → p.undecoded ≤ 3072
+    → KeepsNothing p → length p.bytes ≡ decoded_ahead → 0 < p.undecoded → p.undecoded ≤ decoded_ahead
     → Lent f c n (p.undecoded / c) start old given p (take p.undecoded p.bytes) 0
 rest_lent {c = c} p is h same size some short =
     let front = length-take-le p.undecoded p.bytes (omega (arith, size, short)) in
     lent (p.undecoded / c) (take p.undecoded p.bytes) is h same some (front ∙ rest_whole is h same.0 some) (omega (arith, front))
 
--- of an image of which 3,072 bytes at most are left, only all pixels are enough
+-- of an image of which no more bytes are left than may be decoded ahead, only all pixels are enough
 all_enough : {f c n all : ℕ} {start old : Option (List ℕ)} {given : List ℕ} {p : Unread} → IsChannels c → IsUnread f c n start old given p → KeepsNothing p
-    → p.undecoded ≤ 3072 → AreEnough c n (length given + 0) all → n ≡ all
+    → p.undecoded ≤ decoded_ahead → AreEnough c n (length given + 0) all → n ≡ all
 all_enough {n = n} {all} {given = given} {p} is h same short enough =
-    by_channels (λ k. length given + p.undecoded ≡ k * n → min (length given + 0 + 3072) (n * k) ≤ all * k → n ≡ all) is
+    by_channels (λ k. length given + p.undecoded ≡ k * n → min (length given + 0 + decoded_ahead) (n * k) ≤ all * k → n ≡ all) is
     (λ a b. omega (arith, a, b, short, enough.0)) (λ a b. omega (arith, a, b, short, enough.0)) (omega (arith, h.size, same)) enough.1
 
 pub returns-in-Err-clause-step : goal.returns-in-Err-clause-step
@@ -42,7 +43,7 @@ returns-then-self-gt-DECODED_AHEAD-clause-step g c =
     let pixels = c.requires.pixels in
     let out = c.keep_some_chunks-some.new.out in
     let now = c.in-Ok.now in
-    let old : length c.args.self.now.bytes ≡ 3072 = omega arith in
+    let old : length c.args.self.now.bytes ≡ decoded_ahead = omega arith in
     let within : c.args.room ≤ length c.args.self.now.bytes = omega (arith, old, c.requires.room.1) in
     let whole = minus_whole g.row.N c.args.self.now.undecoded now.at c.requires.channels pixels.1 c.in-Ok.ensures.read.goes_on.fillable.whole.1 in
     let size = length-take-le c.args.room out (omega (arith, within, c.keep_some_chunks-some.auto.out)) in
@@ -69,8 +70,8 @@ returns-in-Err-rest-clause-step g c = record {
 pub returns-clause-step : goal.returns-clause-step
 returns-clause-step g c =
     let pixels = c.requires.pixels in
-    let size : length c.args.self.now.bytes ≡ 3072 = omega arith in
-    let short : c.args.self.now.undecoded ≤ 3072 = omega (arith, c.if-self-gt-DECODED_AHEAD.false) in
+    let size : length c.args.self.now.bytes ≡ decoded_ahead = omega arith in
+    let short : c.args.self.now.undecoded ≤ decoded_ahead = omega (arith, c.if-self-gt-DECODED_AHEAD.false) in
     gives_none (λ n start given h.
     let l = rest_lent c.args.self.now c.requires.channels h c.requires.none size c.requires.some short in
     rest_read c.keep_rest_of_image-rest.new.out c.requires.channels h c.requires.none l (c.in_default.ensures.read l.gone _ _ l.before)

@@ -1,6 +1,7 @@
 -- What was lent is decoded.
 use Rattle.std.proofs.Common.{◌≡◌, ℕ, ◌+◌, ◌*◌, ◌/◌, ◌≤◌, List, ◌++◌, take, drop, length, length-append, arith, rules, refl}
 use Rattle.qoi.specs.Raw.{IsChannels}
+use Rattle.qoi.specs.pieces.Sizes.{decoded_ahead}
 use Rattle.qoi.specs.pieces.Unread.{KeepsNothing}
 use Rattle.qoi.proofs.decoding.GivenMore.{refuses_lent}
 use Rattle.qoi.proofs.decoding.PieceSteps.{front_lent, front_most, long_read, minus_whole}
@@ -8,7 +9,7 @@ use Rattle.qoi.proofs.decode.pixel_reader.unread.Unread.decode_while_runs_fit.Go
 
 -- the output that is lent is no longer than the whole
 lent_within : (c : ℕ) (out new : List ℕ) → IsChannels c → length new ≡ length (take (length out / c * c) out)
-    → length (take (length out / c * c) out) ≤ length (new ++ drop (length out / c * c) out) + 3072
+    → length (take (length out / c * c) out) ≤ length (new ++ drop (length out / c * c) out) + decoded_ahead
 lent_within c out new is same = omega (arith, length-append new (drop (length out / c * c) out), same)
 
 pub returns-in-Err-clause-step : goal.returns-in-Err-clause-step

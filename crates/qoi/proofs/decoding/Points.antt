@@ -1,4 +1,4 @@
--- Places in the image of a file, and the readers that go on there.
+-- Points in the image of a file, and the readers that go on there.
 use Rattle.std.proofs.Common.{◌≡◌, ◌≤◌, ◌<◌, ◌+◌, ◌*◌, ◌/◌, ◌%◌, ◌∙◌, ℕ, List, ◌++◌, length, drop, reverse, replicate, Some, Result, Ok, Err, IfOk, refl, sym, ap, subst, arith, [], append_assoc, length-append, length-drop, length-take}
 use Rattle.std.proofs.lemmas.List.{length-reverse, drop_at, drop-drop, drop-append-le}
 use Rattle.qoi.specs.Qoi.{Error, Header, Channels, RgbaPixel, previous, channels_number, pixel_count, header_of, header_size, chunk_bytes, then_chunks}
@@ -7,7 +7,7 @@ use Rattle.qoi.specs.inner.Hashed.{pixel_of_lanes, HoldsSeen}
 use Rattle.qoi.specs.pieces.PixelReader.{PixelsState, pixels_left, HasGiven}
 use Rattle.qoi.specs.pieces.Unread.{kept_raw, IsUnread}
 use Rattle.qoi.specs.inner.Filling.{DecoderAfter}
-use Rattle.qoi.specs.pieces.RowIndex.{PlaceState, StandsAt, ReadsFile, IsPlaceOf, GoesOnAt, file_decoder}
+use Rattle.qoi.specs.pieces.RowIndex.{PointState, StandsAt, ReadsFile, IsPointOf, GoesOnAt, file_decoder}
 use Rattle.qoi.proofs.format.HeaderBytes.{header_front}
 use Rattle.qoi.proofs.format.WholePixels.{by_channels, whole_pixels, length-output}
 use Rattle.qoi.proofs.decoding.ImageSize.{channels_are}
@@ -22,11 +22,11 @@ header_fits file h is = omega (arith, (header_front file h is).0, length-take he
 copies_of : (c run last m : ℕ) (p : RgbaPixel) → m ≡ run / c → p ≡ pixel_of_lanes last → replicate m p ≡ copies c run last
 copies_of c run last m p many is = ap (λ k. replicate k p) many ∙ ap (replicate (run / c)) is
 
--- the place behind what a reader keeps is one of the file
-pub place_stands : (channels : Channels) (h : Header) (file : List ℕ) (p : PixelsState (List ℕ)) (m : PlaceState) → IsPlaceOf file p m → ReadsFile channels h file p
+-- the point behind what a reader keeps is one of the file
+pub point_stands : (channels : Channels) (h : Header) (file : List ℕ) (p : PixelsState (List ℕ)) (row : ℕ) (m : PointState) → IsPointOf file row p m → ReadsFile channels h file p
     → StandsAt (pixel_count h) file m
 unfolding ReadsFile HasGiven
-place_stands channels h file p m s (is, given, r) =
+point_stands channels h file p row m s (is, given, r) =
     let c = channels_number channels in
     let f = channels_number h.channels in
     let is_c = channels_are channels c refl in
@@ -51,7 +51,7 @@ place_stands channels h file p m s (is, given, r) =
       left = (gone_count f c (pixel_count h) m.left gone (given ++ kept_raw p.unread) p.unread.undecoded is_c so_far size).0 some;
     }
 
--- the bytes of all pixels are those before the place and behind it
+-- the bytes of all pixels are those before the point and behind it
 all_bytes : (c gone left n given undecoded : ℕ) → IsChannels c → given ≡ c * gone → undecoded ≡ left * c → gone + left ≡ n → given + undecoded ≡ c * n
 all_bytes c gone left n given undecoded is g u all =
     by_channels (λ k. given ≡ k * gone → undecoded ≡ left * k → given + undecoded ≡ k * n) is (λ a b. omega (arith, a, b, all)) (λ a b. omega (arith, a, b, all)) g u
@@ -65,17 +65,17 @@ fewer_bytes : (c run left bytes undecoded : ℕ) → IsChannels c → bytes ≡ 
 fewer_bytes c run left bytes undecoded is a b less =
     by_channels (λ k. bytes ≡ run * k → undecoded ≡ left * k → bytes < undecoded) is (λ p q. omega (arith, p, q, less)) (λ p q. omega (arith, p, q, less)) a b
 
--- the file behind the place is the rest of its chunks
-rest_at : (file : List ℕ) (n : ℕ) (m : PlaceState) (p : StandsAt n file m) → drop m.at file ≡ p.rest
+-- the file behind the point is the rest of its chunks
+rest_at : (file : List ℕ) (n : ℕ) (m : PointState) (p : StandsAt n file m) → drop m.at file ≡ p.rest
 rest_at file n m p =
     ap (λ k. drop k file) p.at ∙ sym (drop-drop (length (chunk_bytes p.cs)) header_size file)
     ∙ ap (drop (length (chunk_bytes p.cs))) p.split ∙ drop_at (chunk_bytes p.cs) p.rest (length (chunk_bytes p.cs)) refl
 
--- a reader that goes on at a place of the file is one of its image
-pub place_resumes : (channels : Channels) (h : Header) (file : List ℕ) (m : PlaceState) (q : PixelsState (List ℕ)) → GoesOnAt channels h (drop m.at file) m q
+-- a reader that goes on at a point of the file is one of its image
+pub point_resumes : (channels : Channels) (h : Header) (file : List ℕ) (m : PointState) (q : PixelsState (List ℕ)) → GoesOnAt channels h (drop m.at file) m q
     → header_of file ≡ Ok h → StandsAt (pixel_count h) file m → ReadsFile channels h file q
 unfolding ReadsFile
-place_resumes channels h file m q s is p =
+point_resumes channels h file m q s is p =
     let c = channels_number channels in
     let f = channels_number h.channels in
     let n = pixel_count h in
@@ -101,15 +101,15 @@ place_resumes channels h file m q s is p =
     } in
     (is, given, has_given (file_decoder channels h file) start (Some q.reader) given q unread s.pixels s.header s.channels s.going (byte_bounds h channels s.valid).0)
 
--- the place stands in the file
-pub place_within : (h : Header) (file : List ℕ) (m : PlaceState) → header_of file ≡ Ok h → StandsAt (pixel_count h) file m → (m.at ≤ length file) × (m.left ≤ pixel_count h)
-place_within h file m is p = (
+-- the point stands in the file
+pub point_within : (h : Header) (file : List ℕ) (m : PointState) → header_of file ≡ Ok h → StandsAt (pixel_count h) file m → (m.at ≤ length file) × (m.left ≤ pixel_count h)
+point_within h file m is p = (
   omega (arith, p.at, header_fits file h is, length-drop header_size file, ap length p.split, length-append (chunk_bytes p.cs) p.rest),
   omega (arith, p.left),
 )
 
 -- it is one of a longer file, too
-pub stands_then : (n : ℕ) (file more : List ℕ) (m : PlaceState) → header_size ≤ length file → StandsAt n file m → StandsAt n (file ++ more) m
+pub stands_then : (n : ℕ) (file more : List ℕ) (m : PointState) → header_size ≤ length file → StandsAt n file m → StandsAt n (file ++ more) m
 stands_then n file more m long p = record {
   cs = p.cs;
   rest = p.rest ++ more;
@@ -123,18 +123,18 @@ stands_then n file more m long p = record {
   left = p.left;
 }
 
--- what is left at a place, in bytes
-left_at : (channels : Channels) (h : Header) (rest : List ℕ) (m : PlaceState) (q : PixelsState (List ℕ)) → GoesOnAt channels h rest m q → pixels_left q ≡ m.left * channels_number channels
+-- what is left at a point, in bytes
+left_at : (channels : Channels) (h : Header) (rest : List ℕ) (m : PointState) (q : PixelsState (List ℕ)) → GoesOnAt channels h rest m q → pixels_left q ≡ m.left * channels_number channels
 unfolding pixels_left
 left_at channels h rest m q s = omega (arith, s.none, s.left)
 
 -- the same of a reader that may be refused
-pub goes_on_in_file : (channels : Channels) (h : Header) (file : List ℕ) (m : PlaceState) (r : Result (PixelsState (List ℕ)) Error) → IfOk r (GoesOnAt channels h (drop m.at file) m)
+pub goes_on_in_file : (channels : Channels) (h : Header) (file : List ℕ) (m : PointState) (r : Result (PixelsState (List ℕ)) Error) → IfOk r (GoesOnAt channels h (drop m.at file) m)
     → header_of file ≡ Ok h → StandsAt (pixel_count h) file m → IfOk r (ReadsFile channels h file)
-goes_on_in_file channels h file m (Ok q) s is p = place_resumes channels h file m q s is p
+goes_on_in_file channels h file m (Ok q) s is p = point_resumes channels h file m q s is p
 goes_on_in_file channels h file m (Err e) s is p = tt
 
-pub goes_on_left : (channels : Channels) (h : Header) (rest : List ℕ) (m : PlaceState) (r : Result (PixelsState (List ℕ)) Error) → IfOk r (GoesOnAt channels h rest m)
+pub goes_on_left : (channels : Channels) (h : Header) (rest : List ℕ) (m : PointState) (r : Result (PixelsState (List ℕ)) Error) → IfOk r (GoesOnAt channels h rest m)
     → IfOk r (λ p. pixels_left p ≡ m.left * channels_number channels)
 goes_on_left channels h rest m (Ok q) s = left_at channels h rest m q s
 goes_on_left channels h rest m (Err e) s = tt
