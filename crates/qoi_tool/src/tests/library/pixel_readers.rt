@@ -4,9 +4,9 @@ use crate::tests::fakes::{Bad, ENDS, Source};
 use crate::tests::library::support::decodings::{CUT, after, front};
 use crate::tests::library::support::images::{Image, row};
 use crate::tests::library::support::{
-    assert_bytes, assert_fails, assert_number, assert_refused, made,
+    assert_bytes, assert_count, assert_cut, assert_fails, assert_number, assert_refused, made,
 };
-use qoi::{Channels, Decoder, Error, PixelReader, Reader, Style};
+use qoi::{Channels, Decoder, Error, Header, PixelReader, Reader, Style};
 use std::alloc::Global;
 use std::io::ErrorKind;
 use std::process::Abort;
@@ -77,4 +77,31 @@ fn images_that_are_finished(rt: HostRuntime) {
     assert_bytes(&rt, stream.into_reader(), &[0x78, 0x79]);
     let buffered = finished(&rt, made::buffered(&rt, bytes.as_slice()), &raw);
     assert_bytes(&rt, buffered.into_reader(), &[0x78, 0x79]);
+}
+
+// Reads the fourth of five rows of 8000 bytes, and skips all others: above it more than go at once.
+fn assert_skips<R: Reader + Drop>(rt: &impl Abort, decoder: Decoder<R>, raw: &[u8]) {
+    let (mut pixels, mut piece) = (decoder.into_pixels(), [7; 8000]);
+    assert_cut(rt, pixels.skip_rows(6));
+    assert_number(rt, pixels.left(), raw.len());
+    pixels.skip_rows(3).expect(rt, "refused");
+    assert_count(rt, pixels.read(&mut piece), 8000);
+    assert_bytes(rt, &piece, front(after(raw, 24_000), 8000));
+    pixels.skip_rows(1).expect(rt, "refused");
+    pixels.skip_rows(0).expect(rt, "refused");
+    assert_cut(rt, pixels.skip_rows(1));
+    assert_number(rt, pixels.left(), 0);
+}
+
+#[test]
+fn rows_that_are_skipped(rt: HostRuntime) {
+    let alloc = rt.alloc();
+    let header = Header {
+        height: 5,
+        ..row(2000, Channels::Rgba)
+    };
+    let Image { raw, file, .. } = Image::drawn(&rt, alloc, 0x5c1b5, header, Style::Reference);
+    assert_skips(&rt, made::slice(&rt, &file), &raw);
+    assert_skips(&rt, made::stream(&rt, file.as_slice()), &raw);
+    assert_skips(&rt, made::buffered(&rt, file.as_slice()), &raw);
 }

@@ -1,12 +1,12 @@
 //! Callers that cut a rectangle out of a picture, in memory or while its rows are decoded, and that
 //! paste one into a picture. Only the loops have proof files, with their invariants.
-ghost use Rattle.std.specs.Prelude.{◌≡◌, ◌+◌, ◌-◌, ◌*◌, ◌≤◌, ◌<◌, ◌^◌, ℕ, List, length, Option, Some, Ok, IsTrue, IfOk, OnOk};
+ghost use Rattle.std.specs.Prelude.{◌≡◌, ◌+◌, ◌*◌, ◌≤◌, ◌<◌, ◌^◌, ℕ, List, length, Option, Some, Ok, IsTrue, IfOk, OnOk};
 ghost use Rattle.qoi.specs.declared.header.Header.{Header};
 ghost use Rattle.qoi.specs.Qoi.{channels_number, header_of};
 ghost use Rattle.qoi.specs.DecoderState.{DecoderState};
 ghost use Rattle.qoi.specs.Images.{front_image, file_image};
 ghost use Rattle.qoi.specs.pieces.PixelReader.{HasRows};
-ghost use Rattle.qoi.specs.Rectangles.{row_bytes, rectangle, KeepsOutside};
+ghost use Rattle.qoi.specs.Rectangles.{row_bytes, row_size, rectangle, KeepsOutside};
 
 use crate::tests::library::support::{assert_bytes, assert_cut, assert_given, made};
 use qoi::laws::rectangles::{rows_are_put, rows_that_come};
@@ -86,18 +86,16 @@ pub fn next_row<R: Reader>(pixels: &mut PixelReader<R>, row: &mut [u8]) -> Resul
     Ok(())
 }
 
-/// Keeps the part of row k, if the area has that row.
-pub fn keep(tile: &mut Vec<u8>, row: &[u8], k: usize, area: Area) -> Result<(), Error>
+/// Keeps the part of the next row behind k rows of the area.
+pub fn keep(tile: &mut Vec<u8>, row: &[u8], area: Area) -> Result<(), Error>
     requires { area.left + area.size ≤ length row.now }
-    ensures { (stride : ℕ) (raw : List ℕ) → row.now ≡ row_bytes stride raw k
-        → tile.old.items ≡ rectangle stride area.top area.left (k - area.top) area.size raw
+    ensures { (stride k : ℕ) (raw : List ℕ) → row.now ≡ row_bytes stride raw (area.top + k)
+        → tile.old.items ≡ rectangle stride area.top area.left k area.size raw
         → OnOk result (tile.new.items
-        ≡ rectangle stride area.top area.left (k + 1 - area.top) area.size raw) }
+        ≡ rectangle stride area.top area.left (k + 1) area.size raw) }
 {
     rows_that_come();
-    if k >= area.top {
-        tile.extend_from_slice(&row[area.left..area.left + area.size])?;
-    }
+    tile.extend_from_slice(&row[area.left..area.left + area.size])?;
     Ok(())
 }
 
@@ -108,17 +106,19 @@ pub fn cut_rows(
     row: &mut [u8],
     area: Area,
 ) -> Result<Vec<u8>, Error>
-    requires below { area.top + area.rows < 2 ^ 64 }
+    requires row { length row.old ≡ row_size decoder.channels decoder.header }
+    requires below { area.top < 2 ^ 32 }
     requires within { area.left + area.size ≤ length row.old }
     ensures { IfOk result (λ tile. tile.items ≡ rectangle (length row.old) area.top area.left
         area.rows area.size
         (front_image decoder.entry.channels decoder.entry.header decoder.entry.reader)) }
 {
     let mut pixels = decoder.into_pixels();
+    pixels.skip_rows(area.top as u32)?;
     let mut tile = Vec::new(alloc);
-    for k in 0..area.top + area.rows {
+    for k in 0..area.rows {
         next_row(&mut pixels, row)?;
-        keep(&mut tile, row, k, area)?;
+        keep(&mut tile, row, area)?;
     }
     Ok(tile)
 }

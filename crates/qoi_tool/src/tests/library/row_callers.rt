@@ -1,10 +1,11 @@
 //! Callers that take an image row by row, proved by the contracts of the public calls alone: none
 //! holds the whole image but for the one that returns it.
-ghost use Rattle.std.specs.Prelude.{◌≡◌, ℕ, List, Some, IfOk, OnOk};
+ghost use Rattle.std.specs.Prelude.{◌≡◌, ℕ, List, length, Some, IfOk, OnOk};
 ghost use Rattle.std.specs.Io.KnownBytes.{Appends};
 ghost use Rattle.qoi.specs.Qoi.{file};
 ghost use Rattle.qoi.specs.Images.{front_image, file_image, BeginsWithFile};
 ghost use Rattle.qoi.specs.Reading.{StandsAhead};
+ghost use Rattle.qoi.specs.Rectangles.{row_bytes, row_size};
 
 use crate::tests::fakes::{ONE_RGB_PIXEL, PIXEL};
 use crate::tests::library::support::{assert_bytes, assert_given};
@@ -49,6 +50,21 @@ pub fn copy_rows(alloc: Global, file: &[u8]) -> Result<Vec<u8>, Error>
     let mut out = Vec::new(alloc);
     send_rows(file, &mut out)?;
     Ok(out)
+}
+
+/// Row k of an image from any reader: the rows above it are decoded, and none of them is kept.
+pub fn row_of<R: Reader + Drop>(decoder: Decoder<R>, k: u32, row: &mut [u8]) -> Result<(), Error>
+    ensures { (bytes : List ℕ) → R.ahead decoder.reader ≡ Some bytes
+        → length row.old ≡ row_size decoder.channels decoder.header
+        → OnOk result (row.new ≡ row_bytes (length row.old)
+        (front_image decoder.channels decoder.header bytes) k) }
+{
+    let mut pixels = decoder.into_pixels();
+    pixels.skip_rows(k)?;
+    if pixels.read(row)? < row.len() {
+        return Err(Error::UnexpectedBufferEnd);
+    }
+    Ok(())
 }
 
 // The file of a pixel.

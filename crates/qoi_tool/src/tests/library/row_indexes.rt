@@ -1,6 +1,6 @@
 //! Callers that cut tiles out of a file by an index of its rows, and put a picture together from them.
 //! Only the loops have proof files, with their invariants.
-ghost use Rattle.std.specs.Prelude.{◌≡◌, ℕ, ◌+◌, ◌*◌, ◌<◌, ◌≤◌, ◌^◌, List, length, drop, Some, Ok, IsTrue, IfOk, OnOk};
+ghost use Rattle.std.specs.Prelude.{◌≡◌, ℕ, ◌+◌, ◌*◌, ◌≤◌, List, length, drop, Some, Ok, IsTrue, IfOk, OnOk};
 ghost use Rattle.qoi.specs.Images.{front_image, file_image};
 ghost use Rattle.qoi.specs.Qoi.{header_of, header_size};
 ghost use Rattle.qoi.specs.Rectangles.{rectangle, row_bytes};
@@ -26,21 +26,20 @@ fn tile_rows(
     requires rows { HasRows (file_decoder header.channels header file.now)
         (Some (drop header_size file.now)) (Some pixels.old.reader) (length row.old) area.top
         pixels.old }
-    requires below { area.top + area.rows < 2 ^ 64 }
     requires within { area.left + area.size ≤ length row.old }
     ensures { IfOk result (λ tile. tile.items ≡ rectangle (length row.old) area.top area.left
         area.rows area.size (front_image header.channels header (drop header_size file.now))) }
 {
     let mut tile = Vec::new(alloc);
-    for k in area.top..area.top + area.rows {
+    for k in 0..area.rows {
         next_row(pixels, row)?;
-        keep(&mut tile, row, k, area)?;
+        keep(&mut tile, row, area)?;
     }
     Ok(tile)
 }
 
 /// A tile cut out of the image of a file by an index of its rows, in the memory of one row and the
-/// tile: no row above the index's point is decoded, nor any below the tile.
+/// tile: no row above the index's point is decoded, and below the tile no more than 3,072 bytes.
 pub fn tile(alloc: Global, index: &RowIndex, file: &[u8], area: Area) -> Result<Vec<u8>, Error>
     requires index { IsRowIndex file.now index.now }
     ensures tile { (h : Header) → header_of file.now ≡ Ok h

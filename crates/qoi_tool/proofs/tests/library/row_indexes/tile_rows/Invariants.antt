@@ -1,5 +1,5 @@
--- k rows were read, and the tile holds the parts of those from row `top` on.
-use Rattle.std.proofs.Common.{◌≡◌, ◌-◌, Some, length, drop}
+-- Behind row `top` k rows were read, and the tile holds their parts.
+use Rattle.std.proofs.Common.{◌≡◌, ◌+◌, Some, length, drop}
 use Rattle.qoi.specs.Images.{front_image}
 use Rattle.qoi.specs.Qoi.{header_size}
 use Rattle.qoi.specs.pieces.PixelReader.{HasRows}
@@ -9,6 +9,6 @@ use Rattle.qoi_tool.proofs.tests.library.row_indexes.tile_rows.Given as goal
 
 abbrev pub invariant-loop-k : goal.invariant-loop-k
 invariant-loop-k l = record {
-  read : HasRows (file_decoder l.fn.header.channels l.fn.header l.file) (Some (drop header_size l.file)) (Some l.pixels.reader) (length l.initial.row) l.k l.pixels;
-  tile : l.tile.items ≡ rectangle (length l.initial.row) l.area.top l.area.left (l.k - l.area.top) l.area.size (front_image l.fn.header.channels l.fn.header (drop header_size l.file));
+  read : HasRows (file_decoder l.fn.header.channels l.fn.header l.file) (Some (drop header_size l.file)) (Some l.pixels.reader) (length l.initial.row) (l.area.top + l.k) l.pixels;
+  tile : l.tile.items ≡ rectangle (length l.initial.row) l.area.top l.area.left l.k l.area.size (front_image l.fn.header.channels l.fn.header (drop header_size l.file));
 }
