@@ -34,20 +34,20 @@ pub(super) struct Progress<const N: usize, const F: usize> {
     pub(super) next: u8,
 }
 
-// Whether a chunk with this first byte is short: an index position, a difference, a luma, or a run
-// that a vector of sixteen bytes holds.
+/// Whether a chunk with this first byte is short: an index position, a difference, a luma, or a run
+/// that a vector of sixteen bytes holds.
 #[inline(always)]
-fn is_short<const N: usize>(b1: u8) -> bool
+pub(super) fn is_short<const N: usize>(b1: u8) -> bool
     requires { IsChannels N }
     ensures { IsTrue result ↔ (b1 ≤ run_tag - 1 + 16 / N) }
 {
     b1 <= (QOI_OP_RUN - 1) + (16 / N) as u8
 }
 
-// Whether a run with this first byte has fewer bytes of pixels than there is room for.
+/// Whether a run with this first byte has fewer bytes of pixels than there is room for.
 #[inline(always)]
 #[tactic(auto, using(crate::proofs::decoding::FastSteps::run_below))]
-fn leaves_room<const N: usize>(b1: u8, room: usize) -> bool
+pub(super) fn leaves_room<const N: usize>(b1: u8, room: usize) -> bool
     requires channels { IsChannels N }
     requires run { (run_tag ≤ b1) × (b1 < rgb_tag) }
     ensures { IsTrue result ↔ (N * (b1 - (run_tag - 1)) < room) }
@@ -117,10 +117,10 @@ impl<const N: usize, const F: usize> Progress<N, F> {
         }
     }
 
-    // Decodes short chunks that follow each other, `AT_ONCE` at most: one or four. `short_series`
-    // has all of them that `fast_loop` tests room for.
+    /// Decodes short chunks that follow each other, `AT_ONCE` at most: one or four. `short_series`
+    /// has all of them that `fast_loop` tests room for.
     #[inline(always)]
-    fn short_chunks<const AT_ONCE: usize>(
+    pub(super) fn short_chunks<const AT_ONCE: usize>(
         self,
         table: &mut TermTable,
         bytes: &[u8],
@@ -128,7 +128,7 @@ impl<const N: usize, const F: usize> Progress<N, F> {
     ) -> Self
         requires most { (AT_ONCE ≡ 1) ⊎ (AT_ONCE ≡ 4) }
         requires ahead { HasAhead 9 (16 * AT_ONCE) bytes.now out.old self }
-        ensures step { FastStep 0 8 (16 * AT_ONCE) bytes.now
+        ensures step { FastStep 0 (2 * AT_ONCE) (16 * AT_ONCE) bytes.now
             self.entry table.old out.old result table.new out.new }
         ensures some { result.next ≤ run_tag - 1 + 16 / N → self.entry.taken < result.taken }
     {
@@ -200,10 +200,10 @@ impl<const N: usize, const F: usize> Progress<N, F> {
         }
     }
 
-    // Decodes a run that a vector doesn't hold, and that doesn't fill the output: by the vectors of
-    // any run, if those have room.
+    /// Decodes a run that a vector doesn't hold, and that doesn't fill the output: by the vectors of
+    /// any run, if those have room.
     #[inline(always)]
-    fn long_run(self, table: &mut TermTable, bytes: &[u8], out: &mut [u8]) -> Self
+    pub(super) fn long_run(self, table: &mut TermTable, bytes: &[u8], out: &mut [u8]) -> Self
         requires ahead { HasAhead 2 (N * (self.next - (run_tag - 1)) + 1) bytes.now out.old self }
         requires run { (run_tag ≤ self.next) × (self.next < rgb_tag) }
         ensures step { FastStep 1 1 (N * (self.entry.next - (run_tag - 1))) bytes.now

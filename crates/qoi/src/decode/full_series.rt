@@ -1,9 +1,10 @@
-//! Series of RGB or of RGBA chunks, as noise has them, by a loop of their own.
-ghost use Rattle.std.specs.Prelude.{◌≡◌};
-ghost use Rattle.qoi.specs.inner.Filling.{CanLoop, FastChunks, IsFullTag};
+//! The loop for noise, in which most chunks are RGB or RGBA ones: it takes those in series, of
+//! which no chunk waits for another, and each jump goes the same way until the series ends.
+ghost use Rattle.std.specs.Prelude.{◌≡◌, ◌<◌};
+ghost use Rattle.qoi.specs.inner.Filling.{CanLoop, HasAhead, FastChunks, IsFullTag};
 
 use crate::consts::{QOI_OP_RGB, QOI_OP_RGBA};
-use crate::decode::fast::{INPUT_ROOM, OUTPUT_ROOM, Progress};
+use crate::decode::fast::{INPUT_ROOM, OUTPUT_ROOM, Progress, is_short, leaves_room};
 use crate::decode::hashed::Hashed;
 use crate::decode::output::store_vector;
 use crate::decode::table::TermTable;
@@ -42,78 +43,69 @@ impl<const N: usize, const F: usize, const TAG: u8> Series<N, F, TAG> {
         };
         Series { to, before }
     }
-
-    // Decodes such chunks, as many as come one after the other, but four at most.
-    #[inline(always)]
-    fn chunks_of(self, table: &mut TermTable, bytes: &[u8], out: &mut [u8]) -> Self
-        requires ahead { HasAhead 21 28 bytes.now out.old self.to }
-        requires tag { IsFullTag TAG × (self.to.next ≡ TAG) }
-        requires alpha { KeepsAlpha TAG self.before self.to.last }
-        ensures step { FastStep 4 20 16 bytes.now
-            self.entry.to table.old out.old result.to table.new out.new }
-        ensures alpha { KeepsAlpha TAG result.before result.to.last }
-    {
-        let one = self.chunk_of(table, bytes, out);
-        if one.to.next != TAG {
-            return one;
-        }
-        let two = one.chunk_of(table, bytes, out);
-        if two.to.next != TAG {
-            return two;
-        }
-        let three = two.chunk_of(table, bytes, out);
-        if three.to.next != TAG {
-            return three;
-        }
-        three.chunk_of(table, bytes, out)
-    }
 }
 
-// Decodes chunks with the first byte `TAG`, as many as come one after the other, while there is
-// room ahead.
-#[inline(never)]
+// Decodes chunks with the first byte `TAG`, as many as come one after the other: two, and others
+// while there is room ahead, which is tested for two at once.
+#[inline(always)]
 fn series_of<const N: usize, const F: usize, const TAG: u8>(
     table: &mut TermTable,
     from: Progress<N, F>,
     bytes: &[u8],
     out: &mut [u8],
 ) -> Progress<N, F>
-    requires tag { IsFullTag TAG }
-    requires ahead { CanLoop 8 1 bytes.now out.old from }
-    ensures { FastChunks bytes.now from.entry table.old out.old result table.new out.new }
+    requires tag { IsFullTag TAG × (from.next ≡ TAG) }
+    requires room { CanLoop 8 1 bytes.now out.old from }
+    requires ahead { HasAhead 11 20 bytes.now out.old from }
+    ensures chunks { FastChunks bytes.now from.entry table.old out.old result table.new out.new }
+    ensures some { from.entry.taken < result.taken }
 {
     let before = from.last;
-    let to = from.by_fields();
-    let mut series = Series::<N, F, TAG> { to, before };
+    let mut series = Series::<N, F, TAG> { to: from, before };
     let input_end = bytes.len() - INPUT_ROOM;
     let output_end = out.len() - OUTPUT_ROOM;
-    while series.to.next == TAG && series.to.taken <= input_end && series.to.at <= output_end {
-        series = series.chunks_of(table, bytes, out);
+    loop {
+        let one = series.chunk_of(table, bytes, out);
+        if one.to.next != TAG {
+            return one.to.by_fields();
+        }
+        series = one.chunk_of(table, bytes, out);
+        let Series { to, .. } = series;
+        if to.next != TAG || input_end < to.taken || output_end < to.at {
+            return to.by_fields();
+        }
     }
-    let Series { to, .. } = series;
-    to.by_fields()
 }
 
-/// Decodes a series of RGB or of RGBA chunks, if one comes next.
-#[inline(always)]
-pub(super) fn take_full_series<const N: usize, const F: usize>(
+/// `fast_loop` for noise: short chunks by twos, and full ones in series.
+#[inline(never)]
+pub(super) fn dense_loop<const N: usize, const F: usize>(
     table: &mut TermTable,
     from: Progress<N, F>,
     bytes: &[u8],
     out: &mut [u8],
 ) -> Progress<N, F>
-    requires { CanLoop 8 11 bytes.now out.old from }
+    requires { CanLoop 8 1 bytes.now out.old from }
     ensures { FastChunks bytes.now from.entry table.old out.old result table.new out.new }
 {
-    let taken = from.taken;
-    if from.next == QOI_OP_RGB && bytes[taken + 4] == QOI_OP_RGB && bytes[taken + 8] == QOI_OP_RGB {
-        return series_of::<N, F, 0xfe>(table, from, bytes, out);
+    let mut now = from.by_fields();
+    let input_end = bytes.len() - INPUT_ROOM;
+    let output_end = out.len() - OUTPUT_ROOM;
+    while now.taken <= input_end && now.at <= output_end {
+        let one = now.short_chunks::<1>(table, bytes, out);
+        now = one.short_chunks::<1>(table, bytes, out);
+        if is_short::<N>(now.next) {
+            continue;
+        }
+        if now.next == QOI_OP_RGB {
+            now = series_of::<N, F, 0xfe>(table, now, bytes, out);
+        } else if now.next == QOI_OP_RGBA {
+            now = series_of::<N, F, 0xff>(table, now, bytes, out);
+        } else if leaves_room::<N>(now.next, out.len() - now.at) {
+            now = now.long_run(table, bytes, out);
+        } else {
+            return now.by_fields();
+        }
     }
-    if from.next == QOI_OP_RGBA
-        && bytes[taken + 5] == QOI_OP_RGBA
-        && bytes[taken + 10] == QOI_OP_RGBA
-    {
-        return series_of::<N, F, 0xff>(table, from, bytes, out);
-    }
-    from
+    now.by_fields()
 }

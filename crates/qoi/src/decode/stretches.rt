@@ -1,12 +1,12 @@
-//! Chunks in memory while input and output have room ahead, from any pixel on: in stretches, after
-//! each of which a series of RGB or of RGBA chunks is looked for (`full_series`): so it costs
-//! `fast_loop` no test a chunk. `AT_ONCE` is for how many short chunks room is tested at once.
+//! Chunks in memory while input and output have room ahead, from any pixel on: in stretches, each
+//! by the loop that suits the one before. So a change of loops costs no test a chunk. `AT_ONCE` is
+//! for how many short chunks room is tested at once.
 ghost use Rattle.std.specs.Prelude.{◌≡◌, ◌⊎◌, ◌+◌, ◌*◌, ◌<◌, ◌≤◌, length, drop, Some, true};
 ghost use Rattle.qoi.specs.inner.Filling.{INPUT_ROOM, IsFillable, filling, CanLoop, FastChunks};
 ghost use Rattle.qoi.specs.inner.Chunks.{TakesMore};
 
 use crate::decode::fast::{INPUT_ROOM, OUTPUT_ROOM, Progress, SHORT_OUTPUT};
-use crate::decode::full_series::take_full_series;
+use crate::decode::full_series::dense_loop;
 use crate::decode::reached::{Decoded, Reached};
 use crate::decode::table::TermTable;
 
@@ -15,14 +15,13 @@ const FIRST_STRETCH: usize = 512;
 
 const STRETCH: usize = 2048;
 
-// After a series of more bytes than `LONG_SERIES` another one may soon follow, and a stretch has
-// fewer.
-const LONG_SERIES: usize = 32;
+// A stretch is dense, as noise is, if it took more bytes than this a pixel. The next one then has
+// `DENSE_STRETCH`.
+const DENSE: usize = 3;
 
-const SHORT_STRETCH: usize = 8;
+const DENSE_STRETCH: usize = 4096;
 
-// `chunks_ahead` from a state of the loop: in stretches, and in series of full chunks, if
-// `AT_ONCE` is 8, else by `fast_loop`.
+// `chunks_ahead` from a state of the loop: in stretches, if `AT_ONCE` is 8.
 #[inline(always)]
 fn chunks_by_stretches<const N: usize, const F: usize, const AT_ONCE: usize>(
     table: &mut TermTable,
@@ -37,18 +36,25 @@ fn chunks_by_stretches<const N: usize, const F: usize, const AT_ONCE: usize>(
         return from.fast_loop::<1>(table, bytes, out);
     }
     let mut now = from.by_fields();
+    let mut is_dense = false;
     let input_end = bytes.len() - INPUT_ROOM;
     let mut stretch_end = input_end.min(now.taken + FIRST_STRETCH);
     while now.taken <= input_end {
         // For this call the input ends behind the stretch.
-        let stretch = now.fast_loop::<8>(table, &bytes[..stretch_end + INPUT_ROOM], out);
+        let front = &bytes[..stretch_end + INPUT_ROOM];
+        let stretch = if is_dense {
+            dense_loop(table, now, front, out)
+        } else {
+            now.fast_loop::<8>(table, front, out)
+        };
         // Within the stretch the output has no room for what comes; or the input ends.
         if stretch.taken <= stretch_end || input_end < stretch.taken {
             return stretch.by_fields();
         }
-        now = take_full_series(table, stretch, bytes, out).by_fields();
-        let is_long = LONG_SERIES < now.taken - stretch.taken;
-        stretch_end = input_end.min(now.taken + if is_long { SHORT_STRETCH } else { STRETCH });
+        let pixels = (stretch.at - now.at) / N;
+        is_dense = DENSE * pixels < stretch.taken - now.taken;
+        now = stretch.by_fields();
+        stretch_end = input_end.min(now.taken + if is_dense { DENSE_STRETCH } else { STRETCH });
     }
     now.by_fields()
 }
