@@ -1,11 +1,12 @@
 //! A caller for each way of using the library, proved by the contracts of its public calls alone.
-ghost use Rattle.std.specs.Prelude.{◌≡◌, ℕ, ◌+◌, ◌*◌, ◌≤◌, ◌++◌, List, Option, Some, Ok, IfOk, IfErr, IsErrOf, length, map, drop};
+ghost use Rattle.std.specs.Prelude.{◌≡◌, ℕ, ◌+◌, ◌*◌, ◌<◌, ◌≤◌, ◌++◌, List, Option, Some, Ok, IfOk, IfErr, IsErrOf, length, map, drop};
 ghost use Rattle.std.specs.Io.KnownBytes.{Consumes};
 ghost use Rattle.qoi.specs.declared.header.Header.{Header};
 ghost use Rattle.qoi.specs.declared.types.Style.TheVariants.{Reference, Tight};
-ghost use Rattle.qoi.specs.Qoi.{channels_number, header_bytes, pixel_count, header_size, IsValid, file};
-ghost use Rattle.qoi.specs.Encoded.{IsFileOf, IsShortest, Spans, OpensBlack, image_pixels};
-ghost use Rattle.qoi.specs.Raw.{without_fourth};
+ghost use Rattle.qoi.specs.declared.error.Error.{Error};
+ghost use Rattle.qoi.specs.Qoi.{channels_number, header_bytes, header_of, pixel_count, header_size, IsValid, file};
+ghost use Rattle.qoi.specs.Encoded.{IsFileOf, IsShortest, Spans, OpensBlack, image_header, image_pixels};
+ghost use Rattle.qoi.specs.Raw.{image_byte_count, without_fourth};
 ghost use Rattle.qoi_tool.specs.Files.{AreFiles};
 ghost use Rattle.qoi.specs.Regular.{Regular};
 ghost use Rattle.qoi.specs.Writers.{AppendsBeginning};
@@ -53,7 +54,8 @@ pub fn encoded_part<'a>(
     width: u32,
     height: u32,
 ) -> Result<&'a [u8], Error>
-    ensures { IfOk result (λ file. (h : Header) × IsFileOf Reference h raw.now file.now) }
+    ensures { IfOk result (λ file. (h : Header) × (image_header raw.now width height ≡ Ok h)
+        × IsFileOf Reference h raw.now file.now) }
 {
     let size = encode_to_buf(buf, raw, width, height)?;
     Ok(&buf[..size])
@@ -133,10 +135,14 @@ pub fn lengths<W: Write>(
 /// Shortness. A file is at most four bytes longer than that of any regular list of the image, and
 /// no longer at all unless the image opens with opaque black.
 pub fn near_shortest(alloc: Global, raw: &[u8], width: u32, height: u32) -> Result<Vec<u8>, Error>
-    ensures four_at_most { IfOk result (λ v. (h : Header) × ((others : List Chunk)
+    ensures encoded { IfOk result (λ v. (h : Header) × (image_header raw.now width height ≡ Ok h)
+        × IsFileOf Reference h raw.now v.items) }
+    ensures four_at_most { IfOk result (λ v. (h : Header)
+        × (image_header raw.now width height ≡ Ok h) × ((others : List Chunk)
         → Spans h raw.now others → Regular others
         → length v.items ≤ length (file h others) + 4)) }
     ensures none_shorter { IfOk result (λ v. (h : Header)
+        × (image_header raw.now width height ≡ Ok h)
         × ((OpensBlack (image_pixels h raw.now) → ⊥) → (others : List Chunk)
         → Spans h raw.now others → Regular others → length v.items ≤ length (file h others))) }
 {
@@ -146,8 +152,11 @@ pub fn near_shortest(alloc: Global, raw: &[u8], width: u32, height: u32) -> Resu
 /// The shortest file. In style `Tight` no list of chunks of the image, regular or not, makes a
 /// shorter one.
 pub fn shortest(alloc: Global, raw: &[u8], width: u32, height: u32) -> Result<Vec<u8>, Error>
-    ensures encoded { IfOk result (λ v. (h : Header) × IsFileOf Tight h raw.now v.items) }
-    ensures no_shorter { IfOk result (λ v. (h : Header) × IsShortest h raw.now (length v.items)) }
+    ensures encoded { IfOk result (λ v. (h : Header) × (image_header raw.now width height ≡ Ok h)
+        × IsFileOf Tight h raw.now v.items) }
+    ensures no_shorter { IfOk result (λ v. (h : Header)
+        × (image_header raw.now width height ≡ Ok h)
+        × IsShortest h raw.now (length v.items)) }
 {
     let encoder = Encoder::new(raw, width, height)?.with_style(Style::Tight);
     encoder.encode_to_vec(alloc)
@@ -216,10 +225,13 @@ pub fn bounded_bytes(alloc: Global, file: &[u8]) -> Result<Vec<u8>, Error>
 }
 
 /// Memory that is bounded first. The raw bytes of a file whose image is small enough, as the free
-/// call decodes them.
+/// call decodes them; `OutOfMemory` if it isn't.
 pub fn at_most(alloc: Global, file: &[u8], most: usize) -> Result<Vec<u8>, Error>
-    ensures { IfOk result (λ raw. (h : Header) × (rest : List ℕ)
+    ensures decoded { IfOk result (λ raw. (h : Header) × (rest : List ℕ)
         × DecodesFile file.now h rest raw.items) }
+    ensures small { IfOk result (λ raw. length raw.items ≤ most) }
+    ensures large { (h : Header) → header_of file.now ≡ Ok h → most < image_byte_count h
+        → IsErrOf result Error.OutOfMemory }
 {
     let mut decoder = Decoder::new(file)?;
     if decoder.required_buf_len() > most {

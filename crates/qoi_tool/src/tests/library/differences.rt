@@ -1,9 +1,10 @@
 //! Two files are compared by their pixels, in the memory of two pieces. Only the loops have proof
 //! files, with their invariants.
-ghost use Rattle.std.specs.Prelude.{◌≡◌, ◌+◌, ◌^◌, ◌<◌, ◌≤◌, ℕ, List, ◌++◌, length, take, drop, None, Some, IsOk, IfOk, OnOk, IfSome, IsTrue};
+ghost use Rattle.std.specs.Prelude.{◌≡◌, ◌+◌, ◌^◌, ◌<◌, ◌≤◌, ℕ, List, ◌++◌, length, take, drop, None, Some, Ok, IsOk, IfOk, OnOk, IfSome, IsTrue};
 ghost use Rattle.qoi.specs.declared.header.Header.{Header};
 ghost use Rattle.qoi.specs.DecoderState.{DecoderState, output_byte_count};
 ghost use Rattle.qoi.specs.Images.{file_image, front_image, HasFrontFile};
+ghost use Rattle.qoi.specs.Qoi.{header_of};
 ghost use Rattle.qoi.specs.Reading.{StandsAhead};
 ghost use Rattle.qoi.specs.pieces.PixelReader.{HasGiven, pixels_left};
 ghost use Rattle.qoi_tool.specs.Pictures.{DiffersAt, HaveOneShape};
@@ -136,13 +137,15 @@ fn have_one_shape(one: &Header, other: &Header) -> bool
 }
 
 /// The first byte in which the images of two files differ; none if all are the same. Two files of
-/// one shape are never refused.
+/// one shape are never refused, and two of others always are.
 pub fn first_difference(one: &[u8], other: &[u8]) -> Result<Option<usize>>
     ensures equal { IfOk result (λ o. o ≡ None → file_image one.now ≡ file_image other.now) }
     ensures first { IfOk result (λ o. IfSome o
         (DiffersAt (file_image one.now) (file_image other.now))) }
     ensures whole { (h k : Header) (n m : ℕ) → HasFrontFile h n one.now
         → HasFrontFile k m other.now → HaveOneShape h k → IsOk result }
+    ensures shape { (h k : Header) → header_of one.now ≡ Ok h → header_of other.now ≡ Ok k
+        → OnOk result (HaveOneShape h k) }
 {
     files_are_read();
     let first = Decoder::new(one)?;

@@ -1,15 +1,21 @@
 //! A store of frames with an index: a frame is appended, read by its number, and dropped, and the
 //! store is recovered from its bytes alone. Only `find` has a proof file: its loop's invariant and
 //! measure.
-ghost use Rattle.std.specs.Prelude.{◌≡◌, ℕ, ◌+◌, ◌<◌, ◌≤◌, List, [], ◌∷◌, ◌++◌, None, IfOk, IfSome, IsErr, IsSome, OnOk, OnErr, length, take, drop, slice_index_or};
+ghost use Rattle.std.specs.Prelude.{◌≡◌, ℕ, ◌+◌, ◌<◌, ◌≤◌, List, [], ◌∷◌, ◌++◌, None, Ok, IfOk, IfErr, IfSome, IsErrOf, IsSome, OnOk, OnErr, length, take, drop, slice_index_or};
+ghost use Rattle.qoi.specs.declared.error.Error.{Error};
+ghost use Rattle.qoi.specs.declared.header.Header.{Header};
+ghost use Rattle.qoi.specs.Encoded.{image_header};
 ghost use Rattle.qoi.specs.Images.{file_image, file_rest, BeginsWithFile};
-ghost use Rattle.qoi.specs.Tiles.{AreFrames};
+ghost use Rattle.qoi.specs.Qoi.{default_header, header_of};
+ghost use Rattle.qoi.specs.Tiles.{AreFrames, ArePictures};
 
 use crate::tests::fakes::{ONE_RGB_PIXEL, PIXEL};
 use crate::tests::library::support::decodings::after;
-use crate::tests::library::support::{assert_bytes, assert_cut, assert_given, made};
-use qoi::laws::reading::{files_are_read, frames_are_found, frames_are_read, frames_stay};
-use qoi::{Decoder, Encoder, Error, decode_to_vec};
+use crate::tests::library::support::{assert_bytes, assert_cut, assert_header, made};
+use qoi::laws::reading::{
+    files_are_read, frames_are_found, frames_stay, pictures_are_read, stores_stay,
+};
+use qoi::{Decoder, Encoder, Error, Header, decode_to_vec};
 use std::alloc::Global;
 use std::process::Abort;
 
@@ -23,25 +29,26 @@ pub struct Frames {
 impl Frames {
     /// A store of no frames.
     pub fn new(alloc: Global) -> Frames
-        ensures { AreFrames result.bytes.items result.offsets.items [] }
+        ensures { ArePictures result.bytes.items result.offsets.items [] [] }
     {
-        frames_stay();
+        stores_stay();
         Frames {
             bytes: Vec::new(alloc),
             offsets: Vec::new(alloc),
         }
     }
 
-    /// Appends a frame; the others stay. A refusal leaves all as it was.
+    /// Appends a frame of this width and height; the others stay. A refusal leaves all as it was.
     pub fn append(&mut self, raw: &[u8], width: u32, height: u32) -> Result<(), Error>
-        ensures added { (images : List (List ℕ))
-            → AreFrames self.old.bytes.items self.old.offsets.items images
-            → OnOk result (AreFrames self.new.bytes.items self.new.offsets.items
+        ensures added { (headers : List Header) (images : List (List ℕ))
+            → ArePictures self.old.bytes.items self.old.offsets.items headers images
+            → OnOk result ((h : Header) × (image_header raw.now width height ≡ Ok h)
+            × ArePictures self.new.bytes.items self.new.offsets.items (headers ++ h ∷ [])
             (images ++ raw.now ∷ [])) }
         ensures refused { OnErr result ((self.new.bytes.items ≡ self.old.bytes.items)
             × (self.new.offsets.items ≡ self.old.offsets.items)) }
     {
-        frames_stay();
+        stores_stay();
         let at = self.bytes.len();
         self.offsets.reserve(1)?;
         let encoder = Encoder::new(raw, width, height)?;
@@ -55,20 +62,24 @@ impl Frames {
 
     /// The bytes from frame k on, if there are so many frames.
     pub fn at<'a>(&'a self, k: usize) -> Option<&'a [u8]>
-        ensures image { (images : List (List ℕ))
-            → AreFrames self.entry.now.bytes.items self.entry.now.offsets.items images
+        ensures header { (headers : List Header) (images : List (List ℕ))
+            → ArePictures self.entry.now.bytes.items self.entry.now.offsets.items headers images
+            → IfSome result (λ b.
+            header_of b.now ≡ Ok (slice_index_or headers k default_header)) }
+        ensures image { (headers : List Header) (images : List (List ℕ))
+            → ArePictures self.entry.now.bytes.items self.entry.now.offsets.items headers images
             → IfSome result (λ b. file_image b.now ≡ slice_index_or images k []) }
-        ensures stands { (images : List (List ℕ))
-            → AreFrames self.entry.now.bytes.items self.entry.now.offsets.items images
+        ensures stands { (headers : List Header) (images : List (List ℕ))
+            → ArePictures self.entry.now.bytes.items self.entry.now.offsets.items headers images
             → IfSome result (λ b. BeginsWithFile b.now) }
-        ensures some { (images : List (List ℕ))
-            → AreFrames self.entry.now.bytes.items self.entry.now.offsets.items images
+        ensures some { (headers : List Header) (images : List (List ℕ))
+            → ArePictures self.entry.now.bytes.items self.entry.now.offsets.items headers images
             → k < length images → IsSome result }
-        ensures none { (images : List (List ℕ))
-            → AreFrames self.entry.now.bytes.items self.entry.now.offsets.items images
+        ensures none { (headers : List Header) (images : List (List ℕ))
+            → ArePictures self.entry.now.bytes.items self.entry.now.offsets.items headers images
             → length images ≤ k → result ≡ None }
     {
-        frames_are_read();
+        pictures_are_read();
         if k >= self.offsets.len() {
             return None;
         }
@@ -79,29 +90,33 @@ impl Frames {
         Some(&self.bytes[at..])
     }
 
-    /// Frame k.
-    pub fn get(&self, alloc: Global, k: usize) -> Result<Vec<u8>, Error>
-        ensures frame { (images : List (List ℕ))
-            → AreFrames self.now.bytes.items self.now.offsets.items images
-            → IfOk result (λ raw. raw.items ≡ slice_index_or images k []) }
-        ensures none { (images : List (List ℕ))
-            → AreFrames self.now.bytes.items self.now.offsets.items images → length images ≤ k
-            → IsErr result }
+    /// Frame k and its header. A frame that the store has is refused only if memory runs out.
+    pub fn get(&self, alloc: Global, k: usize) -> Result<(Header, Vec<u8>), Error>
+        ensures frame { (headers : List Header) (images : List (List ℕ))
+            → ArePictures self.now.bytes.items self.now.offsets.items headers images
+            → IfOk result (λ x. (x.0 ≡ slice_index_or headers k default_header)
+            × (x.1.items ≡ slice_index_or images k [])) }
+        ensures found { (headers : List Header) (images : List (List ℕ))
+            → ArePictures self.now.bytes.items self.now.offsets.items headers images
+            → k < length images → IfErr result (λ e. e ≡ Error.OutOfMemory) }
+        ensures none { (headers : List Header) (images : List (List ℕ))
+            → ArePictures self.now.bytes.items self.now.offsets.items headers images
+            → length images ≤ k → IsErrOf result Error.UnexpectedBufferEnd }
     {
         let Some(bytes) = self.at(k) else {
             return Err(Error::UnexpectedBufferEnd);
         };
-        let (_, raw) = decode_to_vec(alloc, bytes)?;
-        Ok(raw)
+        decode_to_vec(alloc, bytes)
     }
 
     /// Drops the last frame; the others stay.
     pub fn drop_last(&mut self)
-        ensures { (images : List (List ℕ)) (last : List ℕ)
-            → AreFrames self.old.bytes.items self.old.offsets.items (images ++ last ∷ [])
-            → AreFrames self.new.bytes.items self.new.offsets.items images }
+        ensures { (headers : List Header) (h : Header) (images : List (List ℕ)) (last : List ℕ)
+            → ArePictures self.old.bytes.items self.old.offsets.items (headers ++ h ∷ [])
+            (images ++ last ∷ [])
+            → ArePictures self.new.bytes.items self.new.offsets.items headers images }
     {
-        frames_stay();
+        stores_stay();
         if let Some(at) = self.offsets.pop() {
             self.bytes.truncate(at);
         }
@@ -109,16 +124,16 @@ impl Frames {
 
     /// The store of the whole frames that the bytes begin with, exactly; what follows is cut off.
     pub fn recover(alloc: Global, bytes: Vec<u8>) -> Result<Frames, Error>
-        ensures frames { IfOk result (λ s. (images : List (List ℕ))
-            × AreFrames s.bytes.items s.offsets.items images) }
+        ensures frames { IfOk result (λ s. (headers : List Header) × (images : List (List ℕ))
+            × ArePictures s.bytes.items s.offsets.items headers images) }
         ensures front { IfOk result (λ s.
             s.bytes.items ≡ take (length s.bytes.items) bytes.items) }
-        ensures whole { (front rest offsets : List ℕ) (images : List (List ℕ))
-            → AreFrames front offsets images → bytes.items ≡ front ++ rest
-            → (BeginsWithFile rest → ⊥)
-            → IfOk result (λ s. AreFrames s.bytes.items s.offsets.items images) }
-        ensures same { (front rest offsets : List ℕ) (images : List (List ℕ))
-            → AreFrames front offsets images → bytes.items ≡ front ++ rest
+        ensures whole { (front rest offsets : List ℕ) (headers : List Header)
+            (images : List (List ℕ)) → ArePictures front offsets headers images
+            → bytes.items ≡ front ++ rest → (BeginsWithFile rest → ⊥)
+            → IfOk result (λ s. ArePictures s.bytes.items s.offsets.items headers images) }
+        ensures same { (front rest offsets : List ℕ) (headers : List Header)
+            (images : List (List ℕ)) → ArePictures front offsets headers images → bytes.items ≡ front ++ rest
             → (BeginsWithFile rest → ⊥)
             → IfOk result (λ s. (s.bytes.items ≡ front) × (s.offsets.items ≡ offsets)) }
     {
@@ -130,21 +145,17 @@ impl Frames {
 /// Cuts off what follows the frames.
 fn cut(mut bytes: Vec<u8>, end: usize, offsets: Vec<usize>) -> Frames
     ensures frames { (images : List (List ℕ))
-        → AreFrames (take end bytes.items) offsets.items images
-        → AreFrames result.bytes.items result.offsets.items images }
+        → AreFrames (take end bytes.items) offsets.items images → (headers : List Header)
+        × ArePictures result.bytes.items result.offsets.items headers images }
     ensures front { result.bytes.items ≡ take (length result.bytes.items) bytes.items }
-    ensures whole { (front rest others : List ℕ) (images found : List (List ℕ))
-        → AreFrames (take end bytes.items) offsets.items found
-        → (BeginsWithFile (drop end bytes.items) → ⊥) → AreFrames front others images
-        → bytes.items ≡ front ++ rest → (BeginsWithFile rest → ⊥)
-        → AreFrames result.bytes.items result.offsets.items images }
-    ensures same { (front rest others : List ℕ) (images found : List (List ℕ))
-        → AreFrames (take end bytes.items) offsets.items found
-        → (BeginsWithFile (drop end bytes.items) → ⊥) → AreFrames front others images
+    ensures same { (front rest others : List ℕ) (headers : List Header)
+        (images found : List (List ℕ)) → AreFrames (take end bytes.items) offsets.items found
+        → (BeginsWithFile (drop end bytes.items) → ⊥) → ArePictures front others headers images
         → bytes.items ≡ front ++ rest → (BeginsWithFile rest → ⊥)
         → (result.bytes.items ≡ front) × (result.offsets.items ≡ others) }
 {
     frames_are_found();
+    stores_stay();
     bytes.truncate(end);
     Frames { bytes, offsets }
 }
@@ -241,6 +252,13 @@ fn three(rt: &impl Abort, alloc: Global) -> Frames {
     frames
 }
 
+// Frame k of a store is this image of one pixel.
+fn assert_frame(rt: &impl Abort, alloc: Global, frames: &Frames, k: usize, raw: &[u8]) {
+    let (header, found) = frames.get(alloc, k).expect(rt, "refused");
+    assert_header(rt, &header, &Header::default());
+    assert_bytes(rt, &found, raw);
+}
+
 // Compares all that a store holds.
 fn assert_holds(rt: &impl Abort, frames: &Frames, bytes: &[u8], offsets: &[usize]) {
     assert_bytes(rt, &frames.bytes, bytes);
@@ -251,8 +269,8 @@ fn assert_holds(rt: &impl Abort, frames: &Frames, bytes: &[u8], offsets: &[usize
 fn three_frames(rt: HostRuntime) {
     let alloc = rt.alloc();
     let mut frames = three(&rt, alloc);
-    assert_given(&rt, frames.get(alloc, 0), &PIXEL);
-    assert_given(&rt, frames.get(alloc, 1), &BLACK);
+    assert_frame(&rt, alloc, &frames, 0, &PIXEL);
+    assert_frame(&rt, alloc, &frames, 1, &BLACK);
     assert_cut(&rt, frames.get(alloc, 3));
     // Two raw bytes are no image.
     assert!(rt; frames.append(&[1, 2], 1, 1).is_err());

@@ -1,21 +1,28 @@
 //! Callers that keep several files in one slice (a pack): the image of the file at an offset comes
-//! back, whatever follows it. `put_many` alone has a proof file: its loop's invariant.
-ghost use Rattle.std.specs.Prelude.{◌≡◌, ℕ, List, IfOk, OnOk};
-ghost use Rattle.qoi.specs.Images.{file_image};
-ghost use Rattle.qoi.specs.Tiles.{HasTile};
+//! back with its header, whatever follows it. `put_many` alone has a proof file: its loop's invariant.
+ghost use Rattle.std.specs.Prelude.{◌≡◌, ◌<◌, ℕ, List, length, Ok, IfOk, IfErr, IsErrOf, OnOk};
+ghost use Rattle.qoi.specs.declared.error.Error.{Error};
+ghost use Rattle.qoi.specs.declared.header.Header.{Header};
+ghost use Rattle.qoi.specs.Encoded.{image_header};
+ghost use Rattle.qoi.specs.Images.{file_image, BeginsWithFile};
+ghost use Rattle.qoi.specs.Qoi.{header_of};
+ghost use Rattle.qoi.specs.Tiles.{HasPicture};
 
 use crate::tests::fakes::{ONE_RGB_PIXEL, PIXEL};
-use crate::tests::library::support::{assert_cut, assert_given, assert_number};
-use qoi::laws::reading::tiles_stay;
-use qoi::{Decoder, Encoder, Error, decode_to_vec};
+use crate::tests::library::support::{assert_bytes, assert_cut, assert_header, assert_number};
+use qoi::laws::reading::pictures_stay;
+use qoi::{Encoder, Error, Header, decode_to_vec};
 use std::alloc::Global;
 use std::process::Abort;
 
 /// A tile is put at the end of an atlas, and its offset returned; the tiles before it stay.
 pub fn put(atlas: &mut Vec<u8>, raw: &[u8], width: u32, height: u32) -> Result<usize, Error>
-    ensures put { IfOk result (λ offset. HasTile atlas.new.items offset raw.now) }
-    ensures kept { (offset : ℕ) (tile : List ℕ) → HasTile atlas.old.items offset tile
-        → OnOk result (HasTile atlas.new.items offset tile) }
+    ensures put { (h : Header) → image_header raw.now width height ≡ Ok h
+        → IfOk result (λ offset. HasPicture atlas.new.items offset h raw.now) }
+    ensures accepted { OnOk result ((h : Header) × (image_header raw.now width height ≡ Ok h)) }
+    ensures kept { (offset : ℕ) (h : Header) (tile : List ℕ)
+        → HasPicture atlas.old.items offset h tile
+        → OnOk result (HasPicture atlas.new.items offset h tile) }
 {
     let offset = atlas.len();
     Encoder::new(raw, width, height)?.encode_to_stream(atlas)?;
@@ -25,28 +32,42 @@ pub fn put(atlas: &mut Vec<u8>, raw: &[u8], width: u32, height: u32) -> Result<u
 /// A file of any origin is put at the end of an atlas, if it is one, and its offset returned; the
 /// tiles before it stay.
 pub fn put_file(alloc: Global, atlas: &mut Vec<u8>, file: &[u8]) -> Result<usize, Error>
-    ensures put { IfOk result (λ offset. HasTile atlas.new.items offset (file_image file.now)) }
-    ensures kept { (offset : ℕ) (tile : List ℕ) → HasTile atlas.old.items offset tile
-        → OnOk result (HasTile atlas.new.items offset tile) }
+    ensures put { (h : Header) → header_of file.now ≡ Ok h
+        → IfOk result (λ offset. HasPicture atlas.new.items offset h (file_image file.now)) }
+    ensures accepted { OnOk result (BeginsWithFile file.now) }
+    ensures kept { (offset : ℕ) (h : Header) (tile : List ℕ)
+        → HasPicture atlas.old.items offset h tile
+        → OnOk result (HasPicture atlas.new.items offset h tile) }
 {
-    tiles_stay();
+    pictures_stay();
     let offset = atlas.len();
     decode_to_vec(alloc, file)?;
     atlas.extend_from_slice(file)?;
     Ok(offset)
 }
 
-/// A tile is read back from its offset.
-pub fn get(alloc: Global, atlas: &[u8], offset: usize) -> Result<Vec<u8>, Error>
-    ensures { (tile : List ℕ) → HasTile atlas.now offset tile
-        → IfOk result (λ back. back.items ≡ tile) }
+/// A tile is read back from its offset, with its header. It is refused only if memory runs out.
+pub fn get(alloc: Global, atlas: &[u8], offset: usize) -> Result<(Header, Vec<u8>), Error>
+    ensures tile { (h : Header) (tile : List ℕ) → HasPicture atlas.now offset h tile
+        → IfOk result (λ x. (x.0 ≡ h) × (x.1.items ≡ tile)) }
+    ensures found { (h : Header) (tile : List ℕ) → HasPicture atlas.now offset h tile
+        → IfErr result (λ e. e ≡ Error.OutOfMemory) }
+    ensures past { length atlas.now < offset → IsErrOf result Error.UnexpectedBufferEnd }
 {
     if offset > atlas.len() {
         return Err(Error::UnexpectedBufferEnd);
     }
-    let mut decoder = Decoder::new(&atlas[offset..])?;
-    let back = decoder.decode_to_vec(alloc)?;
-    Ok(back)
+    decode_to_vec(alloc, &atlas[offset..])
+}
+
+/// A tile is put at the end of an atlas. This says no more than that the tiles before it stay.
+fn put_behind(atlas: &mut Vec<u8>, raw: &[u8], width: u32, height: u32) -> Result<(), Error>
+    ensures { (offset : ℕ) (h : Header) (tile : List ℕ)
+        → HasPicture atlas.old.items offset h tile
+        → OnOk result (HasPicture atlas.new.items offset h tile) }
+{
+    put(atlas, raw, width, height)?;
+    Ok(())
 }
 
 /// A tile is put at the end of an atlas, and its offset returned; another is put behind it, `count`
@@ -59,11 +80,12 @@ pub fn put_many(
     width: u32,
     height: u32,
 ) -> Result<usize, Error>
-    ensures { IfOk result (λ offset. HasTile atlas.new.items offset first.now) }
+    ensures { (h : Header) → image_header first.now width height ≡ Ok h
+        → IfOk result (λ offset. HasPicture atlas.new.items offset h first.now) }
 {
     let offset = put(atlas, first, width, height)?;
     for _ in 0..count {
-        put(atlas, other, width, height)?;
+        put_behind(atlas, other, width, height)?;
     }
     Ok(offset)
 }
@@ -79,7 +101,10 @@ fn assert_tile(
     offset: Result<usize, Error>,
     tile: &[u8],
 ) {
-    assert_given(rt, get(alloc, atlas, offset.expect(rt, "refused")), tile);
+    let found = get(alloc, atlas, offset.expect(rt, "refused"));
+    let (header, raw) = found.expect(rt, "refused");
+    assert_header(rt, &header, &Header::default());
+    assert_bytes(rt, &raw, tile);
 }
 
 #[test]

@@ -1,7 +1,7 @@
 //! Callers from any reader to any writer, that hold a row: a file is encoded again, in chosen
 //! channels, and a smaller picture is made of it. Only the loops have proof files, with their
 //! invariants.
-ghost use Rattle.std.specs.Prelude.{◌≡◌, ◌<◌, ◌≤◌, ◌+◌, ℕ, List, Option, length, drop, Some, Ok, IfOk, OnOk};
+ghost use Rattle.std.specs.Prelude.{◌≡◌, ◌<◌, ◌≤◌, ◌+◌, ◌^◌, ℕ, List, Option, length, drop, Some, Ok, IfOk, OnOk};
 ghost use Rattle.std.specs.Io.KnownBytes.{Appends};
 ghost use Rattle.qoi.specs.declared.header.Header.{Header};
 ghost use Rattle.qoi.specs.declared.types.Channels.TheVariants.{Rgba};
@@ -14,10 +14,12 @@ ghost use Rattle.qoi.specs.Qoi.{header_of, header_size};
 ghost use Rattle.qoi.specs.Sent.{SendsSomeFile};
 
 use crate::tests::fakes::ONE_RGB_PIXEL;
+use crate::tests::library::support::images::row;
 use crate::tests::library::support::{assert_decoded, assert_given, made};
-use qoi::{Channels, ColorSpace, Decoder, Header, PixelReader, PixelWriter, Reader, Result, Style};
+use qoi::{Channels, Decoder, Header, PixelReader, PixelWriter, Reader, Result, Style};
 use std::alloc::Global;
 use std::io::{BufRead, Write};
+use std::process::Abort;
 
 /// A file is encoded again, by a row that is an array.
 pub fn by_array<R: Reader + Drop, W: Write + Drop>(
@@ -53,17 +55,28 @@ pub fn in_four<R: BufRead + Drop, W: Write + Drop>(alloc: Global, input: R, out:
     Ok(out)
 }
 
-/// Each second byte of a row.
-pub fn halve(row: &[u8], half: &mut [u8])
+// Where in a row byte i of its every second pixel stands.
+fn twice_as_far(i: usize, channels: Channels) -> usize
+    requires { i + i < 2 ^ 64 }
+    ensures { result ≤ i + i }
+{
+    match channels {
+        Channels::Rgb => i + i / 3 * 3,
+        Channels::Rgba => i + i / 4 * 4,
+    }
+}
+
+/// Every second pixel of a row.
+pub fn halve(row: &[u8], half: &mut [u8], channels: Channels)
     requires { length half.old + length half.old ≤ length row.now }
     ensures { length half.new ≡ length half.old }
 {
     for i in 0..half.len() {
-        half[i] = row[i * 2];
+        half[i] = row[twice_as_far(i, channels)];
     }
 }
 
-/// Writes each second byte of each second row, as many as the writer lacks.
+/// Writes every second pixel of every second row, as many as the writer lacks.
 pub fn shrink<R: Reader, W: Write + Drop>(
     pixels: &mut PixelReader<R>,
     row: &mut [u8],
@@ -80,13 +93,13 @@ pub fn shrink<R: Reader, W: Write + Drop>(
     while writer.left() > 0 {
         pixels.read(row)?;
         pixels.read(row)?;
-        halve(row, half);
+        halve(row, half, pixels.channels());
         writer.write(half)?;
     }
     Ok(())
 }
 
-/// The file of a smaller picture: of each second row each second byte.
+/// The file of a smaller picture, in its header's channels: of every second row every second pixel.
 pub fn thumbnail<R: Reader + Drop, W: Write + Drop>(
     alloc: Global,
     decoder: Decoder<R>,
@@ -101,7 +114,8 @@ pub fn thumbnail<R: Reader + Drop, W: Write + Drop>(
         SendsSomeFile Reference small (W.contents out) (W.contents w)) }
 {
     let mut writer = PixelWriter::new(alloc, small, Style::Reference, out)?;
-    shrink(&mut decoder.into_pixels(), row, half, &mut writer)?;
+    let mut pixels = decoder.with_channels(small.channels).into_pixels();
+    shrink(&mut pixels, row, half, &mut writer)?;
     let out = writer.finish()?;
     Ok(out)
 }
@@ -121,16 +135,25 @@ fn files_are_encoded_again(rt: HostRuntime) {
     assert_given(&rt, in_four(alloc, reader, Vec::new(alloc)), &four);
 }
 
-// Two rows of four pixels: of the second each second byte.
+// The file of a smaller picture has these raw bytes.
+fn assert_small(rt: &impl Abort, alloc: Global, small: Result<Vec<u8>>, raw: &[u8]) {
+    let file = small.expect(rt, "refused");
+    assert_decoded(rt, alloc, &mut made::slice(rt, &file), raw);
+}
+
+// Two rows of four pixels: of the second every second pixel, in three channels and in four.
 #[test]
 fn a_smaller_picture(rt: HostRuntime) {
     let alloc = rt.alloc();
     let file = made::encoded(&rt, alloc, b"first row...sEcOnD rOw..", 4, 2);
-    let small = Header::try_new(2, 1, Channels::Rgb, ColorSpace::Srgb).expect(&rt, "refused");
-    let (mut row, mut half) = ([0; 12], [0; 6]);
+    let (mut whole, mut half) = ([0; 16], [0; 8]);
     let decoder = made::slice(&rt, &file);
-    let small = thumbnail(alloc, decoder, small, &mut row, &mut half, Vec::new(alloc)).expect(
-        &rt, "refused",
-    );
-    assert_decoded(&rt, alloc, &mut made::slice(&rt, &small), b"scn O.");
+    let three = row(2, Channels::Rgb);
+    let (short, few) = (&mut whole[..12], &mut half[..6]);
+    let small = thumbnail(alloc, decoder, three, short, few, Vec::new(alloc));
+    assert_small(&rt, alloc, small, b"sEc rO");
+    let decoder = made::slice(&rt, &file);
+    let four = row(2, Channels::Rgba);
+    let small = thumbnail(alloc, decoder, four, &mut whole, &mut half, Vec::new(alloc));
+    assert_small(&rt, alloc, small, b"sEc\xff rO\xff");
 }

@@ -49,7 +49,8 @@ pub fn append_both<R: Reader + Drop, S: Reader + Drop, W: Write + Drop>(
 
 // The header of both images, one above the other; refused if they aren't as wide, or have other channels.
 fn header_of_both(above: Header, below: Header) -> Result<Header>
-    ensures { IfOk result (λ h. h ≡ record above { height = above.height + below.height }) }
+    ensures both { IfOk result (λ h. h ≡ record above { height = above.height + below.height }) }
+    ensures fits { OnOk result ((above.width ≡ below.width) × (above.channels ≡ below.channels)) }
 {
     let (width, height) = (below.width, below.height);
     match above.height.checked_add(height) {
@@ -88,7 +89,7 @@ pub fn stack<R: Reader + Drop, S: Reader + Drop, W: Write + Drop>(
     below: Decoder<S>,
     out: W,
 ) -> Result<W>
-    ensures { (one other : List ℕ) → R.ahead above.reader ≡ Some one
+    ensures stacked { (one other : List ℕ) → R.ahead above.reader ≡ Some one
         → S.ahead below.reader ≡ Some other → IfOk result (λ w.
         Appends (W.contents out) (W.contents w) (image_file Reference (record above.header {
           channels = above.channels;
@@ -96,6 +97,8 @@ pub fn stack<R: Reader + Drop, S: Reader + Drop, W: Write + Drop>(
         })
         (front_image above.channels above.header one
         ++ front_image below.channels below.header other))) }
+    ensures fits { OnOk result ((above.header.width ≡ below.header.width)
+        × (above.channels ≡ below.channels)) }
 {
     let first = above.header().with_channels(above.channels());
     let second = below.header().with_channels(below.channels());

@@ -65,7 +65,8 @@ pub fn check_upload(bytes: &[u8], most: usize) -> Verdict
     }
 }
 
-/// The same of bytes whose image is decoded into the front of a buffer, if they are fine.
+/// The same of bytes whose image is decoded into the front of a buffer, if they are fine. Later bytes
+/// of the buffer stay.
 pub fn decode_upload(buf: &mut [u8], bytes: &[u8]) -> Verdict
     ensures not_qoi { (result ≡ Verdict.NotQoi) ↔ IsErr (header_of bytes.now) }
     ensures too_large { (result ≡ Verdict.TooLarge) ↔ ((h : Header)
@@ -80,6 +81,10 @@ pub fn decode_upload(buf: &mut [u8], bytes: &[u8]) -> Verdict
         × HasFrontFile h n bytes.now × (0 < n) × (image_byte_count h ≤ length buf.old))) }
     ensures image { (result ≡ Verdict.Fine) ⊎ ((n : ℕ) × (result ≡ Verdict.FineWith n))
         → take (length (file_image bytes.now)) buf.new ≡ file_image bytes.now }
+    ensures later { (h : Header) → header_of bytes.now ≡ Ok h
+        → drop (image_byte_count h) buf.new ≡ drop (image_byte_count h) buf.old }
+    ensures untouched { (result ≡ Verdict.NotQoi) ⊎ (result ≡ Verdict.TooLarge)
+        → buf.new ≡ buf.old }
 {
     files_are_read();
     let Ok(mut decoder) = Decoder::new(bytes) else {
