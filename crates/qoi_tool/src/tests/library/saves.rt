@@ -1,7 +1,9 @@
 //! A function of one's own that saves an image to any writer, and one that loads it: what was
-//! saved comes back, also of two images in one vector. None has a proof file.
-ghost use Rattle.std.specs.Prelude.{◌≡◌, ◌≤◌, ℕ, List, length, take, drop, Some, IfOk, IfSome};
+//! saved comes back, also of two images in one vector. `save` alone has a proof file.
+ghost use Rattle.std.specs.Prelude.{◌≡◌, ◌≤◌, ℕ, List, length, take, drop, Some, Ok, IfOk, IfSome};
+ghost use Rattle.qoi.specs.Encoded.{image_header};
 ghost use Rattle.qoi.specs.Images.{file_image};
+ghost use Rattle.qoi.specs.Qoi.{header_of};
 
 use crate::tests::fakes::PIXEL;
 use crate::tests::library::equations::load;
@@ -13,10 +15,14 @@ use std::io::Write;
 // An image of one pixel.
 const OTHER: [u8; 3] = [1, 2, 3];
 
-/// Saved. If the writer's bytes are known, those before it stay, and the image is read after them.
+/// Saved. If the writer's bytes are known, those before it stay, and the image is read after them, of
+/// this width and height.
 pub fn save<W: Write>(out: &mut W, raw: &[u8], width: u32, height: u32) -> Result<usize, Error>
     ensures saved { (old : List ℕ) → W.contents out.old ≡ Some old → IfOk result (λ n.
         IfSome (W.contents out.new) (λ new. file_image (drop (length old) new) ≡ raw.now)) }
+    ensures header { (old : List ℕ) → W.contents out.old ≡ Some old → IfOk result (λ n.
+        IfSome (W.contents out.new) (λ new.
+        header_of (drop (length old) new) ≡ image_header raw.now width height)) }
     ensures stay { (old : List ℕ) → W.contents out.old ≡ Some old → IfOk result (λ n.
         IfSome (W.contents out.new) (λ new. take (length old) new ≡ old)) }
 {
