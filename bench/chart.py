@@ -44,12 +44,13 @@ def block(top, title, found, high, gap):
     return y, lines
 
 
-def svg(found, kinds, head):
-    """The picture. `found` has the ratio of each set of pictures for each row, `kinds` those of each kind."""
-    most = max(max(it.values()) for it in (*found.values(), *kinds.values()))
+def svg(found, real, made, head):
+    """The picture. `found` has the ratio of each set of pictures for each row, the others those of each kind."""
+    most = max(max(it.values()) for it in (*found.values(), *real.values(), *made.values()))
     y, lines = block(10, "", found, 14, 14)
-    y, more = block(y + 14, "by kind of picture:", kinds, 12, 6)
-    lines += more
+    for title, kinds in (("by kind of picture:", real), ("of made pictures:", made)):
+        y, more = block(y + 14, title, kinds, 12, 6)
+        lines += more
     lines.append(text(LEFT, y + 14, "1: the faster of the C library and the Rust crate"))
     lines.append(text(LEFT, y + 29, "(of calls over a writer or a reader, the crate)"))
     body = "\n".join(lines)
@@ -58,10 +59,11 @@ def svg(found, kinds, head):
             f'<rect width="100%" height="100%" fill="white"/>\n{body}\n</svg>\n')
 
 
-def draw(path, columns, by_kind, ratio, head):
-    """Writes the picture of the rows that it has, from the seconds of all who were timed."""
+def draw(path, columns, by_kind, is_made, ratio, head):
+    """Writes the picture of the rows that it has, from the seconds of all who were timed, made kinds last."""
     found = {shown: {pictures: float(ratio(rows[row])) for pictures, rows in columns.items()}
              for row, shown in ROWS.items() if all(row in it for it in columns.values())}
     calls = ("encoding", "decoding")
     kinds = {kind: {it: float(ratio(rows[f"{it} into a buffer"])) for it in calls} for kind, rows in by_kind.items()}
-    path.write_text(svg(found, kinds, head))
+    real, made = ({kind: it for kind, it in kinds.items() if (kind in is_made) == last} for last in (False, True))
+    path.write_text(svg(found, real, made, head))

@@ -1,8 +1,10 @@
-"""The pictures of bench/run by kind: out of games, and made ones, the same in each run."""
+"""The pictures of bench/run by kind: out of games, those changed as pictures are, and made ones, the same in each run."""
 import concurrent.futures
 import pathlib
 import random
 import shutil
+
+import builds
 
 SIDE = 1024
 GAMES_AT = "/usr/share/games"
@@ -22,6 +24,27 @@ GAMES = {
     "terrain": ("wesnoth-1.16-data", f"{GAMES_AT}/{WESNOTH}/terrain/**/*.png", 60),
 }
 PACKAGES = sorted({package for package, _, _ in GAMES.values()})
+
+
+def few_colors(count, dither):
+    """A filter that leaves so many colors, which are chosen for the picture."""
+    return f"split[a][b];[a]palettegen=max_colors={count}[p];[b][p]paletteuse=dither={dither},format=rgb24"
+
+
+# Of each kind the kind that is changed, and by which filter of ffmpeg. The textures are photographs.
+CHANGED = {
+    "noisy photographs": ("textures", "noise=alls=12:allf=t"),
+    "gray photographs": ("textures", "format=gray"),
+    "256 colors, Bayer": ("textures", few_colors(256, "bayer")),
+    "256 colors, Sierra": ("textures", few_colors(256, "sierra2_4a")),
+    "32 colors, Bayer": ("textures", few_colors(32, "bayer")),
+    "32 colors, Sierra": ("textures", few_colors(32, "sierra2_4a")),
+    "edges": ("textures", "edgedetect"),
+    "units twice as large": ("units", "scale=2*iw:2*ih:flags=neighbor"),
+    "units three times": ("units", "scale=3*iw:3*ih:flags=neighbor"),
+    "sprites twice as large": ("sprites", "scale=2*iw:2*ih:flags=neighbor"),
+    "sprites three times": ("sprites", "scale=3*iw:3*ih:flags=neighbor"),
+}
 
 
 def noise(chosen, channels):
@@ -124,20 +147,32 @@ def of_game(pattern, count):
     return [found[(2 * i + 1) * len(found) // (2 * count)] for i in range(count)]
 
 
+def changed(source, to, by):
+    """A picture, changed by a filter: the file that it is written to."""
+    builds.run("ffmpeg", "-v", "error", "-i", source, "-filter_complex", by, "-frames:v", "1", to)
+    return to
+
+
+def convert(kind, new, raw):
+    """Converts the pictures of a kind that come out of games, changed or as they are."""
+    of, by = CHANGED.get(kind, (kind, None))
+    numbered = [(it, new / f"{i:03}") for i, it in enumerate(of_game(*GAMES[of][1:]))]
+    with concurrent.futures.ThreadPoolExecutor() as pool:
+        list(pool.map(lambda it: raw(changed(it[0], it[1].with_suffix(".png"), by) if by else it[0], it[1]), numbered))
+
+
 def pictures(room, raw):
     """Each kind's name, and its pictures, which `raw` converts: a folder of each below `room`, made once."""
-    for kind in (*GAMES, *MADE):
+    for kind in (*GAMES, *CHANGED, *MADE):
         folder = room / kind.replace(",", "").replace(" ", "-")
         if not folder.exists():
             shutil.rmtree(room / "new", ignore_errors=True)
             (room / "new").mkdir(parents=True)
-            if kind in GAMES:
-                with concurrent.futures.ThreadPoolExecutor() as pool:
-                    sources = of_game(*GAMES[kind][1:])
-                    list(pool.map(raw, sources, (room / "new" / f"{i:03}" for i in range(len(sources)))))
-            else:
+            if kind in MADE:
                 channels, make = MADE[kind]
                 made = make(random.Random(kind), channels)
                 (room / "new" / f"made.{SIDE}x{SIDE}x{channels}.raw").write_bytes(made)
+            else:
+                convert(kind, room / "new", raw)
             (room / "new").rename(folder)
         yield kind, sorted(folder.glob("*.raw"))
