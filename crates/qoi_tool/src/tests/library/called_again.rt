@@ -213,3 +213,26 @@ fn streams_are_within_a_chunk(rt: HostRuntime) {
     assert_decoded(&rt, alloc, &mut pixels.into_decoder(), &[1, 0, 254]);
     assert_decoded(&rt, alloc, &mut made::slice(&rt, &file), &[4, 5, 5]);
 }
+
+// A buffer shows no byte once, within the image: the piece that is decoded then, or ahead of which it
+// is, is refused, and no call is made of the reader behind it.
+#[test]
+fn no_call_follows_an_end(rt: HostRuntime) {
+    let alloc = rt.alloc();
+    let image = square(&rt, alloc);
+    let (call, end) = (3, End::NoByte);
+    let source = Source::new(&image.file, 1000, Bad { call, end });
+    let reader = made::buffer(&rt, alloc, 1000, source);
+    let mut pixels = made::buffered(&rt, reader).into_pixels();
+    let mut piece = [0; 500];
+    let mut fault = None;
+    for _ in 0..60 {
+        if let Err(e) = pixels.read(&mut piece) {
+            fault = Some(e);
+            break;
+        }
+    }
+    assert_fails(&rt, fault, ErrorKind::UnexpectedEof);
+    assert_cut(&rt, pixels.read(&mut piece));
+    assert_number(&rt, pixels.into_decoder().reader().get_ref().calls, 3);
+}

@@ -27,6 +27,8 @@ impl Area {
     pub fn lies_within(&self, height: usize, stride: usize) -> bool
         ensures below { IsTrue result → self.now.top + self.now.rows ≤ height }
         ensures within { IsTrue result → self.now.left + self.now.size ≤ stride }
+        ensures all { self.now.top + self.now.rows ≤ height
+            → self.now.left + self.now.size ≤ stride → IsTrue result }
     {
         self.top <= height
             && self.rows <= height - self.top
