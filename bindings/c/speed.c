@@ -46,7 +46,8 @@ static size_t library_encode(struct picture *p) {
 
 static size_t in_place_encodes(struct picture *p) {
     int size = 0;
-    return ended(in_place_encode(p->raw, &p->desc, &size), (size_t)size);
+    void *made = in_place_encode(p->raw, &p->desc, &size);
+    return ended(made, (size_t)size);
 }
 
 static size_t vector_encode(struct picture *p) {
@@ -82,7 +83,7 @@ static size_t c_decode(struct picture *p) {
     return ended(made, p->len);
 }
 
-/* `ratio` names the row that this one is divided by. */
+/* What is timed, and whether it makes a file. */
 static const struct way { const char *what, *who; size_t (*call)(struct picture *); int encodes; } ways[] = {
     {"encoding into a buffer", "entry", entry_encode, 1}, {"encoding into a buffer", "library", library_encode, 1},
     {"encoding into new memory", "in place", in_place_encodes, 1}, {"encoding into new memory", "library", vector_encode, 1},
