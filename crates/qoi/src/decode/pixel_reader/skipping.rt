@@ -31,7 +31,7 @@ impl<R: Reader> PixelReader<R> {
     /// ```
     /// let mut pixels = Decoder::from_buf_read(reader)?.into_pixels();
     /// pixels.skip_rows(100)?;
-    /// let count = pixels.read(&mut row)?; // row 100
+    /// let count = pixels.read(&mut row)?; // the row behind them
     /// ```
     pub fn skip_rows(&mut self, rows: u32) -> Result<()>
         // A success: the bytes of so many rows were read. Behind k rows of the image it stands

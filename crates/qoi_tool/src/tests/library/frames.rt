@@ -133,8 +133,8 @@ impl Frames {
             → bytes.items ≡ front ++ rest → (BeginsWithFile rest → ⊥)
             → IfOk result (λ s. ArePictures s.bytes.items s.offsets.items headers images) }
         ensures same { (front rest offsets : List ℕ) (headers : List Header)
-            (images : List (List ℕ)) → ArePictures front offsets headers images → bytes.items ≡ front ++ rest
-            → (BeginsWithFile rest → ⊥)
+            (images : List (List ℕ)) → ArePictures front offsets headers images
+            → bytes.items ≡ front ++ rest → (BeginsWithFile rest → ⊥)
             → IfOk result (λ s. (s.bytes.items ≡ front) × (s.offsets.items ≡ offsets)) }
     {
         let (offsets, end) = find(alloc, &bytes)?;
