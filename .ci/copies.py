@@ -20,8 +20,9 @@ def linked(one, other):
 
 
 def copy_folder(folder, to, *left_out):
-    """Copies a folder but for what has one of these names."""
-    shutil.copytree(folder, to, copy_function=linked, ignore=shutil.ignore_patterns(*left_out), dirs_exist_ok=True)
+    """Copies a folder but for what has one of these names, and what a command of rt at work will throw away."""
+    ignore = shutil.ignore_patterns("rt-work-*", *left_out)
+    shutil.copytree(folder, to, copy_function=linked, ignore=ignore, dirs_exist_ok=True)
 
 
 if __name__ == "__main__":
