@@ -75,11 +75,13 @@ static void check_rows(struct random *random, struct subject_file *file, const s
 }
 
 /* The row of the last point of an index that serves for row `first`, with a point each `every` rows: what was decoded ahead
-   at that point ends above the row. 0 if there is none. */
+   at that point ends above the row. The last rows, which may be decoded ahead, have none. 0 if there is none. */
 static size_t point_above(struct header header, uint32_t first, size_t every) {
-    size_t row = (size_t)header.width * header.channels, above = first / every * every;
-    while (above > 0 && (above >= header.height || (first - above) * row < AHEAD)) above -= every;
-    return above;
+    size_t row = (size_t)header.width * header.channels, last = 1 + AHEAD / row;
+    size_t points = header.height < last ? 0 : (header.height - last) / every, above = first / every;
+    if (points < above) above = points;
+    while (above > 0 && (first - above * every) * row < AHEAD) above -= 1;
+    return above * every;
 }
 
 /* Rows behind a point of an index are read without the bytes before it: those may be any. */
