@@ -1,6 +1,6 @@
-//! Chunks in memory while input and output have room ahead, from any pixel on: in stretches, each
-//! by the loop that suits the one before. So a change of loops costs no test a chunk. `AT_ONCE` is
-//! for how many short chunks room is tested at once.
+//! Chunks in memory while input and output have room ahead, from any pixel on: in stretches, behind
+//! each of which, if it was noise, comes a loop for that. So noise costs other chunks no test.
+//! `AT_ONCE` is for how many short chunks room is tested at once.
 ghost use Rattle.std.specs.Prelude.{◌≡◌, ◌⊎◌, ◌+◌, ◌*◌, ◌<◌, ◌≤◌, length, drop, Some, true};
 ghost use Rattle.qoi.specs.inner.Filling.{INPUT_ROOM, IsFillable, filling, CanLoop, FastChunks};
 ghost use Rattle.qoi.specs.inner.Chunks.{TakesMore};
@@ -15,11 +15,32 @@ const FIRST_STRETCH: usize = 512;
 
 const STRETCH: usize = 2048;
 
-// A stretch is dense, as noise is, if it took more bytes than this a pixel. The next one then has
-// `DENSE_STRETCH`.
+// A stretch is dense, as noise is, if it took more bytes than this a pixel. Then some
+// `DENSE_STRETCH` bytes go by `dense_loop`, and the next stretch has `SHORT_STRETCH`.
 const DENSE: usize = 3;
 
 const DENSE_STRETCH: usize = 4096;
+
+const SHORT_STRETCH: usize = 128;
+
+// Decodes some `DENSE_STRETCH` bytes by `dense_loop`, if the stretch before was dense.
+#[inline(always)]
+fn take_dense<const N: usize, const F: usize>(
+    table: &mut TermTable,
+    from: Progress<N, F>,
+    bytes: &[u8],
+    out: &mut [u8],
+    is_dense: bool,
+) -> Progress<N, F>
+    requires { CanLoop 8 1 bytes.now out.old from }
+    ensures { FastChunks bytes.now from.entry table.old out.old result table.new out.new }
+{
+    if is_dense {
+        let end = bytes.len().min(from.taken + DENSE_STRETCH);
+        return dense_loop(table, from, &bytes[..end], out);
+    }
+    from
+}
 
 // `chunks_ahead` from a state of the loop: in stretches, if `AT_ONCE` is 8.
 #[inline(always)]
@@ -36,25 +57,19 @@ fn chunks_by_stretches<const N: usize, const F: usize, const AT_ONCE: usize>(
         return from.fast_loop::<1>(table, bytes, out);
     }
     let mut now = from.by_fields();
-    let mut is_dense = false;
     let input_end = bytes.len() - INPUT_ROOM;
     let mut stretch_end = input_end.min(now.taken + FIRST_STRETCH);
     while now.taken <= input_end {
         // For this call the input ends behind the stretch.
-        let front = &bytes[..stretch_end + INPUT_ROOM];
-        let stretch = if is_dense {
-            dense_loop(table, now, front, out)
-        } else {
-            now.fast_loop::<8>(table, front, out)
-        };
+        let stretch = now.fast_loop::<8>(table, &bytes[..stretch_end + INPUT_ROOM], out);
         // Within the stretch the output has no room for what comes; or the input ends.
         if stretch.taken <= stretch_end || input_end < stretch.taken {
             return stretch.by_fields();
         }
         let pixels = (stretch.at - now.at) / N;
-        is_dense = DENSE * pixels < stretch.taken - now.taken;
-        now = stretch.by_fields();
-        stretch_end = input_end.min(now.taken + if is_dense { DENSE_STRETCH } else { STRETCH });
+        let is_dense = DENSE * pixels < stretch.taken - now.taken;
+        now = take_dense(table, stretch, bytes, out, is_dense).by_fields();
+        stretch_end = input_end.min(now.taken + if is_dense { SHORT_STRETCH } else { STRETCH });
     }
     now.by_fields()
 }
