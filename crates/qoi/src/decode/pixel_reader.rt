@@ -71,6 +71,7 @@ impl<R: Reader> Decoder<R> {
         ensures rows { (stride : ℕ)
             → HasRows self (R.ahead self.reader) (R.ahead result.reader) stride 0 result }
         ensures same { as_decoder result ≡ self }
+        ensures left { pixels_left result ≡ output_byte_count self }
     {
         let size = self.required_buf_len();
         PixelReader {

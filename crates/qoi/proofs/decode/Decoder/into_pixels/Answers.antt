@@ -2,7 +2,7 @@
 use Rattle.std.proofs.Common.{refl, arith, ◌∙◌, []}
 use Rattle.std.proofs.Math.Nat.{mul_comm}
 use Rattle.qoi.specs.Qoi.{channels_number, pixel_count}
-use Rattle.qoi.specs.pieces.PixelReader.{HasRows}
+use Rattle.qoi.specs.pieces.PixelReader.{HasGiven, HasRows}
 use Rattle.qoi.proofs.decoding.ImageSize.{channels_are}
 use Rattle.qoi.proofs.decoding.PixelPieces.{has_given}
 use Rattle.qoi.proofs.decode.Decoder.into_pixels.Goals as goal
@@ -21,3 +21,7 @@ returns-clause-fresh = returns-clause-start
 pub returns-clause-rows : goal.returns-clause-rows
 unfolding HasRows
 returns-clause-rows g c stride = ([], omega arith, returns-clause-start g c)
+
+pub returns-clause-left : goal.returns-clause-left
+unfolding HasGiven
+returns-clause-left g c = omega (arith, (returns-clause-start g c).left)
