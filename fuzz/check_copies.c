@@ -48,8 +48,7 @@ static void same_writer(const struct session *it, size_t i) {
     same("calls of the writer", it->answers[i].sent.calls, it->answers[i + 1].sent.calls);
 }
 
-/* A refusal that changes nothing. */
-static void check_unchanged(const struct session *it, size_t i, struct refusal why) {
+void check_unchanged(const struct session *it, size_t i, struct refusal why) {
     refused_as(why, &it->answers[i + 1]);
     same_reader(it, i);
     same_writer(it, i);
@@ -68,19 +67,17 @@ static int may_refuse(const struct session *it, size_t i, size_t at, size_t size
     return at + size + AHEAD + 62 * it->channels >= walked.pixels * it->channels;
 }
 
-/* The reader gave so many raw bytes of those to be copied, and the other side didn't fail: they are all, or whole pieces
-   before one that it may refuse. */
-static size_t check_gave(struct session *it, size_t i, size_t count, size_t gave) {
+size_t check_gave(struct session *it, size_t i, size_t count, size_t gave, size_t piece) {
     const struct answer *answer = &it->answers[i + 1];
     size_t least = 0;
-    while (least < count && !may_refuse(it, i, it->given + least, count - least < PIECE ? count - least : PIECE)) least += PIECE;
+    while (least < count && !may_refuse(it, i, it->given + least, count - least < piece ? count - least : piece)) least += piece;
     if (least > count) least = count;
-    if (gave > count || gave < least || (gave < count && gave % PIECE > 0) || !can_give(it, it->given + gave)) {
+    if (gave > count || gave < least || (gave < count && gave % piece > 0) || !can_give(it, it->given + gave)) {
         differ("raw bytes read", least, gave);
         return 0;
     }
     it->given += gave;
-    size_t next = count - gave < PIECE ? count - gave : PIECE;
+    size_t next = count - gave < piece ? count - gave : piece;
     if (is_hit(it, i + 1)) {
         refused_as(fault(&it->plan, EARLY_END), answer);
         it->has_fault = it->is_refused = 1, it->asked = next;
@@ -128,7 +125,7 @@ static void check_copy(struct session *it, size_t i) {
     else {
         /* What `left` says, which is compared with a loop, if it isn't all (`check_loops`). */
         size_t from = it->given, gave = left - it->answers[i + 1].left;
-        gave = breaks(it, i) ? check_gave_broken(it, count, gave) : check_gave(it, i, count, gave);
+        gave = breaks(it, i) ? check_gave_broken(it, count, gave) : check_gave(it, i, count, gave, PIECE);
         if (gave < count || it->is_refused) it->wants_loops = 1;
         check_took(it, i, raw_of(it->file, it->image, it->channels) + from, gave, last_piece(gave));
     }
@@ -193,7 +190,7 @@ static void check_to_raw(struct session *it, size_t i) {
         it->is_refused = 1, it->refused_act = ACTS;
         same("left", it->total - it->given, answer->left);
     } else {
-        size_t gave = check_gave(it, i, left, sent);
+        size_t gave = check_gave(it, i, left, sent, PIECE);
         struct passed some = model_to_raw(&it->target.raw, gave, act->size);
         same("a fault of the raw bytes' writer", 0, some.why.error);
         same("calls of the raw bytes' writer", some.all.calls, answer->raw.calls);
@@ -324,13 +321,6 @@ void check_sent(const struct session *it) {
 
 /* Planning */
 
-/* Acts without a part of the buffer: rows that are copied, or bytes of the file. */
-static void add_count(struct session *it, uint32_t kind, uint32_t count, size_t *at) {
-    size_t i = it->count;
-    add_act(it, kind, 0, at);
-    if (it->count > i) it->acts[i].row = count;
-}
-
 /* A writer's image, mostly of the reader's size, and what it writes to. */
 static struct target plan_writer(struct random *random, struct header header) {
     struct picture image = {header.width, header.height, between(random, 3, 4), below(random, 2), below(random, 3)};
@@ -347,7 +337,7 @@ struct sides { size_t left, row, missing; };
 /* Adds a call that copies, or one before it of reader or writer. */
 static void plan_copy(struct random *random, struct session *it, struct sides *sides, size_t *at) {
     size_t len = it->file->len, left = sides->left, missing = sides->missing, size;
-    switch (below(random, 6)) {
+    switch (below(random, 7)) {
     case 0:
         /* As many bytes left as missing. */
         size = left > missing ? left - missing : missing - left < len ? missing - left : len;
@@ -375,6 +365,12 @@ static void plan_copy(struct random *random, struct session *it, struct sides *s
             add_act(it, TO_RAW, buffer_size(random, left + 1), at), sides->left = 0;
             if (chance(random, 500)) add_act(it, TO_RAW, left + 1, at);
         }
+        return;
+    case 5:
+        size = skipped_rows(random, left / sides->row);
+        add_count(it, SKIP, size, at);
+        size *= sides->row;
+        if (size <= left) sides->left -= size;
         return;
     default:
         add_count(it, COPY, 0, at);

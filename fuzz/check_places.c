@@ -24,6 +24,7 @@ static size_t plan_rows(struct random *random, struct header header, struct act 
         size_t size = chance(random, 700) ? below(random, 2 * row + 4) : below(random, total + 4);
         acts[i] = (struct act){READ, 0, at, size};
         if (i % 2 == 0) acts[i] = (struct act){ONE_OF(random, ROWS, IN_RGB, IN_RGBA), below(random, header.height + 2), at, 0};
+        if (chance(random, 150)) acts[i] = (struct act){SKIP, skipped_rows(random, header.height), at, 0};
         at += acts[i].size + GUARD;
     }
     return at;
@@ -43,6 +44,12 @@ static void check_known_rows(struct subject_file *file, const struct act *acts, 
             continue;
         }
         struct refusal high = {BUFFER_END, 0, 0, 0};
+        if (acts[i].kind == SKIP) {
+            size_t size = (size_t)acts[i].row * header.width * channels;
+            if (!refused_as(size > total - where ? high : (struct refusal){0}, &answers[i])) where += size;
+            same("left", total - where, answers[i].left);
+            continue;
+        }
         if (refused_as(acts[i].row > header.height ? high : (struct refusal){0}, &answers[i])) continue;
         channels = acts[i].kind == IN_RGB ? 3 : acts[i].kind == IN_RGBA ? 4 : header.channels;
         where = (size_t)acts[i].row * header.width * channels;

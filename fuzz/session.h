@@ -9,6 +9,8 @@
 #define AHEAD 3072
 /* So many raw bytes are copied at once. */
 #define PIECE 4096
+/* So many are skipped at once. */
+#define SKIPPED 16384
 
 /* What the model reads at one place of a file: pixels, and their raw bytes in three and in four channels. */
 struct image_at {
@@ -78,7 +80,16 @@ int can_give(const struct session *it, size_t count);
 size_t known_bytes(const struct session *it);
 /* A piece was refused, by what is wrong in the file. */
 void check_refused_piece(struct session *it, size_t act, size_t size);
+/* The reader gave so many raw bytes of those that a call wanted by pieces, and nothing but the reader could fail: they are
+   all, or whole pieces before one that it may refuse. Returns how many. */
+size_t check_gave(struct session *it, size_t act, size_t count, size_t gave, size_t piece);
+/* A refusal that changes nothing. */
+void check_unchanged(const struct session *it, size_t act, struct refusal why);
 void add_act(struct session *it, uint32_t kind, size_t size, size_t *at);
+/* Acts without a part of the buffer: rows, or bytes of the file. */
+void add_count(struct session *it, uint32_t kind, uint32_t count, size_t *at);
+/* How many rows are skipped: few, any, or too many. */
+uint32_t skipped_rows(struct random *random, uint32_t height);
 void plan_reader(struct random *random, struct session *it);
 void check_session(struct session *it);
 extern const char *const way_names[];
