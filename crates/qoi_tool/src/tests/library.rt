@@ -36,6 +36,7 @@ mod row_callers;
 mod row_indexes;
 mod runs;
 mod saves;
+mod sheets;
 mod stacks;
 mod std_streams;
 mod strips;
