@@ -1,4 +1,5 @@
-//! Reading an input to its end or into a buffer, and writing all of an output.
+//! Reading an input to its end or into a buffer, and writing all of an output. Unlike in the standard
+//! library's calls, an interruption is a fault.
 ghost use Rattle.std.specs.Prelude.{◌≡◌, ℕ, ◌+◌, ◌<◌, ◌≤◌, List, length, Option, Ok, OnOk, OnErr, IfOk, IfErr, take};
 ghost use Rattle.std.specs.Io.KnownBytes.{Appends, Consumes, IsAtEnd, Keeps};
 ghost use Rattle.qoi_tool.specs.Transfers.{TakesAll, TakesFewer, IsIoOrMemory};
@@ -17,8 +18,7 @@ const LEAST: usize = 65_536;
 // into.
 const MOST: usize = 1_048_576;
 
-/// All the bytes that the reader gives until a read gives none. Unlike the standard library's, it
-/// doesn't try again after an interruption, which is a fault.
+/// All the bytes that the reader gives until a read gives none.
 pub fn read_to_end<R: Read>(alloc: Global, input: &mut R) -> Result<Vec<u8>, Error>
     ensures read { IfOk result (λ v. TakesAll (R.remaining input.old)
         (R.remaining input.new) v.items) }
@@ -40,7 +40,7 @@ pub fn read_to_end<R: Read>(alloc: Global, input: &mut R) -> Result<Vec<u8>, Err
 }
 
 /// Fills the buffer, and reads no byte past it; an early end is an `IoError` of kind
-/// `UnexpectedEof`. Unlike in the standard library's, an interruption is a fault.
+/// `UnexpectedEof`.
 pub fn read_exact<R: Read>(input: &mut R, buf: &mut [u8]) -> Result<(), Error>
     ensures read { OnOk result (Consumes (R.remaining input.old) (R.remaining input.new) buf.new) }
     ensures failed { IfErr result (λ e. IsIoError e
@@ -75,8 +75,7 @@ fn read_after<R: Read>(input: &mut R, buf: &mut [u8], filled: usize) -> io::Resu
     Ok(count)
 }
 
-/// Writes all the bytes; after a fault a beginning of them was written. Unlike in the standard
-/// library's, an interruption is a fault.
+/// Writes all the bytes; after a fault a beginning of them was written.
 pub fn write_all<W: Write>(output: &mut W, bytes: &[u8]) -> Result<(), Error>
     ensures written { OnOk result (Appends (W.contents output.old)
         (W.contents output.new) bytes.now) }

@@ -24,10 +24,9 @@ pub(crate) fn ended() -> io::Error {
     io::Error::new(ErrorKind::UnexpectedEof, "the reader ended too early")
 }
 
-// Fills the buffer from a stream, and asks for no byte past it. An interruption is a fault, unlike
-// in the standard library's `read_exact`; the end of the stream is one, as it is there. Usually the
-// first read fills it, so that one stands before the loop. Inlined, so that the reader isn't lent to
-// a call in the loop over chunks, and the compiler can keep it in registers.
+// Fills the buffer from a stream, and asks for no byte past it. The end of the stream is a fault.
+// Usually the first read fills it, so that one stands before the loop. Inlined, so that the reader
+// isn't lent to a call in the loop over chunks, and the compiler can keep it in registers.
 #[inline(always)]
 pub(super) fn read_exact<R: Read>(reader: &mut R, buf: &mut [u8]) -> io::Result<()>
     requires { 0 < length buf.old }
