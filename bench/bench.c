@@ -5,6 +5,8 @@
                                                   least of each; before it "wrong", row, who, and of how many
                                                   pictures it made other bytes or pixels, if of any
    bench chunks - - PICTURE..                     how many chunks the files have, and how many RGB and RGBA ones
+   bench once - - PICTURE..                       nothing: the port and its earlier state make each call once, for
+                                                  `instructions`
    bench index ROUNDS - PICTURE..                 a line for each picture and index of its rows: rows between two points,
                                                   bytes, seconds of the last row with all rows above, of making the
                                                   index, of the last row by it
@@ -128,16 +130,20 @@ keep crate_keep;
 #define CRATE_DECODES(call) {NULL}
 #endif
 #ifdef BEFORE
-encode before_encode_buffer;
-decode before_decode_buffer;
-#define BEFORE_ENCODES(call) ENCODES("before", call)
-#define BEFORE_DECODES(call) DECODES("before", call)
+/* Weak but for one, for which the linker takes the library: a call that the earlier state lacks isn't made. */
+#define WEAK __attribute__((weak))
+encode before_encode_buffer, before_encode_vector WEAK, before_encode_slice WEAK, before_encode_growing WEAK,
+    before_encode_places WEAK, before_encode_tight WEAK, before_encode_rows WEAK;
+decode before_decode_buffer WEAK, before_decode_vector WEAK, before_decode_stream WEAK, before_decode_stream_buffered WEAK,
+    before_decode_buf_read WEAK, before_decode_rows WEAK, before_decode_rows_buf_read WEAK, before_copy WEAK,
+    before_copy_tight WEAK;
+#define PORT_ENCODES(call) ENCODES("before", before_##call), ENCODES("port", port_##call)
+#define PORT_DECODES(call) DECODES("before", before_##call), DECODES("port", port_##call)
 #else
-#define BEFORE_ENCODES(call) {NULL}
-#define BEFORE_DECODES(call) {NULL}
+#define PORT_ENCODES(call) {NULL}, ENCODES("port", port_##call)
+#define PORT_DECODES(call) {NULL}, DECODES("port", port_##call)
 #endif
-#define OF_SLICE {DECODES("qoi.h", c_decode_buffer), CRATE_DECODES(crate_decode_buffer), \
-    BEFORE_DECODES(before_decode_buffer), DECODES("port", port_decode_buffer)}
+#define OF_SLICE {DECODES("qoi.h", c_decode_buffer), CRATE_DECODES(crate_decode_buffer), PORT_DECODES(decode_buffer)}
 
 struct way { const char *who; encode *encode; decode *decode; };
 
@@ -145,31 +151,31 @@ struct way { const char *who; encode *encode; decode *decode; };
    `copies`: decoding calls make a file again. */
 static const struct row { const char *name; int vector, channels, style, copies; struct way ways[4]; } rows[] = {
     {"encoding into a buffer", .ways = {ENCODES("qoi.h", c_encode_buffer), CRATE_ENCODES(crate_encode_buffer),
-        BEFORE_ENCODES(before_encode_buffer), ENCODES("port", port_encode_buffer)}},
+        PORT_ENCODES(encode_buffer)}},
     {"encoding into a new vector", .vector = 1, .ways = {ENCODES("qoi.h", c_encode_vector),
-        CRATE_ENCODES(crate_encode_vector), ENCODES("port", port_encode_vector)}},
-    {"encoding to a writer, a slice", .ways = {CRATE_ENCODES(crate_encode_slice), ENCODES("port", port_encode_slice)}},
-    {"encoding to a writer, a vector", .ways = {CRATE_ENCODES(crate_encode_growing), ENCODES("port", port_encode_growing)}},
-    {"row by row to a writer, a slice", .ways = {ENCODES("at once", port_encode_slice), ENCODES("port", port_encode_rows)}},
-    {"style `Places`", .style = 1, .ways = {ENCODES("`Reference`", port_encode_buffer), ENCODES("port", port_encode_places)}},
-    {"style `Tight`", .style = 1, .ways = {ENCODES("`Reference`", port_encode_buffer), ENCODES("port", port_encode_tight)}},
+        CRATE_ENCODES(crate_encode_vector), PORT_ENCODES(encode_vector)}},
+    {"encoding to a writer, a slice", .ways = {CRATE_ENCODES(crate_encode_slice), PORT_ENCODES(encode_slice)}},
+    {"encoding to a writer, a vector", .ways = {CRATE_ENCODES(crate_encode_growing), PORT_ENCODES(encode_growing)}},
+    {"row by row to a writer, a slice", .ways = {ENCODES("at once", port_encode_slice), PORT_ENCODES(encode_rows)}},
+    {"style `Places`", .style = 1, .ways = {ENCODES("`Reference`", port_encode_buffer), PORT_ENCODES(encode_places)}},
+    {"style `Tight`", .style = 1, .ways = {ENCODES("`Reference`", port_encode_buffer), PORT_ENCODES(encode_tight)}},
     {"decoding into a buffer", .ways = OF_SLICE},
     {"decoding into a new vector", .vector = 1, .ways = {DECODES("qoi.h", c_decode_vector),
-        CRATE_DECODES(crate_decode_vector), DECODES("port", port_decode_vector)}},
+        CRATE_DECODES(crate_decode_vector), PORT_DECODES(decode_vector)}},
     {"decoding in three channels", .channels = 3, .ways = OF_SLICE},
     {"decoding in four channels", .channels = 4, .ways = OF_SLICE},
     {"`from_buf_read` of a `BufReader`", .ways = {CRATE_DECODES(crate_decode_stream_buffered),
-        DECODES("port", port_decode_buf_read)}},
+        PORT_DECODES(decode_buf_read)}},
     {"`from_stream` of a `BufReader`", .ways = {CRATE_DECODES(crate_decode_stream_buffered),
-        DECODES("port", port_decode_stream_buffered)}},
-    {"`from_stream` of a slice", .ways = {CRATE_DECODES(crate_decode_stream), DECODES("port", port_decode_stream)}},
-    {"decoding row by row", .ways = {DECODES("`decode_to_buf`", port_decode_buffer), DECODES("port", port_decode_rows)}},
+        PORT_DECODES(decode_stream_buffered)}},
+    {"`from_stream` of a slice", .ways = {CRATE_DECODES(crate_decode_stream), PORT_DECODES(decode_stream)}},
+    {"decoding row by row", .ways = {DECODES("`decode_to_buf`", port_decode_buffer), PORT_DECODES(decode_rows)}},
     {"decoding row by row from a `BufReader`", .ways = {DECODES("`from_buf_read`", port_decode_buf_read),
-        DECODES("port", port_decode_rows_buf_read)}},
-    {"a file again, by `copy_to`", .copies = 1, .ways = {DECODES("qoi.h", c_copy), DECODES("port", port_copy)}},
+        PORT_DECODES(decode_rows_buf_read)}},
+    {"a file again, by `copy_to`", .copies = 1, .ways = {DECODES("qoi.h", c_copy), PORT_DECODES(copy)}},
     {"the same beside a loop", .copies = 1, .ways = {DECODES("the loop", port_copy_by_loop), DECODES("port", port_copy)}},
     {"a file in style `Tight`, by `copy_to`", .copies = 1, .style = 1, .ways = {DECODES("qoi.h", c_copy),
-        DECODES("port", port_copy_tight)}},
+        PORT_DECODES(copy_tight)}},
     {"the same in style `Tight` beside a loop", .copies = 1, .style = 1, .ways = {DECODES("the loop", port_copy_tight_by_loop),
         DECODES("port", port_copy_tight)}},
 };
@@ -197,6 +203,9 @@ static void load(const char *path) {
     fclose(stream);
     p->size = c_encode_buffer(p->file, p->room, p->raw, p->len, p->width, p->height);
 }
+
+/* Whether there is such a call. */
+static int is_there(const struct way *way) { return way->encode || way->decode; }
 
 /* `room` is 0 if the call is timed and makes a vector, which then isn't copied. */
 static size_t called(const struct row *row, const struct way *way, struct picture *p, size_t room) {
@@ -263,7 +272,7 @@ static void time_row(const struct row *row, int rounds) {
     for (int w = 0; w < WAYS; w++) {
         const struct way *way = &row->ways[w];
         int wrong = 0;
-        for (int i = 0; way->who && i < count; i++) wrong += !is_right(row, way, &pictures[i]);
+        for (int i = 0; is_there(way) && i < count; i++) wrong += !is_right(row, way, &pictures[i]);
         if (wrong && !strcmp(way->who, "port")) fail("the port makes other bytes or pixels", row->name);
         if (wrong) printf("wrong\t%s\t%s\t%d\n", row->name, way->who, wrong);
     }
@@ -271,11 +280,11 @@ static void time_row(const struct row *row, int rounds) {
         for (int i = 0; i < count; i++) least[w][i] = 1e9;
     for (int r = 0; r < rounds; r++)
         for (int w = 0; w < WAYS; w++)
-            if (row->ways[w].who) pass(row, &row->ways[w], least[w]);
+            if (is_there(&row->ways[w])) pass(row, &row->ways[w], least[w]);
     for (int w = 0; w < WAYS; w++) {
         double sum = 0;
         for (int i = 0; i < count; i++) sum += least[w][i] < 1e9 ? least[w][i] : 0;
-        if (row->ways[w].who) printf("took\t%s\t%s\t%.9f\n", row->name, row->ways[w].who, sum);
+        if (is_there(&row->ways[w])) printf("took\t%s\t%s\t%.9f\n", row->name, row->ways[w].who, sum);
     }
 }
 
@@ -330,6 +339,25 @@ static int keep_files(const char *who, size_t wanted) {
     return 0;
 }
 
+/* Whether an earlier row has this call of the port or of its earlier state, too. */
+static int is_again(int row, const struct way *way) {
+    for (int r = 0; r < row; r++)
+        for (int w = 0; w < WAYS; w++)
+            if (rows[r].ways[w].encode == way->encode && rows[r].ways[w].decode == way->decode) return 1;
+    return 0;
+}
+
+/* Each call of the port and of its earlier state, once for each picture, in the file's own channels. */
+static int call_once(void) {
+    for (int r = 0; r < ROWS; r++)
+        for (int w = 0; w < WAYS; w++) {
+            const struct way *way = &rows[r].ways[w];
+            if (!is_there(way) || (strcmp(way->who, "port") && strcmp(way->who, "before")) || is_again(r, way)) continue;
+            for (int i = 0; i < count; i++) called(&rows[r], way, &pictures[i], rows[r].vector ? 0 : pictures[i].room);
+        }
+    return 0;
+}
+
 static int count_chunks(void) {
     size_t chunks = 0, full = 0;
     for (int i = 0; i < count; i++) {
@@ -348,6 +376,7 @@ int main(int argc, char **argv) {
     if (argc < 5) return 2;
     for (int a = 4; a < argc; a++) load(argv[a]);
     if (!strcmp(argv[1], "chunks")) return count_chunks();
+    if (!strcmp(argv[1], "once")) return call_once();
     if (!strcmp(argv[1], "index")) return time_indexes(atoi(argv[2]));
     if (!strcmp(argv[1], "keep")) return keep_files(argv[2], atoi(argv[3]));
     int anew = !strcmp(argv[3], "anew"), buffers = !strcmp(argv[3], "buffers");

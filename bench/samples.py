@@ -1,5 +1,6 @@
 """The pictures that the commands of this folder time: converted to raw bytes, and kept in a folder."""
 import pathlib
+import random
 import re
 
 from builds import ROOM, run
@@ -46,6 +47,21 @@ def icons(size, each):
     found = sorted(pathlib.Path(f"/usr/share/icons/gnome/{size}x{size}").rglob("*.png"))
     found = [it for it in found if it.is_file() and not it.is_symlink()]
     return [raw(it, f"icon{size}_{i}", 4) for i, it in enumerate(found[::each])]
+
+
+def squares(sources, side):
+    """Four parts of each icon, so many pixels wide and high."""
+    chosen = random.Random(side)
+    for source in sources:
+        width, height, channels = map(int, re.search(r"\.(\d+)x(\d+)x(\d)\.raw$", source.name).groups())
+        data = source.read_bytes()
+        for part in range(4):
+            x, y = chosen.randrange(width - side + 1), chosen.randrange(height - side + 1)
+            to = PICTURES / f"part{side}_{part}_{source.name.split('.')[0]}.{side}x{side}x{channels}.raw"
+            if not to.exists():
+                starts = [((y + line) * width + x) * channels for line in range(side)]
+                to.write_bytes(b"".join(data[it : it + side * channels] for it in starts))
+            yield to
 
 
 def named(paths):
