@@ -87,8 +87,8 @@ uint32_t qoi_proved_decode(uint8_t *out, size_t out_len, const uint8_t *file, si
                            struct qoi_proved_header *header, size_t *left, struct qoi_proved_error *error);
 
 /* Decodes `rows` rows, from row `first_row` on, counted from 0, into the front of `out`. This costs the decoding of all rows
-   above them, too; what follows them may be cut or wrong. It refuses as qoi_proved_decode, and, before it looks at `out`,
-   WRONG_ROWS. */
+   above them, too. Up to 3,072 raw bytes behind them are decoded as well; what follows those may be cut or wrong. It refuses
+   as qoi_proved_decode, and, before it looks at `out`, WRONG_ROWS. */
 uint32_t qoi_proved_decode_rows(uint8_t *out, size_t out_len, const uint8_t *file, size_t file_len, uint32_t channels,
                                 uint32_t first_row, uint32_t rows, struct qoi_proved_header *header,
                                 struct qoi_proved_error *error);
