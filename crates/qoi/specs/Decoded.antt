@@ -7,7 +7,7 @@ use Rattle.qoi.specs.Styles.{Style}
 use Rattle.qoi.specs.declared.types.Channels.TheVariants.{Rgb, Rgba}
 use Rattle.qoi.specs.Encoded.{IsFileOf}
 use Rattle.qoi.specs.Qoi.{Error, UnexpectedBufferEnd, InvalidPadding, Channels, Chunk, Header, channels_number, pixel_count, chunk_max, marker_size, header_size, run_max, header_of, IsFile, file}
-use Rattle.qoi.specs.Raw.{without_fourth, HasImageLength, capped_byte_count}
+use Rattle.qoi.specs.Raw.{without_fourth, HasImageLength, capped_byte_count, raw_per_byte}
 use Rattle.qoi.specs.Verdicts.{IsWhole, AreCut, AreWrong}
 use Rattle.qoi.specs.Decoding.{DecodesFile, ReadsImage, RefusesImage, RefusesFile, TakesBytes, TakesHeader, RefusesTakenHeader, least_byte_count}
 use Rattle.qoi.specs.EncoderState.{EncoderState}
@@ -114,8 +114,8 @@ pub record HasDecodedFile (bytes : List ℕ) (h : Header) (out : List ℕ) : Typ
   pub picture : (before after : List ℕ) → after ≡ before ++ bytes → HasPicture after (length before) h out
   -- there are `n_bytes` raw bytes
   pub size : HasImageLength (capped_byte_count h) out
-  -- for each of the bytes at most 62 pixels, and 248 raw bytes
-  pub per_byte : (pixel_count h ≤ run_max * length bytes) × (length out ≤ 4 * run_max * length bytes)
+  -- for each of the bytes at most so many pixels, and raw bytes
+  pub per_byte : (pixel_count h ≤ run_max * length bytes) × (length out ≤ raw_per_byte * length bytes)
   -- what follows the header isn't cut
   pub not_cut : AreCut (pixel_count h) (drop header_size bytes) → ⊥
   -- nor wrong

@@ -3,7 +3,7 @@ use Rattle.std.specs.Prelude.{ℕ, ◌*◌, ◌-◌, ◌^◌, ◌≤◌, min, Li
 use Rattle.std.specs.List.{flat_map, AllByRecursion}
 use Rattle.std.proofs.Common.{inl, inr, ap, arith}
 use native.Mathlib.Nat.{ℕ_set}
-use Rattle.qoi.specs.Qoi.{Header, RgbaPixel, pixel, channels_number, pixel_count}
+use Rattle.qoi.specs.Qoi.{Header, RgbaPixel, pixel, channels_number, pixel_count, run_max}
 
 -- a number of channels that the format has
 abbrev pub IsChannels : ℕ → Type 0
@@ -30,6 +30,10 @@ pixel_bytes file_channels channels p =
 -- the pixels' bytes, one after the other
 abbrev pub output : ℕ → ℕ → List RgbaPixel → List ℕ
 output file_channels channels pixels = flat_map (pixel_bytes file_channels channels) pixels
+
+-- the most raw bytes for which a byte of a file stands: those of a whole run, in four channels
+abbrev pub raw_per_byte : ℕ
+raw_per_byte = 4 * run_max
 
 -- the bytes without each fourth
 abbrev pub without_fourth : List ℕ → List ℕ

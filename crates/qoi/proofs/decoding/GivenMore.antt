@@ -3,10 +3,10 @@ use Rattle.std.proofs.Common.{◌≡◌, ℕ, ◌+◌, ◌-◌, ◌*◌, ◌/◌
 use Rattle.std.proofs.lemmas.List.{length-take-le, take_at}
 use Rattle.std.proofs.lemmas.Result.{MatchResult-weaker}
 use borrow.Rule.Slice.PartMut.{put_mid, mid_of, mid_len, same_len_mid}
-use Rattle.qoi.specs.Qoi.{Error, channels_number}
+use Rattle.qoi.specs.Qoi.{Error, channels_number, run_max}
 use Rattle.qoi.specs.declared.types.Channels.TheVariants.{Rgb, Rgba}
 use Rattle.qoi.specs.inner.Chunks.{Conversion, RefusesFilling}
-use Rattle.qoi.specs.Raw.{IsChannels}
+use Rattle.qoi.specs.Raw.{IsChannels, raw_per_byte}
 use Rattle.qoi.specs.inner.Filling.{Reached, HasWritten, reached, filling}
 use Rattle.qoi.specs.inner.Hashed.{pixel_of_lanes}
 use Rattle.qoi.specs.pieces.Sizes.{decoded_ahead}
@@ -135,7 +135,7 @@ pub gives_placed : {f c : ℕ} {ahead rest : Option (List ℕ)} {p : Unread} {be
 gives_placed {f} {c} {ahead} {rest} {p} {before} {out} {table} {to} {run} now behind is asks long fits same written takes sizes size =
     let whole = asks.pixels in
     let room : to.at + 256 ≤ p.undecoded = omega (arith, sizes.within, size, placed_most c before out is, fits) in
-    let short : run ≤ 248 = by_channels (λ d. run ≤ d * 62 → run ≤ 248) is (λ a. omega (arith, a)) (λ a. omega (arith, a)) sizes.run_short in
+    let short : run ≤ raw_per_byte = by_channels (λ d. run ≤ d * run_max → run ≤ raw_per_byte) is (λ a. omega (arith, a)) (λ a. omega (arith, a)) sizes.run_short in
     record {
       read = λ n start given h.
           let l = piece_lent p before out is h asks.none whole long fits same written in

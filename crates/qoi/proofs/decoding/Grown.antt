@@ -5,7 +5,7 @@ use Rattle.std.proofs.lemmas.List.{length-replicate, take-append-le}
 use lib.Seq.{take-append_seam}
 use Rattle.qoi.specs.declared.decode.chunks.TheConstants.{GROWTH}
 use Rattle.qoi.specs.Qoi.{IoError, Past, chunk_bytes, start, then_chunks}
-use Rattle.qoi.specs.Raw.{IsChannels}
+use Rattle.qoi.specs.Raw.{IsChannels, raw_per_byte}
 use Rattle.qoi.specs.Verdicts.{IsPartOfChunk}
 use Rattle.qoi.specs.inner.Hashed.{pixel_of_lanes, HoldsSeen}
 use Rattle.qoi.specs.inner.Filling.{Reached, Filling, reached, filling, IsFillable, DecoderBetween}
@@ -100,9 +100,9 @@ stream_refused {middle = middle} new part on inside took is_part e gone n first 
       ),
     )
 
--- what is written is at most 248 bytes for each byte ahead
+-- what is written is at most `raw_per_byte` for each byte ahead
 pub written_most : {f c : ℕ} {gone : Past} {n : ℕ} {now : Filling} (start new : Option (List ℕ)) → IsChannels c → DecoderBetween f c gone n start new now
-    → IfSome start (λ bytes. now.at ≤ 248 * length bytes)
+    → IfSome start (λ bytes. now.at ≤ raw_per_byte * length bytes)
 written_most None new is s = tt
 written_most (Some bytes) None is s = absurd s.after.taken
 written_most {c = c} {gone = gone} {n = n} {now = now} (Some bytes) (Some rest) is s =
@@ -110,11 +110,11 @@ written_most {c = c} {gone = gone} {n = n} {now = now} (Some bytes) (Some rest) 
     let many = pixels_most [] s.after.cs s.after.chunks in
     let fewer : length past ≤ length (then_chunks [] s.after.cs) = omega (arith, ap length s.after.pixels, length-append s.recent gone) in
     let size : length bytes ≡ length (chunk_bytes s.after.cs) + length rest = ap length s.after.taken ∙ length-append (chunk_bytes s.after.cs) rest in
-    let P : ℕ → Type 0 = λ k. now.at ≡ k * min n (length past) → now.at ≤ 248 * length bytes in
+    let P : ℕ → Type 0 = λ k. now.at ≡ k * min n (length past) → now.at ≤ raw_per_byte * length bytes in
     by_channels P is (λ e. omega (arith, many, fewer, size)) (λ e. omega (arith, many, fewer, size)) s.filled.at_is
 
 -- so is what has some bytes more, and these
-pub at_most : (start : Option (List ℕ)) (few many more : ℕ) → many ≤ few + more → IfSome start (λ bytes. few ≤ 248 * length bytes)
-    → IfSome start (λ bytes. many ≤ 248 * length bytes + more)
+pub at_most : (start : Option (List ℕ)) (few many more : ℕ) → many ≤ few + more → IfSome start (λ bytes. few ≤ raw_per_byte * length bytes)
+    → IfSome start (λ bytes. many ≤ raw_per_byte * length bytes + more)
 at_most None few many more is within = tt
 at_most (Some bytes) few many more is within = omega (arith, is, within)

@@ -2,8 +2,8 @@
 use Rattle.std.proofs.Common.{◌≡◌, ℕ, ◌*◌, ◌/◌, ◌≤◌, inl, inr, List, Option, length, take, ap, ◌∙◌, arith}
 use Rattle.std.proofs.lemmas.List.{length-take-le}
 use Rattle.qoi.specs.declared.types.Channels.TheVariants.{Rgb, Rgba}
-use Rattle.qoi.specs.Qoi.{Channels, Header, channels_number, meaning, pixel_count}
-use Rattle.qoi.specs.Raw.{IsChannels, byte_count}
+use Rattle.qoi.specs.Qoi.{Channels, Header, channels_number, meaning, pixel_count, run_max}
+use Rattle.qoi.specs.Raw.{IsChannels, byte_count, raw_per_byte}
 use Rattle.qoi.specs.Decoding.{least_byte_count, ReadsImage}
 use Rattle.qoi.proofs.format.WholePixels.{length-output}
 
@@ -22,8 +22,8 @@ pub image_length : (f c n : ℕ) (old new : Option (List ℕ)) (out : List ℕ) 
 image_length f c n old new out is r =
     ap length r.out_is ∙ length-output f c (take n (meaning r.cs)) is ∙ ap (λ k. c * k) (length-take-le n (meaning r.cs) r.reaches.enough)
 
--- an image that bytes could hold has at most 62 pixels, and so 248 raw bytes, for each of them
+-- an image that bytes could hold has at most a run's pixels, and their raw bytes, for each of them
 pub bounded_by : (n size : ℕ) (c : Channels) (rest bytes : List ℕ) → least_byte_count n ≤ length rest → length rest ≤ length bytes
-    → size ≤ n * channels_number c → (n ≤ 62 * length bytes) × (size ≤ 248 * length bytes)
+    → size ≤ n * channels_number c → (n ≤ run_max * length bytes) × (size ≤ raw_per_byte * length bytes)
 bounded_by n size Rgb rest bytes holds within is = (omega (arith, holds, within), omega (arith, holds, within, is))
 bounded_by n size Rgba rest bytes holds within is = (omega (arith, holds, within), omega (arith, holds, within, is))

@@ -2,8 +2,7 @@
 //! loops over it: into a buffer, and into a vector that grows.
 ghost use Rattle.std.specs.Prelude.{◌≡◌, ℕ, ◌+◌, ◌-◌, ◌*◌, ◌/◌, ◌%◌, ◌≤◌, List, ◌++◌, length, replicate, Option, Bool, true, false, IfSome, IfOk, IfErr, OnOk};
 ghost use Rattle.std.specs.Vec.{vec_len, vec_capacity};
-ghost use Rattle.qoi.specs.Qoi.{run_max};
-ghost use Rattle.qoi.specs.Raw.{IsChannels};
+ghost use Rattle.qoi.specs.Raw.{IsChannels, raw_per_byte};
 ghost use Rattle.qoi.specs.Decoding.{ReadsImage};
 ghost use Rattle.qoi.specs.inner.Chunks.{RefusesChunks, TakesChunks, RefusesFilling, ReadsRest, RefusesRest};
 ghost use Rattle.qoi.specs.inner.Filling.{RUN_ROOM, IsFillable, HasRoom, filling};
@@ -120,10 +119,10 @@ pub(super) fn image_to_vec<R: Chunks<N, F>, const N: usize, const F: usize>(
         (R.ahead reader.old) (R.ahead reader.new) out.new.items) }
     ensures refused { IfErr result (RefusesChunks R.in_memory (size / N)
         (R.ahead reader.old) (R.ahead reader.new)) }
-    // Whatever the size, the vector has at most 248 bytes for each byte ahead, and those of a step
-    // and `RUN_ROOM`.
+    // Whatever the size, the vector has at most `raw_per_byte` for each byte ahead, and those of a
+    // step and `RUN_ROOM`.
     ensures grown { IfSome (R.ahead reader.old) (λ bytes.
-        vec_len out.new ≤ 4 * run_max * length bytes + (GROWTH * N + RUN_ROOM)) }
+        vec_len out.new ≤ raw_per_byte * length bytes + (GROWTH * N + RUN_ROOM)) }
 {
     let mut table = TermTable::new();
     let last = Hashed::start();
