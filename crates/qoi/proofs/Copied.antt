@@ -1,20 +1,19 @@
 -- Raw bytes that go from a reader to a writer piece by piece.
-use Rattle.std.proofs.Common.{◌≡◌, ◌+◌, ◌*◌, ◌≤◌, min, ℕ, List, [], ◌++◌, length, drop, Option, Some, Bool, IsTrue, Result, Ok, Err, OnOk, IfErr, OnErr, IsErrAnd, inl, inr, append_assoc, append-nil, length-append, arith, refl, sym, ap, ◌∙◌, subst}
+use Rattle.std.proofs.Common.{◌≡◌, ◌+◌, ◌*◌, ◌≤◌, ℕ, List, [], ◌++◌, length, drop, Option, Some, Bool, Result, Ok, Err, IfErr, OnErr, IsErrAnd, inl, inr, append_assoc, append-nil, length-append, arith, refl, sym, ap, ◌∙◌, subst}
 use Rattle.std.proofs.lemmas.List.{drop_at, take_all}
 use Rattle.std.proofs.lemmas.Result.{err_from_is_err_and}
 use Rattle.std.proofs.Math.Nat.{mul-add}
 use Rattle.std.proofs.KnownBytes.{Appends-trans, Consumes-trans}
-use Rattle.std.specs.Io.KnownBytes.{Appends, Consumes, Keeps}
-use Rattle.qoi.specs.Qoi.{Error, pixel_count, channels_number}
+use Rattle.std.specs.Io.KnownBytes.{Appends, Consumes}
+use Rattle.qoi.specs.Qoi.{Error}
 use Rattle.qoi.specs.Images.{front_image}
 use Rattle.qoi.specs.Rectangles.{rectangle, row_size}
 use Rattle.qoi.specs.Decoded.{HasDecoded}
-use Rattle.qoi.specs.Decoding.{RefusesBytes}
-use Rattle.qoi.specs.DecoderState.{DecoderState, output_byte_count}
+use Rattle.qoi.specs.DecoderState.{DecoderState}
 use Rattle.qoi.specs.EncoderState.{EncoderState}
-use Rattle.qoi.specs.pieces.PixelReader.{PixelsState, pixels_left, HasGiven, HasRows, RefusesPixels, IsSpent}
+use Rattle.qoi.specs.pieces.PixelReader.{PixelsState, pixels_left, HasGiven, HasRows, RefusesPiece, StopsAt}
 use Rattle.qoi.specs.pieces.PixelWriter.{WriterState, and_raw, HasTaken, HasFailed}
-use Rattle.qoi.specs.pieces.Sizes.{copied_at_once, decoded_ahead}
+use Rattle.qoi.specs.pieces.Sizes.{copied_at_once}
 use Rattle.qoi.specs.pieces.Copying.{rows_size, StopsBehind, FailsBehind, BreaksCopy, BreaksRaw, BreaksInput}
 use Rattle.qoi.proofs.decoding.PixelPieces.{piece_follows, rows_next}
 
@@ -60,19 +59,25 @@ fails_both ahead d start given more next piece p f = record {
 
 -- the first bytes were read, and then the image was refused
 pub stops_at : {R : Type 0} (in_memory : Bool) (ahead : R → Option (List ℕ)) (d : DecoderState R) (start : Option (List ℕ)) (given : List ℕ) (was p : PixelsState R) (error : Error)
-    → HasGiven d start (ahead was.reader) given was → RefusesPixels in_memory d start (ahead p.reader) error → IsSpent p × (pixels_left p ≡ pixels_left was)
-    → (IsTrue in_memory → Keeps (ahead was.reader) (ahead p.reader))
-    → (IsTrue in_memory → (bytes : List ℕ) (n : ℕ) → start ≡ Some bytes → n ≤ pixel_count d.header
-    → min (length given + copied_at_once + decoded_ahead) (output_byte_count d) ≤ n * channels_number d.channels → RefusesBytes n bytes error)
-    → StopsBehind in_memory ahead d start given [] p error
-stops_at in_memory ahead d start given was p error h why spent kept early = record {
+    (n : ℕ) → n ≤ copied_at_once → HasGiven d start (ahead was.reader) given was → RefusesPiece in_memory d start given n (ahead p.reader) error
+    → StopsAt in_memory ahead was p → StopsBehind in_memory ahead d start given [] p error
+stops_at in_memory ahead d start given was p error n short h r s = record {
   was = was;
   read = subst (λ x. HasGiven d start (ahead was.reader) x was) (sym (append-nil given)) h;
-  why = why;
-  spent = spent.0;
-  left = spent.1;
-  kept = kept;
-  early = λ held bytes n is fits enough. early held bytes n is fits (omega (arith, enough));
+  why = r.why;
+  spent = s.spent;
+  left = s.left;
+  kept = s.kept;
+  early = λ held bytes k is fits enough. r.early held bytes k is fits (omega (arith, enough, short));
+}
+
+-- an image that is refused behind some bytes and others is refused behind the first ones
+pub refused_sooner : {R : Type 0} (in_memory : Bool) (d : DecoderState R) (start : Option (List ℕ)) (given more : List ℕ) (n m : ℕ) (new : Option (List ℕ)) (error : Error)
+    → length more + n ≤ m → RefusesPiece in_memory d start (given ++ more) n new error → RefusesPiece in_memory d start given m new error
+refused_sooner in_memory d start given more n m new error fewer r = record {
+  why = r.why;
+  early = λ held bytes k is fits enough. r.early held bytes k is fits (omega (arith, enough, fewer, length-append given more));
+  missing = r.missing;
 }
 
 -- what was taken, and nothing more
@@ -106,11 +111,6 @@ input_breaks_later contents old now new e before raw w error came (io, piece, gi
 input_breaks_later contents old now new e before raw w error came (io, piece, given, inr f) =
     (io, raw ++ piece, Consumes-trans old now new raw piece came given, inr (failed_both contents e before raw piece w f.0, f.1))
 
--- two facts of a success
-pub both_ok : {T E : Type 0} (P Q : Type 0) (r : Result T E) → OnOk r P → OnOk r Q → OnOk r (P × Q)
-both_ok P Q (Ok x) p q = (p, q)
-both_ok P Q (Err e) p q = tt
-
 -- a refusal, and a fact of each refusal
 pub refusal_and : {T E : Type 0} (P : E → Type 0) (Q : Type 0) (r : Result T E) → IfErr r P → OnErr r Q → IfErr r (λ e. P e × Q)
 refusal_and P Q (Ok x) p q = tt
@@ -129,10 +129,12 @@ unfolding HasGiven
 decoded_all d start now given p h none = h.whole none
 
 -- and what came last is the rest of the image
-pub rest_is : {R : Type 0} (d : DecoderState R) (now : Option (List ℕ)) (bytes given rest : List ℕ) (p : PixelsState R) → HasGiven d (Some bytes) now (given ++ rest) p
-    → pixels_left p ≡ 0 → rest ≡ drop (length given) (front_image d.channels d.header bytes)
+pub rest_is : {R : Type 0} (d : DecoderState R) (start now : Option (List ℕ)) (bytes given rest more : List ℕ) (p : PixelsState R) → HasGiven d start now (given ++ rest) p
+    → pixels_left p ≡ 0 → start ≡ Some bytes → given ++ more ≡ front_image d.channels d.header bytes → rest ≡ more
 unfolding HasGiven
-rest_is d now bytes given rest p h none = sym (drop_at given rest (length given) refl) ∙ ap (drop (length given)) (h.whole none).image.0
+rest_is d start now bytes given rest more p h none is image =
+    let whole = rw is at (h.whole none).image in
+    sym (drop_at given rest (length given) refl) ∙ ap (drop (length given)) (whole.0 ∙ sym image) ∙ drop_at given more (length given) refl
 
 -- the bytes of n rows behind k rows
 pub rows_after : {R : Type 0} (d : DecoderState R) (start now : Option (List ℕ)) (stride k n : ℕ) (given more : List ℕ) (p : PixelsState R)

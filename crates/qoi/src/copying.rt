@@ -1,15 +1,14 @@
 //! The raw bytes of an image, from a reader of pieces to a writer of pieces.
-ghost use Rattle.std.specs.Prelude.{◌≡◌, ℕ, ◌+◌, ◌*◌, ◌-◌, ◌<◌, ◌≤◌, List, [], ◌++◌, length, take, drop, Option, Some, IfErr, OnOk, IsOk, IsErrOf, IsErrAnd};
+ghost use Rattle.std.specs.Prelude.{◌≡◌, ℕ, ◌+◌, ◌*◌, ◌<◌, ◌≤◌, List, ◌++◌, length, Option, Some, IfErr, OnOk, IsErrOf};
 ghost use Rattle.qoi.specs.Decoded.{HasDecoded};
 ghost use Rattle.qoi.specs.DecoderState.{DecoderState};
 ghost use Rattle.qoi.specs.EncoderState.{EncoderState};
-ghost use Rattle.qoi.specs.Errors.{IsIoError};
 ghost use Rattle.qoi.specs.Images.{front_image};
 ghost use Rattle.qoi.specs.Qoi.{Error, pixels_max};
 ghost use Rattle.qoi.specs.Rectangles.{rectangle, row_size};
-ghost use Rattle.qoi.specs.pieces.Copying.{rows_size, Gives, Takes, BreaksCopy};
+ghost use Rattle.qoi.specs.pieces.Copying.{rows_size, Gives, Takes, BreaksCopy, Copies};
 ghost use Rattle.qoi.specs.pieces.PixelReader.{pixels_left, HasGiven, HasRows, IsSpent};
-ghost use Rattle.qoi.specs.pieces.PixelWriter.{raw_left, and_raw, HasTaken, HasFailed};
+ghost use Rattle.qoi.specs.pieces.PixelWriter.{raw_left, HasTaken};
 ghost use Rattle.qoi.specs.pieces.Sizes.{copied_at_once};
 
 mod raw;
@@ -19,7 +18,7 @@ use crate::encode::PixelWriter;
 use crate::error::{Error, Result};
 use std::io::Write;
 
-// How many raw bytes go at once: no more than `copied_at_once`, by the clauses `refused`. By hand
+// How many raw bytes go at once: no more than `copied_at_once`, by `early` of `StopsBehind`. By hand
 // have to follow PIECE of fuzz/session.h, the numbers in comments and on the pages, and the
 // tests of readers and writers that fail.
 const PIECE: usize = 4096;
@@ -45,62 +44,18 @@ impl<R: Reader> PixelReader<R> {
     /// let writer = copy.finish()?;
     /// ```
     pub fn copy_to<W: Write + Drop>(&mut self, writer: &mut PixelWriter<W>) -> Result<()>
-        // A success: the reader gave the rest of the image, and the writer took it. It is the whole
-        // image, if no byte was read before.
-        ensures copied { OnOk result ((rest : List ℕ) × Takes W.contents rest writer.old writer.new
-            × ((d : DecoderState R) (start : Option (List ℕ)) (bytes : List ℕ)
-            → HasGiven d start (R.ahead self.old.reader) [] self.old → start ≡ Some bytes
-            → rest ≡ front_image d.channels d.header bytes)
-            × Gives R.ahead rest self.old self.new) }
-        // Else it is the image but for the bytes that were read before.
-        ensures rest { (d : DecoderState R) (start : Option (List ℕ)) (bytes given : List ℕ)
-            (e : EncoderState) (before : Option (List ℕ))
+        // All that is left goes to the writer, or it is refused.
+        ensures copies { Copies R.in_memory R.ahead W.contents (pixels_left self.old) self.old
+            self.new writer.old writer.new result }
+        // A success: what was read before and the bytes that were copied, `more`, are the image.
+        ensures rest { (d : DecoderState R) (start : Option (List ℕ)) (bytes given more : List ℕ)
             → HasGiven d start (R.ahead self.old.reader) given self.old → start ≡ Some bytes
-            → HasTaken W.contents e before writer.old → OnOk result (HasTaken W.contents
-            (and_raw e (drop (length given) (front_image d.channels d.header bytes)))
-            before writer.new) }
-        ensures image { (d : DecoderState R) (start : Option (List ℕ)) (bytes : List ℕ)
-            (e : EncoderState) (before : Option (List ℕ))
-            → HasGiven d start (R.ahead self.old.reader) [] self.old → start ≡ Some bytes
-            → HasTaken W.contents e before writer.old → OnOk result (HasTaken W.contents
-            (and_raw e (front_image d.channels d.header bytes)) before writer.new) }
+            → given ++ more ≡ front_image d.channels d.header bytes
+            → OnOk result (Takes W.contents more writer.old writer.new) }
         // So the image was decoded, and the reader stands behind its end marker.
         ensures decoded { (d : DecoderState R) (start : Option (List ℕ)) (given : List ℕ)
             → HasGiven d start (R.ahead self.old.reader) given self.old → OnOk result
             ((rest : List ℕ) × HasDecoded d start (R.ahead self.new.reader) (given ++ rest)) }
-        ensures all { OnOk result (pixels_left self.new ≡ 0) }
-        ensures left { OnOk result
-            (raw_left writer.new + pixels_left self.old ≡ raw_left writer.old) }
-        // If none are left, nothing happens.
-        ensures none { (e : EncoderState) (before : Option (List ℕ))
-            → HasTaken W.contents e before writer.old → pixels_left self.old ≡ 0
-            → IsOk result × (self.new ≡ self.old) × (writer.new ≡ writer.old) }
-
-        // The refusals that leave both as they were: too many bytes, a writer that failed before,
-        // and an image that was refused before.
-        ensures many { (e : EncoderState) (before : Option (List ℕ))
-            → HasTaken W.contents e before writer.old → raw_left writer.old < pixels_left self.old
-            → IsErrOf result (Error.InvalidImageLength (length e.raw + pixels_left self.old)
-            e.header.width e.header.height)
-            × (self.new ≡ self.old) × (writer.new ≡ writer.old) }
-        ensures failed { (e : EncoderState) (before : Option (List ℕ))
-            → HasFailed W.contents e before writer.old → IsErrAnd result IsIoError
-            × (self.new ≡ self.old) × (writer.new ≡ writer.old) }
-        ensures spent { (e : EncoderState) (before : Option (List ℕ))
-            → HasTaken W.contents e before writer.old → pixels_left self.old ≤ raw_left writer.old
-            → IsSpent self.old → IsErrOf result Error.UnexpectedBufferEnd
-            × (self.new ≡ self.old) × (writer.new ≡ writer.old) }
-        // The others: the image is refused, or the writer fails.
-        ensures refused { (d : DecoderState R) (start : Option (List ℕ)) (given : List ℕ)
-            (e : EncoderState) (before : Option (List ℕ))
-            → HasGiven d start (R.ahead self.old.reader) given self.old
-            → HasTaken W.contents e before writer.old → pixels_left self.old ≤ raw_left writer.old
-            → IfErr result (BreaksCopy R.in_memory R.ahead W.contents d start given e before
-            self.new writer.new) }
-
-        // What stays: header and channels.
-        ensures unchanged { (self.new.header ≡ self.old.header)
-            × (self.new.channels ≡ self.old.channels) }
     {
         let left = self.left();
         self.copy_bytes(writer, left)
@@ -122,68 +77,19 @@ impl<R: Reader> PixelReader<R> {
         writer: &mut PixelWriter<W>,
         rows: u32,
     ) -> Result<()>
-        // A success: the reader gave the bytes of so many rows, and the writer took them. Behind k
-        // rows of the image they are the rows that follow.
-        ensures copied { OnOk result ((more : List ℕ) × Takes W.contents more writer.old writer.new
-            × ((d : DecoderState R) (bytes : List ℕ) (stride k : ℕ)
-            → HasRows d (Some bytes) (R.ahead self.old.reader) stride k self.old
-            → stride ≡ row_size d.channels d.header
-            → more ≡ rectangle stride k 0 rows stride (front_image d.channels d.header bytes))
-            × Gives R.ahead more self.old self.new × (length more ≡ rows_size self.old rows)) }
+        // So many rows go to the writer, or they are refused.
+        ensures copies { Copies R.in_memory R.ahead W.contents (rows_size self.old rows) self.old
+            self.new writer.old writer.new result }
+        // A success: behind k rows of the image they are the rows that follow.
         ensures rows { (d : DecoderState R) (start : Option (List ℕ)) (stride k : ℕ)
             → HasRows d start (R.ahead self.old.reader) stride k self.old
             → stride ≡ row_size d.channels d.header
             → OnOk result (HasRows d start (R.ahead self.new.reader) stride (k + rows) self.new) }
-        ensures strip { (d : DecoderState R) (bytes : List ℕ) (stride k : ℕ)
-            (e : EncoderState) (before : Option (List ℕ))
+        ensures strip { (d : DecoderState R) (bytes more : List ℕ) (stride k : ℕ)
             → HasRows d (Some bytes) (R.ahead self.old.reader) stride k self.old
-            → stride ≡ row_size d.channels d.header → HasTaken W.contents e before writer.old
-            → OnOk result (HasTaken W.contents (and_raw e (rectangle stride k 0 rows stride
-            (front_image d.channels d.header bytes))) before writer.new) }
-        ensures left { OnOk result
-            (pixels_left self.new + rows_size self.old rows ≡ pixels_left self.old) }
-        ensures room { OnOk result
-            (raw_left writer.new + rows_size self.old rows ≡ raw_left writer.old) }
-        ensures none { (e : EncoderState) (before : Option (List ℕ))
-            → HasTaken W.contents e before writer.old → rows_size self.old rows ≡ 0
-            → IsOk result × (self.new ≡ self.old) × (writer.new ≡ writer.old) }
-
-        // The refusals that leave both as they were: too few rows, too many bytes, a writer that
-        // failed before, and an image that was refused before.
-        ensures few { pixels_left self.old < rows_size self.old rows
-            → IsErrOf result Error.UnexpectedBufferEnd
-            × (self.new ≡ self.old) × (writer.new ≡ writer.old) }
-        ensures many { (e : EncoderState) (before : Option (List ℕ))
-            → HasTaken W.contents e before writer.old
-            → rows_size self.old rows ≤ pixels_left self.old
-            → raw_left writer.old < rows_size self.old rows
-            → IsErrOf result (Error.InvalidImageLength
-            (length e.raw + rows_size self.old rows)
-            e.header.width e.header.height)
-            × (self.new ≡ self.old) × (writer.new ≡ writer.old) }
-        ensures failed { (e : EncoderState) (before : Option (List ℕ))
-            → HasFailed W.contents e before writer.old
-            → rows_size self.old rows ≤ pixels_left self.old
-            → IsErrAnd result IsIoError × (self.new ≡ self.old) × (writer.new ≡ writer.old) }
-        ensures spent { (e : EncoderState) (before : Option (List ℕ))
-            → HasTaken W.contents e before writer.old
-            → rows_size self.old rows ≤ raw_left writer.old
-            → 0 < rows_size self.old rows → rows_size self.old rows ≤ pixels_left self.old
-            → IsSpent self.old → IsErrOf result Error.UnexpectedBufferEnd
-            × (self.new ≡ self.old) × (writer.new ≡ writer.old) }
-        // The others: the image is refused, or the writer fails.
-        ensures refused { (d : DecoderState R) (start : Option (List ℕ)) (given : List ℕ)
-            (e : EncoderState) (before : Option (List ℕ))
-            → HasGiven d start (R.ahead self.old.reader) given self.old
-            → HasTaken W.contents e before writer.old
-            → rows_size self.old rows ≤ pixels_left self.old
-            → rows_size self.old rows ≤ raw_left writer.old
-            → IfErr result (BreaksCopy R.in_memory R.ahead W.contents d start given e before
-            self.new writer.new) }
-
-        // What stays: header and channels.
-        ensures unchanged { (self.new.header ≡ self.old.header)
-            × (self.new.channels ≡ self.old.channels) }
+            → stride ≡ row_size d.channels d.header
+            → more ≡ rectangle stride k 0 rows stride (front_image d.channels d.header bytes)
+            → OnOk result (Takes W.contents more writer.old writer.new) }
     {
         let count = self.bytes_per_row() * rows as usize;
         if count > self.left() {
@@ -200,32 +106,8 @@ impl<R: Reader> PixelReader<R> {
     ) -> Result<()>
         requires fits { count ≤ pixels_left self.old }
         requires few { count ≤ 4 * pixels_max }
-        ensures copied { OnOk result ((more : List ℕ) × Gives R.ahead more self.old self.new
-            × Takes W.contents more writer.old writer.new × (length more ≡ count)) }
-        ensures left { OnOk result (pixels_left self.new + count ≡ pixels_left self.old) }
-        ensures room { OnOk result (raw_left writer.new + count ≡ raw_left writer.old) }
-        ensures none { (e : EncoderState) (before : Option (List ℕ))
-            → HasTaken W.contents e before writer.old → count ≡ 0
-            → IsOk result × (self.new ≡ self.old) × (writer.new ≡ writer.old) }
-        ensures many { (e : EncoderState) (before : Option (List ℕ))
-            → HasTaken W.contents e before writer.old → raw_left writer.old < count
-            → IsErrOf result (Error.InvalidImageLength (length e.raw + count) e.header.width
-            e.header.height) × (self.new ≡ self.old) × (writer.new ≡ writer.old) }
-        ensures failed { (e : EncoderState) (before : Option (List ℕ))
-            → HasFailed W.contents e before writer.old → IsErrAnd result IsIoError
-            × (self.new ≡ self.old) × (writer.new ≡ writer.old) }
-        ensures spent { (e : EncoderState) (before : Option (List ℕ))
-            → HasTaken W.contents e before writer.old → count ≤ raw_left writer.old → 0 < count
-            → IsSpent self.old → IsErrOf result Error.UnexpectedBufferEnd
-            × (self.new ≡ self.old) × (writer.new ≡ writer.old) }
-        ensures refused { (d : DecoderState R) (start : Option (List ℕ)) (given : List ℕ)
-            (e : EncoderState) (before : Option (List ℕ))
-            → HasGiven d start (R.ahead self.old.reader) given self.old
-            → HasTaken W.contents e before writer.old → count ≤ raw_left writer.old
-            → IfErr result (BreaksCopy R.in_memory R.ahead W.contents d start given e before
-            self.new writer.new) }
-        ensures unchanged { (self.new.header ≡ self.old.header)
-            × (self.new.channels ≡ self.old.channels) }
+        ensures { Copies R.in_memory R.ahead W.contents count self.old self.new writer.old
+            writer.new result }
     {
         writer.check_room(count)?;
         let mut buf = [0; PIECE];

@@ -10,7 +10,7 @@ use Rattle.qoi.specs.Reading.{IsImage, StandsAhead}
 use Rattle.qoi.specs.Raw.{IsChannels, output}
 use Rattle.qoi.specs.Images.{file_image, front_image, behind_header}
 use Rattle.qoi.specs.pieces.Copying.{Gives}
-use Rattle.qoi.specs.pieces.PixelReader.{PixelsState, pixels_left, HasGiven, HasRows, RefusesPixels}
+use Rattle.qoi.specs.pieces.PixelReader.{PixelsState, pixels_left, HasGiven, HasRows, RefusesPiece}
 use Rattle.qoi.specs.pieces.Sizes.{decoded_ahead}
 use Rattle.qoi.specs.pieces.Unread.{kept_count}
 use Rattle.qoi.specs.pieces.RowIndex.{file_decoder, row_size, PointState, undecoded_pixels, points_count, StandsAt, ArePoints, IsPointAt, IsPointOf, HasPoints, ReadsFile, IsRowIndex, IsNearest, IsFileDecoder}
@@ -53,22 +53,22 @@ unfolding ReadsFile
 reads_more channels h file n p q r (is, given, g) = on_ok_weaker r (λ m. (is, given ++ m.0, m.1 (file_decoder channels h file) (Some (drop header_size file)) given g))
 
 -- what is refused of the image is a refusal of the file
-pub refused_file : {T : Type 0} (channels : Channels) (h : Header) (file : List ℕ) (p : PixelsState (List ℕ)) (new : Option (List ℕ)) (r : Result T Error)
-    → ((d : DecoderState (List ℕ)) (start : Option (List ℕ)) (given : List ℕ) → HasGiven d start (Some p.reader) given p → IfErr r (RefusesPixels true d start new))
+pub refused_file : {T : Type 0} (channels : Channels) (h : Header) (file : List ℕ) (p : PixelsState (List ℕ)) (n : ℕ) (new : Option (List ℕ)) (r : Result T Error)
+    → ((d : DecoderState (List ℕ)) (start : Option (List ℕ)) (given : List ℕ) → HasGiven d start (Some p.reader) given p → IfErr r (RefusesPiece true d start given n new))
     → ReadsFile channels h file p → IfErr r (HasRefusedFile file)
 unfolding ReadsFile
-refused_file channels h file p new (Ok x) refuses reads = tt
-refused_file channels h file p new (Err e) refuses (is, given, g) =
-    has_refused_file file e (inr (h, is, (refuses (file_decoder channels h file) (Some (drop header_size file)) given g).why.1))
+refused_file channels h file p n new (Ok x) refuses reads = tt
+refused_file channels h file p n new (Err e) refuses (is, given, g) =
+    has_refused_file file e (inr (h, is, (refuses (file_decoder channels h file) (Some (drop header_size file)) given g).why.why.1))
 
 -- an image that stands whole isn't refused
-pub never_refused : {T : Type 0} (channels : Channels) (h : Header) (file : List ℕ) (p : PixelsState (List ℕ)) (new : Option (List ℕ)) (r : Result T Error)
-    → ((d : DecoderState (List ℕ)) (start : Option (List ℕ)) (given : List ℕ) → HasGiven d start (Some p.reader) given p → IfErr r (RefusesPixels true d start new))
+pub never_refused : {T : Type 0} (channels : Channels) (h : Header) (file : List ℕ) (p : PixelsState (List ℕ)) (n : ℕ) (new : Option (List ℕ)) (r : Result T Error)
+    → ((d : DecoderState (List ℕ)) (start : Option (List ℕ)) (given : List ℕ) → HasGiven d start (Some p.reader) given p → IfErr r (RefusesPiece true d start given n new))
     → ReadsFile channels h file p → StandsAhead h (drop header_size file) → IsOk r
 unfolding ReadsFile StandsAhead
-never_refused channels h file p new (Ok x) refuses reads whole = refl
-never_refused channels h file p new (Err e) refuses (is, given, g) (cs, rest, whole) =
-    absurd ((refuses (file_decoder channels h file) (Some (drop header_size file)) given g).not_whole refl (drop header_size file) rest cs refl whole)
+never_refused channels h file p n new (Ok x) refuses reads whole = refl
+never_refused channels h file p n new (Err e) refuses (is, given, g) (cs, rest, whole) =
+    absurd ((refuses (file_decoder channels h file) (Some (drop header_size file)) given g).why.not_whole refl (drop header_size file) rest cs refl whole)
 
 -- a refused header is a refusal of the file
 pub refused_header : (file : List ℕ) (e : Error) → header_of file ≡ Err e → HasRefusedFile file e

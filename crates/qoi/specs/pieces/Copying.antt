@@ -1,7 +1,7 @@
 -- What a contract says of raw bytes that are copied from a pixel reader, or to a pixel writer.
-use Rattle.std.specs.Prelude.{◌≡◌, ℕ, ◌+◌, ◌*◌, ◌≤◌, min, List, ◌++◌, length, Option, Some, Bool, IsTrue, ◌⊎◌}
+use Rattle.std.specs.Prelude.{◌≡◌, ℕ, ◌+◌, ◌*◌, ◌<◌, ◌≤◌, min, List, ◌++◌, length, Option, Some, Bool, IsTrue, ◌⊎◌, Result, OnOk, IfErr, IsOk, IsErrOf, IsErrAnd}
 use Rattle.std.specs.Io.KnownBytes.{Appends, Consumes, Keeps}
-use Rattle.qoi.specs.Qoi.{Error, pixel_count, channels_number}
+use Rattle.qoi.specs.Qoi.{Error, InvalidImageLength, UnexpectedBufferEnd, pixel_count, channels_number}
 use Rattle.qoi.specs.Rectangles.{row_size}
 use Rattle.qoi.specs.Errors.{IsIoError}
 use Rattle.qoi.specs.Writers.{AppendsBeginning}
@@ -9,7 +9,7 @@ use Rattle.qoi.specs.Decoding.{RefusesBytes}
 use Rattle.qoi.specs.DecoderState.{DecoderState, output_byte_count}
 use Rattle.qoi.specs.EncoderState.{EncoderState}
 use Rattle.qoi.specs.pieces.PixelReader.{PixelsState, pixels_left, HasGiven, RefusesPixels, IsSpent}
-use Rattle.qoi.specs.pieces.PixelWriter.{WriterState, and_raw, HasTaken, HasFailed}
+use Rattle.qoi.specs.pieces.PixelWriter.{WriterState, raw_left, and_raw, HasTaken, HasFailed}
 use Rattle.qoi.specs.pieces.Sizes.{copied_at_once, decoded_ahead}
 
 -- how many raw bytes so many rows of the reader's image have
@@ -75,3 +75,52 @@ BreaksRaw in_memory ahead d start given old p new error = (more : List ℕ)
 abbrev pub BreaksInput : {W : Type 0} → (W → Option (List ℕ)) → Option (List ℕ) → Option (List ℕ) → EncoderState → Option (List ℕ) → WriterState W → Error → Type 0
 BreaksInput contents old new e before w error = IsIoError error × (raw : List ℕ) × Consumes old new raw
     × (HasTaken contents (and_raw e raw) before w ⊎ (HasFailed contents (and_raw e raw) before w × (w.came ≤ copied_at_once)))
+
+-- The reader gave n raw bytes, and the writer took them: p and w before, q and v after.
+pub record Copied {R W : Type 0} (ahead : R → Option (List ℕ)) (contents : W → Option (List ℕ)) (n : ℕ) (p q : PixelsState R) (w v : WriterState W) : Type 0 where
+  pub more : List ℕ
+  pub size : length more ≡ n
+  pub given : Gives ahead more p q
+  pub taken : Takes contents more w v
+  pub left : pixels_left q + n ≡ pixels_left p
+  pub room : raw_left v + n ≡ raw_left w
+
+-- A call was to copy n raw bytes from a reader to a writer: p and w before, q and v after.
+pub record Copies {R W T : Type 0} (in_memory : Bool) (ahead : R → Option (List ℕ)) (contents : W → Option (List ℕ)) (n : ℕ) (p q : PixelsState R) (w v : WriterState W) (result : Result T Error) : Type 0 where
+  -- a success; of no bytes nothing happens
+  pub copied : OnOk result (Copied ahead contents n p q w v)
+  pub none : (e : EncoderState) (before : Option (List ℕ)) → HasTaken contents e before w → n ≡ 0 → IsOk result × (q ≡ p) × (v ≡ w)
+  -- the refusals that leave both as they were: fewer are left, the writer takes fewer or failed before, and the image
+  -- was refused before
+  pub few : pixels_left p < n → IsErrOf result UnexpectedBufferEnd × (q ≡ p) × (v ≡ w)
+  pub many : (e : EncoderState) (before : Option (List ℕ)) → HasTaken contents e before w → n ≤ pixels_left p → raw_left w < n
+      → IsErrOf result (InvalidImageLength (length e.raw + n) e.header.width e.header.height) × (q ≡ p) × (v ≡ w)
+  pub failed : (e : EncoderState) (before : Option (List ℕ)) → HasFailed contents e before w → n ≤ pixels_left p → IsErrAnd result IsIoError × (q ≡ p) × (v ≡ w)
+  pub spent : (e : EncoderState) (before : Option (List ℕ)) → HasTaken contents e before w → n ≤ raw_left w → 0 < n → n ≤ pixels_left p → IsSpent p
+      → IsErrOf result UnexpectedBufferEnd × (q ≡ p) × (v ≡ w)
+  -- the others: the image is refused, or the writer fails
+  pub refused : (d : DecoderState R) (start : Option (List ℕ)) (given : List ℕ) (e : EncoderState) (before : Option (List ℕ)) → HasGiven d start (ahead p.reader) given p
+      → HasTaken contents e before w → n ≤ pixels_left p → n ≤ raw_left w → IfErr result (BreaksCopy in_memory ahead contents d start given e before q v)
+  -- what stays
+  pub unchanged : (q.header ≡ p.header) × (q.channels ≡ p.channels)
+
+-- The reader gave n raw bytes, and they were written: `old` is what any writer had before, and `new` what it had after.
+pub record CopiedRaw {R : Type 0} (ahead : R → Option (List ℕ)) (n : ℕ) (p q : PixelsState R) (old new : Option (List ℕ)) : Type 0 where
+  pub more : List ℕ
+  pub size : length more ≡ n
+  pub given : Gives ahead more p q
+  pub written : Appends old new more
+  pub left : pixels_left q + n ≡ pixels_left p
+
+-- A call was to copy n raw bytes, no more than are left, from a reader to any writer: p and w before, q and v after.
+pub record CopiesRaw {R W T : Type 0} (in_memory : Bool) (ahead : R → Option (List ℕ)) (contents : W → Option (List ℕ)) (n : ℕ) (p q : PixelsState R) (w v : W) (result : Result T Error) : Type 0 where
+  -- a success; of no bytes nothing happens
+  pub copied : OnOk result (CopiedRaw ahead n p q (contents w) (contents v))
+  pub none : n ≡ 0 → IsOk result × (q ≡ p) × (v ≡ w)
+  -- the refusals: an image that was refused before leaves both as they were, and the others are its refusal now and a
+  -- fault of the writer
+  pub spent : 0 < n → IsSpent p → IsErrOf result UnexpectedBufferEnd × (q ≡ p) × (v ≡ w)
+  pub refused : (d : DecoderState R) (start : Option (List ℕ)) (given : List ℕ) → HasGiven d start (ahead p.reader) given p
+      → IfErr result (BreaksRaw in_memory ahead d start given (contents w) q (contents v))
+  -- what stays
+  pub unchanged : (q.header ≡ p.header) × (q.channels ≡ p.channels)

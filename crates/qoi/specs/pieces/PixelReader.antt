@@ -1,9 +1,13 @@
 -- What a contract sees of an image that is decoded piece by piece.
-use Rattle.std.specs.Prelude.{◌≡◌, ℕ, ◌+◌, ◌*◌, ◌<◌, List, length, take, Bool, true, false, Option, IfSome}
+use Rattle.std.specs.Prelude.{◌≡◌, ℕ, ◌+◌, ◌*◌, ◌<◌, ◌≤◌, List, length, take, min, Bool, IsTrue, true, false, Option, Some, IfSome}
+use Rattle.std.specs.Io.KnownBytes.{Keeps}
 use Rattle.qoi.specs.Qoi.{Channels, Error, Header, channels_number, pixel_count, chunk_max, marker_size}
 use Rattle.qoi.specs.DecoderState.{DecoderState, output_byte_count, TakesAtMost}
 use Rattle.qoi.specs.Images.{front_image}
 use Rattle.qoi.specs.Decoded.{HasDecoded, HasRefused}
+use Rattle.qoi.specs.Decoding.{RefusesBytes}
+use Rattle.qoi.specs.Reading.{StandsAhead}
+use Rattle.qoi.specs.pieces.Sizes.{decoded_ahead}
 use Rattle.qoi.specs.pieces.Unread.{Unread, IsUnread, bytes_left}
 
 -- the reader as it stands, the header of the file, the channels of the output, what is unread of the image,
@@ -59,3 +63,26 @@ IsSpent p = (p.refused ≡ true) × (0 < pixels_left p)
 abbrev pub RefusesPixels : {R : Type 0} → Bool → DecoderState R → Option (List ℕ) → Option (List ℕ) → Error → Type 0
 RefusesPixels true d start new e = HasRefused true d start start e
 RefusesPixels false d start new e = HasRefused false d start new e
+
+-- So many raw bytes of the image were read: n, or as many as were left. The reader was p, and is q.
+pub record ReadsUpTo {R : Type 0} (n : ℕ) (p q : PixelsState R) (count : ℕ) : Type 0 where
+  pub size : count ≡ min n (pixels_left p)
+  pub left : pixels_left q + count ≡ pixels_left p
+
+-- Behind the raw bytes `given` n more were to be read, and the image was refused with the error e.
+pub record RefusesPiece {R : Type 0} (in_memory : Bool) (d : DecoderState R) (start : Option (List ℕ)) (given : List ℕ) (n : ℕ) (new : Option (List ℕ)) (e : Error) : Type 0 where
+  pub why : RefusesPixels in_memory d start new e
+  -- In memory no more than what may be decoded ahead counts: the bytes are refused as an image of k pixels, too,
+  -- if these go so far or are all.
+  pub early : IsTrue in_memory → (bytes : List ℕ) (k : ℕ) → start ≡ Some bytes → k ≤ pixel_count d.header
+      → min (length given + n + decoded_ahead) (output_byte_count d) ≤ k * channels_number d.channels → RefusesBytes k bytes e
+  -- In memory an image that stands whole isn't refused.
+  pub missing : IsTrue in_memory → (bytes : List ℕ) → start ≡ Some bytes → StandsAhead d.header bytes → ⊥
+
+-- A call was refused, and no more of the image can be read. The reader was p, and is q.
+pub record StopsAt {R : Type 0} (in_memory : Bool) (ahead : R → Option (List ℕ)) (p q : PixelsState R) : Type 0 where
+  pub spent : IsSpent q
+  -- as much is left as before
+  pub left : pixels_left q ≡ pixels_left p
+  -- bytes in memory stay
+  pub kept : IsTrue in_memory → Keeps (ahead p.reader) (ahead q.reader)

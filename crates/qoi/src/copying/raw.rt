@@ -1,14 +1,13 @@
 //! Raw bytes from a reader of pieces to any writer, and from any reader to a writer of pieces.
-ghost use Rattle.std.specs.Prelude.{◌≡◌, ℕ, ◌+◌, ◌*◌, ◌≤◌, ◌<◌, List, [], ◌++◌, length, drop, Option, Some, IfErr, OnOk, IsOk, IsErrOf, IsErrAnd};
+ghost use Rattle.std.specs.Prelude.{◌≡◌, ℕ, ◌≤◌, ◌<◌, List, ◌++◌, length, min, Option, Some, IfErr, OnOk, IsOk, IsErrAnd};
 ghost use Rattle.std.specs.Io.KnownBytes.{Appends, Consumes};
 ghost use Rattle.qoi.specs.Decoded.{HasDecoded};
 ghost use Rattle.qoi.specs.DecoderState.{DecoderState};
 ghost use Rattle.qoi.specs.EncoderState.{EncoderState};
 ghost use Rattle.qoi.specs.Errors.{IsIoError};
 ghost use Rattle.qoi.specs.Images.{front_image};
-ghost use Rattle.qoi.specs.Qoi.{Error};
-ghost use Rattle.qoi.specs.pieces.Copying.{BreaksRaw, BreaksInput};
-ghost use Rattle.qoi.specs.pieces.PixelReader.{pixels_left, HasGiven, IsSpent};
+ghost use Rattle.qoi.specs.pieces.Copying.{BreaksInput, CopiesRaw};
+ghost use Rattle.qoi.specs.pieces.PixelReader.{pixels_left, HasGiven};
 ghost use Rattle.qoi.specs.pieces.PixelWriter.{raw_left, and_raw, HasTaken, HasFailed};
 ghost use Rattle.qoi.specs.pieces.Sizes.{copied_at_once};
 
@@ -35,42 +34,18 @@ impl<R: Reader> PixelReader<R> {
     /// pixels.copy_raw_to(&mut writer)?;
     /// ```
     pub fn copy_raw_to<W: Write>(&mut self, out: &mut W) -> Result<()>
-        // A success: the reader gave the rest of the image, and the writer has it.
-        ensures copied { (d : DecoderState R) (start : Option (List ℕ)) (given : List ℕ)
-            → HasGiven d start (R.ahead self.old.reader) given self.old
-            → OnOk result ((rest : List ℕ)
-            × HasGiven d start (R.ahead self.new.reader) (given ++ rest) self.new
-            × Appends (W.contents out.old) (W.contents out.new) rest) }
-        // It is the image but for the bytes that were read before; the whole one, if none were.
-        ensures rest { (d : DecoderState R) (start : Option (List ℕ)) (bytes given : List ℕ)
+        // All that is left is written, or it is refused.
+        ensures copies { CopiesRaw R.in_memory R.ahead W.contents (pixels_left self.old) self.old
+            self.new out.old out.new result }
+        // A success: what was read before and the bytes that were written, `more`, are the image.
+        ensures rest { (d : DecoderState R) (start : Option (List ℕ)) (bytes given more : List ℕ)
             → HasGiven d start (R.ahead self.old.reader) given self.old → start ≡ Some bytes
-            → OnOk result (Appends (W.contents out.old) (W.contents out.new)
-            (drop (length given) (front_image d.channels d.header bytes))) }
-        ensures image { (d : DecoderState R) (start : Option (List ℕ)) (bytes : List ℕ)
-            → HasGiven d start (R.ahead self.old.reader) [] self.old → start ≡ Some bytes
-            → OnOk result (Appends (W.contents out.old) (W.contents out.new)
-            (front_image d.channels d.header bytes)) }
+            → given ++ more ≡ front_image d.channels d.header bytes
+            → OnOk result (Appends (W.contents out.old) (W.contents out.new) more) }
         // So the image was decoded, and the reader stands behind its end marker.
         ensures decoded { (d : DecoderState R) (start : Option (List ℕ)) (given : List ℕ)
             → HasGiven d start (R.ahead self.old.reader) given self.old → OnOk result
             ((rest : List ℕ) × HasDecoded d start (R.ahead self.new.reader) (given ++ rest)) }
-        ensures all { OnOk result (pixels_left self.new ≡ 0) }
-        // If none are left, nothing happens.
-        ensures none { pixels_left self.old ≡ 0
-            → IsOk result × (self.new ≡ self.old) × (out.new ≡ out.old) }
-
-        // The refusals: the image is refused, or the writer fails; an image that was refused before
-        // leaves all as it was.
-        ensures refused { (d : DecoderState R) (start : Option (List ℕ)) (given : List ℕ)
-            → HasGiven d start (R.ahead self.old.reader) given self.old
-            → IfErr result (BreaksRaw R.in_memory R.ahead d start given (W.contents out.old)
-            self.new (W.contents out.new)) }
-        ensures spent { IsSpent self.old → IsErrOf result Error.UnexpectedBufferEnd
-            × (self.new ≡ self.old) × (out.new ≡ out.old) }
-
-        // What stays: header and channels.
-        ensures unchanged { (self.new.header ≡ self.old.header)
-            × (self.new.channels ≡ self.old.channels) }
     {
         let mut buf = [0; PIECE];
         while self.left() > 0 {
@@ -85,20 +60,8 @@ impl<R: Reader> PixelReader<R> {
         requires some { 0 < length buf.old }
         requires short { length buf.old ≤ copied_at_once }
         requires more { 0 < pixels_left self.old }
-        ensures copied { (d : DecoderState R) (start : Option (List ℕ)) (given : List ℕ)
-            → HasGiven d start (R.ahead self.old.reader) given self.old
-            → OnOk result ((piece : List ℕ)
-            × HasGiven d start (R.ahead self.new.reader) (given ++ piece) self.new
-            × Appends (W.contents out.old) (W.contents out.new) piece) }
-        ensures less { OnOk result (pixels_left self.new < pixels_left self.old) }
-        ensures refused { (d : DecoderState R) (start : Option (List ℕ)) (given : List ℕ)
-            → HasGiven d start (R.ahead self.old.reader) given self.old
-            → IfErr result (BreaksRaw R.in_memory R.ahead d start given (W.contents out.old)
-            self.new (W.contents out.new)) }
-        ensures spent { IsSpent self.old → IsErrOf result Error.UnexpectedBufferEnd
-            × (self.new ≡ self.old) × (out.new ≡ out.old) }
-        ensures unchanged { (self.new.header ≡ self.old.header)
-            × (self.new.channels ≡ self.old.channels) }
+        ensures { CopiesRaw R.in_memory R.ahead W.contents
+            (min (length buf.old) (pixels_left self.old)) self.old self.new out.old out.new result }
     {
         let left = self.left();
         let size = self.read(buf)?;

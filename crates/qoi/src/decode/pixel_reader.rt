@@ -2,12 +2,10 @@
 ghost use Rattle.std.specs.Io.KnownBytes.{Keeps};
 ghost use Rattle.std.specs.Prelude.{◌*◌, ◌≡◌, ℕ, ◌+◌, ◌-◌, ◌<◌, ◌≤◌, List, [], ◌++◌, length, take, drop, min, Option, Some, Ok, true, false, IsTrue, IfSome, IfOk, IfErr, OnErr, IsErrOf};
 ghost use Rattle.qoi.specs.Decoded.{HasDecoded};
-ghost use Rattle.qoi.specs.Decoding.{RefusesBytes};
 ghost use Rattle.qoi.specs.DecoderState.{DecoderState, output_byte_count};
 ghost use Rattle.qoi.specs.Images.{front_image, front_rest};
-ghost use Rattle.qoi.specs.pieces.PixelReader.{PixelsState, as_decoder, pixels_left, HasGiven, HasRows, RefusesPixels, IsSpent};
-ghost use Rattle.qoi.specs.Qoi.{Error, channels_number, pixel_count, pixels_max};
-ghost use Rattle.qoi.specs.pieces.Sizes.{decoded_ahead};
+ghost use Rattle.qoi.specs.pieces.PixelReader.{PixelsState, as_decoder, pixels_left, HasGiven, HasRows, ReadsUpTo, RefusesPixels, RefusesPiece, StopsAt, IsSpent};
+ghost use Rattle.qoi.specs.Qoi.{Error, channels_number, pixels_max};
 ghost use Rattle.qoi.specs.pieces.Unread.{bytes_left, IsRestOf, KeepsPixels, Asks, Steps};
 ghost use Rattle.qoi.specs.Reading.{StandsAhead, IsCutAhead, IsWrongAhead, SaysWhy};
 ghost use Rattle.qoi.specs.Rectangles.{row_bytes, rectangle, row_size};
@@ -235,36 +233,21 @@ impl<R: Reader> PixelReader<R> {
             → HasRows d (Some bytes) (R.ahead self.old.reader) stride k self.old
             → length buf.old ≡ stride * n → IfOk result (λ size. length buf.old ≤ size
             → buf.new ≡ rectangle stride k 0 n stride (front_image d.channels d.header bytes)) }
-        ensures size { IfOk result (λ size. size ≡ min (length buf.old) (pixels_left self.old)) }
-        ensures left { IfOk result (λ size. pixels_left self.new + size ≡ pixels_left self.old) }
+        ensures size { IfOk result (ReadsUpTo (length buf.old) self.old self.new) }
         ensures none { min (length buf.old) (pixels_left self.old) ≡ 0
             → (result ≡ Ok 0) × (self.new ≡ self.old) }
 
-        // The refusals: those of the image, and then no more of it is read.
+        // The refusals: those of the image, and then no more of it is read. Bytes in memory stay.
         ensures refused { (d : DecoderState R) (start : Option (List ℕ)) (given : List ℕ)
             → HasGiven d start (R.ahead self.old.reader) given self.old
-            → IfErr result (RefusesPixels R.in_memory d start (R.ahead self.new.reader)) }
-        // In memory no more than what may be decoded ahead counts: the bytes are refused as an image
-        // of n pixels, too, if these go so far or are all.
-        ensures early { (d : DecoderState R) (bytes given : List ℕ) (n : ℕ)
-            → HasGiven d (Some bytes) (R.ahead self.old.reader) given self.old
-            → IsTrue R.in_memory → n ≤ pixel_count d.header
-            → min (length given + length buf.old + decoded_ahead) (output_byte_count d)
-            ≤ n * channels_number d.channels → IfErr result (RefusesBytes n bytes) }
-        // In memory an image that stands whole isn't refused.
-        ensures missing { (d : DecoderState R) (bytes given : List ℕ)
-            → HasGiven d (Some bytes) (R.ahead self.old.reader) given self.old
-            → IsTrue R.in_memory → OnErr result (StandsAhead d.header bytes → ⊥) }
-        ensures spent { OnErr result
-            (IsSpent self.new × (pixels_left self.new ≡ pixels_left self.old)) }
+            → IfErr result (RefusesPiece R.in_memory d start given (length buf.old)
+            (R.ahead self.new.reader)) }
+        ensures stops { OnErr result (StopsAt R.in_memory R.ahead self.old self.new) }
         ensures again { IsSpent self.old → 0 < length buf.old
             → IsErrOf result Error.UnexpectedBufferEnd
             × (self.new ≡ self.old) × (buf.new ≡ buf.old) }
 
-        // What stays: bytes in memory after a refusal, later bytes of the buffer, header and
-        // channels.
-        ensures kept { IsTrue R.in_memory
-            → OnErr result (Keeps (R.ahead self.old.reader) (R.ahead self.new.reader)) }
+        // What stays: later bytes of the buffer, header and channels.
         ensures later { drop (pixels_left self.old) buf.new ≡ drop (pixels_left self.old) buf.old }
         ensures unchanged { (self.new.header ≡ self.old.header)
             × (self.new.channels ≡ self.old.channels) }

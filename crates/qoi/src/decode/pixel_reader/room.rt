@@ -13,8 +13,8 @@ use crate::decode::table::TermTable;
 use crate::error::Result;
 
 /// How many bytes are kept at most, decoded ahead of a piece: whole pixels of three channels and of
-/// four. No more than `decoded_ahead`, by the clause `early`. By hand have to follow AHEAD of
-/// fuzz/session.h, and the numbers in comments and on the pages.
+/// four. No more than `decoded_ahead`, by `early` of `RefusesPiece`. By hand have to follow AHEAD
+/// of fuzz/session.h, and the numbers in comments and on the pages.
 pub(super) const DECODED_AHEAD: usize = 3072;
 
 /// A piece of at least so many bytes is decoded in place: by `take_in_place`, which doesn't ask for

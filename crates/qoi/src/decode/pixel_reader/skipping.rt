@@ -1,13 +1,10 @@
 //! Rows of an image that are read and not handed out.
-ghost use Rattle.std.specs.Prelude.{◌≡◌, ℕ, ◌+◌, ◌*◌, ◌<◌, ◌≤◌, List, length, min, Option, Some, IsTrue, IfErr, OnOk, OnErr, IsOk, IsErrOf};
-ghost use Rattle.qoi.specs.DecoderState.{DecoderState, output_byte_count};
-ghost use Rattle.qoi.specs.Decoding.{RefusesBytes};
-ghost use Rattle.qoi.specs.Qoi.{Error, channels_number, pixel_count};
-ghost use Rattle.qoi.specs.Reading.{StandsAhead};
+ghost use Rattle.std.specs.Prelude.{◌≡◌, ℕ, ◌+◌, ◌*◌, ◌<◌, ◌≤◌, List, length, Option, IfErr, OnOk, OnErr, IsOk, IsErrOf};
+ghost use Rattle.qoi.specs.DecoderState.{DecoderState};
+ghost use Rattle.qoi.specs.Qoi.{Error};
 ghost use Rattle.qoi.specs.Rectangles.{row_size};
 ghost use Rattle.qoi.specs.pieces.Copying.{rows_size, Gives};
-ghost use Rattle.qoi.specs.pieces.PixelReader.{pixels_left, HasGiven, HasRows, RefusesPixels, IsSpent};
-ghost use Rattle.qoi.specs.pieces.Sizes.{decoded_ahead};
+ghost use Rattle.qoi.specs.pieces.PixelReader.{pixels_left, HasGiven, HasRows, RefusesPiece, IsSpent};
 ghost use Rattle.qoi.specs.pieces.Skipping.{StopsWithin};
 
 use crate::decode::pixel_reader::PixelReader;
@@ -55,21 +52,10 @@ impl<R: Reader> PixelReader<R> {
         ensures refused { (d : DecoderState R) (start : Option (List ℕ)) (given : List ℕ)
             → HasGiven d start (R.ahead self.old.reader) given self.old
             → rows_size self.old rows ≤ pixels_left self.old
-            → IfErr result (RefusesPixels R.in_memory d start (R.ahead self.new.reader)) }
+            → IfErr result (RefusesPiece R.in_memory d start given (rows_size self.old rows)
+            (R.ahead self.new.reader)) }
         ensures within { rows_size self.old rows ≤ pixels_left self.old → OnErr result
             (StopsWithin R.in_memory R.ahead (rows_size self.old rows) self.old self.new) }
-        // In memory, as with `read`: the bytes are refused as an image of n pixels, too, if these go
-        // so far or are all, and an image that stands whole isn't refused.
-        ensures early { (d : DecoderState R) (bytes given : List ℕ) (n : ℕ)
-            → HasGiven d (Some bytes) (R.ahead self.old.reader) given self.old
-            → IsTrue R.in_memory → rows_size self.old rows ≤ pixels_left self.old
-            → n ≤ pixel_count d.header
-            → min (length given + rows_size self.old rows + decoded_ahead) (output_byte_count d)
-            ≤ n * channels_number d.channels → IfErr result (RefusesBytes n bytes) }
-        ensures missing { (d : DecoderState R) (bytes given : List ℕ)
-            → HasGiven d (Some bytes) (R.ahead self.old.reader) given self.old
-            → IsTrue R.in_memory → rows_size self.old rows ≤ pixels_left self.old
-            → OnErr result (StandsAhead d.header bytes → ⊥) }
 
         // What stays: header and channels.
         ensures unchanged { (self.new.header ≡ self.old.header)
@@ -93,17 +79,10 @@ impl<R: Reader> PixelReader<R> {
             → IsErrOf result Error.UnexpectedBufferEnd × (self.new ≡ self.old) }
         ensures refused { (d : DecoderState R) (start : Option (List ℕ)) (given : List ℕ)
             → HasGiven d start (R.ahead self.old.reader) given self.old
-            → IfErr result (RefusesPixels R.in_memory d start (R.ahead self.new.reader)) }
+            → IfErr result (RefusesPiece R.in_memory d start given count
+            (R.ahead self.new.reader)) }
         ensures within { OnErr result
             (StopsWithin R.in_memory R.ahead count self.old self.new) }
-        ensures early { (d : DecoderState R) (bytes given : List ℕ) (n : ℕ)
-            → HasGiven d (Some bytes) (R.ahead self.old.reader) given self.old
-            → IsTrue R.in_memory → n ≤ pixel_count d.header
-            → min (length given + count + decoded_ahead) (output_byte_count d)
-            ≤ n * channels_number d.channels → IfErr result (RefusesBytes n bytes) }
-        ensures missing { (d : DecoderState R) (bytes given : List ℕ)
-            → HasGiven d (Some bytes) (R.ahead self.old.reader) given self.old
-            → IsTrue R.in_memory → OnErr result (StandsAhead d.header bytes → ⊥) }
         ensures unchanged { (self.new.header ≡ self.old.header)
             × (self.new.channels ≡ self.old.channels) }
     {

@@ -4,7 +4,7 @@ use Rattle.std.proofs.lemmas.Grind.{common_steps}
 use Rattle.qoi.specs.pieces.PixelReader.{HasGiven}
 use Rattle.qoi.specs.pieces.PixelWriter.{and_raw}
 use Rattle.qoi.proofs.Copied.{handed_and, breaks_later, given_both, taken_both, taken_none}
-use Rattle.qoi.proofs.decoding.Refusals.{handed_on}
+use Rattle.qoi.proofs.decoding.Refusals.{handed_as, handed_on}
 use Rattle.qoi.proofs.decode.pixel_reader.PixelReader.copy_bytes.Goals as goal
 
 pub loop-rest-init : goal.loop-rest-init
@@ -36,18 +36,54 @@ loop-rest-preserved g c =
       spent = first_of (search rules, grind (arith, common_steps));
     }
 
-pub returns-in_err-check_room-clause-failed : goal.returns-in_err-check_room-clause-failed
-returns-in_err-check_room-clause-failed g c e before f = (handed_and _ _ c.from_residual.ensures.1 (c.in_err-check_room.ensures.spent e before f), refl, refl)
+pub returns-in_err-check_room : goal.returns-in_err-check_room
+returns-in_err-check_room g c =
+    let many = c.in_err-check_room.ensures.many in
+    record {
+      copied = handed_on _ _ _ c.from_residual.ensures.1 tt;
+      none = λ e before t is. absurd (omega (arith, is, (many e before t).1));
+      few = λ less. absurd (omega (arith, less, c.requires.fits));
+      many = λ e before t _ _. (handed_as _ c.from_residual.ensures.1 (many e before t).0, refl, refl);
+      failed = λ e before f _. (handed_and _ _ c.from_residual.ensures.1 (c.in_err-check_room.ensures.spent e before f), refl, refl);
+      spent = λ e before t fits _ _ _. absurd (omega (arith, fits, (many e before t).1));
+      refused = λ d start given e before h t _ fits. absurd (omega (arith, fits, (many e before t).1));
+      unchanged = (refl, refl);
+    }
 
-pub returns-in_err-copy_piece-clause-failed : goal.returns-in_err-copy_piece-clause-failed
-returns-in_err-copy_piece-clause-failed g c e before f = absurd (c.in_ok-check_room.ensures.spent e before f)
-
-pub returns-in_err-copy_piece-clause-refused : goal.returns-in_err-copy_piece-clause-refused
-returns-in_err-copy_piece-clause-refused g c d start given e before h t fits =
+pub returns-in_err-copy_piece : goal.returns-in_err-copy_piece
+returns-in_err-copy_piece g c =
     let i = c.loop-rest.invariant in
-    handed_on _ _ _ c.from_residual-in_err-copy_piece.ensures.1
-    (breaks_later g.R.Reader.in_memory g.R.Reader.ahead g.W.Write.contents d start given e before i.more c.copy_piece.new.self c.copy_piece.new.writer _
-    (c.in_err-copy_piece.ensures.refused d start (given ++ i.more) (and_raw e i.more) before (i.given d start given h) (i.taken e before t)))
+    record {
+      copied = handed_on _ _ _ c.from_residual-in_err-copy_piece.ensures.1 tt;
+      none = λ e before t is. absurd (omega (arith, is, i.count, c.loop-rest-test.true));
+      few = λ less. absurd (omega (arith, less, c.requires.fits));
+      many = λ e before t _ more. absurd (omega (arith, more, c.in_ok-check_room.ensures.room));
+      failed = λ e before f _. absurd (c.in_ok-check_room.ensures.spent e before f);
+      spent = first_of (search rules, grind (arith, common_steps));
+      refused = λ d start given e before h t _ _.
+          handed_on _ _ _ c.from_residual-in_err-copy_piece.ensures.1
+          (breaks_later g.R.Reader.in_memory g.R.Reader.ahead g.W.Write.contents d start given e before i.more c.copy_piece.new.self c.copy_piece.new.writer _
+          (c.in_err-copy_piece.ensures.refused d start (given ++ i.more) (and_raw e i.more) before (i.given d start given h) (i.taken e before t)));
+      unchanged = first_of (search rules, grind (arith, common_steps));
+    }
 
-pub returns-clause-failed : goal.returns-clause-failed
-returns-clause-failed g c e before f = absurd (c.in_ok-check_room.ensures.spent e before f)
+pub returns : goal.returns
+returns g c =
+    let i = c.loop-rest.invariant in
+    record {
+      copied = record {
+        more = i.more;
+        size = omega (arith, i.count, c.loop-rest-test.false);
+        given = i.given;
+        taken = i.taken;
+        left = omega (arith, i.left, c.loop-rest-test.false);
+        room = omega (arith, i.room, c.loop-rest-test.false);
+      };
+      none = λ e before t is. (refl, (i.none is).0, (i.none is).1);
+      few = λ less. absurd (omega (arith, less, c.requires.fits));
+      many = λ e before t _ more. absurd (omega (arith, more, c.in_ok-check_room.ensures.room));
+      failed = λ e before f _. absurd (c.in_ok-check_room.ensures.spent e before f);
+      spent = λ e before t _ some _ was. absurd (omega (arith, some, (i.spent was).2, c.loop-rest-test.false));
+      refused = λ _ _ _ _ _ _ _ _ _. tt;
+      unchanged = i.same;
+    }

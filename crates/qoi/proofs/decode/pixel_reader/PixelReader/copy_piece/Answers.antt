@@ -13,10 +13,8 @@ returns-in_err-read-clause-refused g c d start given e before h t =
     handed_on _ _ _ c.from_residual.ensures.1 (
       [],
       inl (
-        stops_at g.R.Reader.in_memory g.R.Reader.ahead d start given c.args.self.now c.read.new.self _ h (c.in_err-read.ensures.refused d start given h)
-            c.in_err-read.ensures.spent c.in_err-read.ensures.kept
-            (λ held bytes n is fits enough. c.in_err-read.ensures.early d bytes given n (subst (λ s. HasGiven d s (g.R.Reader.ahead c.args.self.now.reader) given c.args.self.now) is h) held fits
-            (omega (arith, enough, c.requires.short))),
+        stops_at g.R.Reader.in_memory g.R.Reader.ahead d start given c.args.self.now c.read.new.self _ _ c.requires.short h
+            (c.in_err-read.ensures.refused d start given h) c.in_err-read.ensures.stops,
         taken_none g.W.Write.contents e before c.args.writer.now t,
       ),
     )
@@ -27,7 +25,7 @@ returns-clause-refused g c d start given e before h t =
     let piece = c.read.new.buf in
     let size = c.in_ok-read.field-0 in
     let read = subst (λ x. HasGiven d start (g.R.Reader.ahead c.read.new.self.reader) (given ++ x) c.read.new.self)
-    (take_all size piece (omega (arith, c.in_ok-read.ensures.size, c.requires.fits, c.read.auto.buf)))
+    (take_all size piece (omega (arith, c.in_ok-read.ensures.size.size, c.requires.fits, c.read.auto.buf)))
     (c.in_ok-read.ensures.read d start given h) in
     MatchResult-weaker c.write.result (refusal_and _ _ c.write.result (c.write.ensures.refused e before t) c.write.ensures.left_stays) (λ _ _. tt)
     (λ error (why, left). elim why [

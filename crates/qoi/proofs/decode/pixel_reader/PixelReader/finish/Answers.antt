@@ -23,7 +23,7 @@ refused : (g : Over) (c : After-from_residual g) (d : DecoderState _) (start : O
     → (last : Option (List ℕ)) × HasRefused g.R.Reader.in_memory d start last c.in_err-read.field-0.0
 refused g c d start given h =
     let (rest, before) = c.loop-buf.invariant.read d start given h in
-    by_decoder g.R.Reader.in_memory d start _ _ (c.in_err-read.ensures.refused d start (given ++ rest) before)
+    by_decoder g.R.Reader.in_memory d start _ _ (c.in_err-read.ensures.refused d start (given ++ rest) before).why
 
 pub returns-in_err-read-clause-why : goal.returns-in_err-read-clause-why
 returns-in_err-read-clause-why g c d start given h held =

@@ -23,10 +23,16 @@ fault_is Why (Some f) e is why = subst Why (sym is) why
 fault_is Why None e is why = absurd why
 
 -- an image that stands whole in memory isn't refused
-stays_whole : {R : Type 0} (in_memory : Bool) (d : DecoderState R) (bytes : List ℕ) (new : Option (List ℕ)) (e : Error) → RefusesPixels in_memory d (Some bytes) new e
-    → IsTrue in_memory → StandsAhead d.header bytes → ⊥
-stays_whole true d bytes new e refused held = refused.fault
-stays_whole false d bytes new e refused held = absurd (cc)
+stays_whole : {R : Type 0} (in_memory : Bool) (d : DecoderState R) (start new : Option (List ℕ)) (e : Error) → RefusesPixels in_memory d start new e
+    → IsTrue in_memory → (bytes : List ℕ) → start ≡ Some bytes → StandsAhead d.header bytes → ⊥
+stays_whole true d start new e refused held bytes is = rw is at refused.fault
+stays_whole false d start new e refused held bytes is = absurd (cc)
+
+-- bytes in memory say why
+in_bytes : (in_memory : Bool) (n : ℕ) (start new : Option (List ℕ)) (e : Error) → RefusesChunks in_memory n start new e → IsTrue in_memory
+    → (bytes : List ℕ) → start ≡ Some bytes → RefusesBytes n bytes e
+in_bytes true n start new e why held bytes is = rw is at why
+in_bytes false n start new e why held bytes is = absurd (cc)
 
 pub returns-in-Ok-clause-read : goal.returns-in-Ok-clause-read
 unfolding HasGiven
@@ -118,30 +124,11 @@ refused_as g c d start given h all enough =
 
 pub returns-in-Err-clause-refused : goal.returns-in-Err-clause-refused
 returns-in-Err-clause-refused g c d start given h =
-    refuses_pixels g.R.Reader.in_memory d start _ c.take_fault.result
-    (refused_as g (goal.at.returns-in-Err-clause-refused g c).After-take_fault d start given h (pixel_count d.header) (omega arith, omega arith))
-
--- in memory the bytes say why
-in_bytes : (in_memory : Bool) (n : ℕ) (bytes : List ℕ) (new : Option (List ℕ)) (e : Error) → RefusesChunks in_memory n (Some bytes) new e → IsTrue in_memory
-    → RefusesBytes n bytes e
-in_bytes true n bytes new e why held = why
-in_bytes false n bytes new e why held = absurd (cc)
-
-pub returns-in-Err-clause-early : goal.returns-in-Err-clause-early
-returns-in-Err-clause-early g c d bytes given n h held fits enough =
-    let size : length c.next_piece.new.out ≤ length c.args.buf.now =
-    omega (arith, c.next_piece.auto.out, length-take c.min-size.result c.args.buf.now) in
-    in_bytes g.R.Reader.in_memory n bytes _ c.take_fault.result
-    (refused_as g (goal.at.returns-in-Err-clause-early g c).After-take_fault d (Some bytes) given h n (fits, omega (arith, enough, size))) held
-
-pub returns-then-self-clause-early : goal.returns-then-self-clause-early
-unfolding HasGiven
-returns-then-self-clause-early g c d bytes given n h held fits enough = let going = ap (λ s. s.refused) c.self.view_is ∙ h.going in absurd (cc)
-
-pub returns-in-Err-clause-missing : goal.returns-in-Err-clause-missing
-returns-in-Err-clause-missing g c d bytes given h held =
-    stays_whole g.R.Reader.in_memory d bytes _ c.take_fault.result (returns-in-Err-clause-refused g c d (Some bytes) given h) held
-
-pub returns-then-self-clause-missing : goal.returns-then-self-clause-missing
-unfolding HasGiven
-returns-then-self-clause-missing g c d bytes given h held whole = let going = ap (λ s. s.refused) c.self.view_is ∙ h.going in absurd (cc)
+    let refused = refused_as g (goal.at.returns-in-Err-clause-refused g c).After-take_fault d start given h in
+    let why = refuses_pixels g.R.Reader.in_memory d start _ c.take_fault.result (refused (pixel_count d.header) (omega arith, omega arith)) in
+    let size : length c.next_piece.new.out ≤ length c.args.buf.now = omega (arith, c.next_piece.auto.out, length-take c.min-size.result c.args.buf.now) in
+    record {
+      why = why;
+      early = λ held bytes k is fits enough. in_bytes g.R.Reader.in_memory k start _ c.take_fault.result (refused k (fits, omega (arith, enough, size))) held bytes is;
+      missing = stays_whole g.R.Reader.in_memory d start _ c.take_fault.result why;
+    }
