@@ -11,7 +11,7 @@ use Rattle.qoi.specs.Rectangles.{rectangle, row_size}
 use Rattle.qoi.specs.Decoded.{HasDecoded}
 use Rattle.qoi.specs.DecoderState.{DecoderState}
 use Rattle.qoi.specs.EncoderState.{EncoderState}
-use Rattle.qoi.specs.pieces.PixelReader.{PixelsState, pixels_left, HasGiven, HasRows, RefusesPiece, StopsAt}
+use Rattle.qoi.specs.pieces.PixelReader.{PixelsState, unread_bytes, HasGiven, HasRows, RefusesPiece, StopsAt}
 use Rattle.qoi.specs.pieces.PixelWriter.{WriterState, and_raw, HasTaken, HasFailed}
 use Rattle.qoi.specs.pieces.Sizes.{copied_at_once}
 use Rattle.qoi.specs.pieces.Copying.{rows_size, StopsBehind, FailsBehind, BreaksCopy, BreaksRaw, BreaksInput}
@@ -124,13 +124,13 @@ handed_and P r on is =
 
 -- once all was read, the image was decoded
 pub decoded_all : {R : Type 0} (d : DecoderState R) (start now : Option (List ℕ)) (given : List ℕ) (p : PixelsState R) → HasGiven d start now given p
-    → pixels_left p ≡ 0 → HasDecoded d start now given
+    → unread_bytes p ≡ 0 → HasDecoded d start now given
 unfolding HasGiven
 decoded_all d start now given p h none = h.whole none
 
 -- and what came last is the rest of the image
 pub rest_is : {R : Type 0} (d : DecoderState R) (start now : Option (List ℕ)) (bytes given rest more : List ℕ) (p : PixelsState R) → HasGiven d start now (given ++ rest) p
-    → pixels_left p ≡ 0 → start ≡ Some bytes → given ++ more ≡ front_image d.channels d.header bytes → rest ≡ more
+    → unread_bytes p ≡ 0 → start ≡ Some bytes → given ++ more ≡ front_image d.channels d.header bytes → rest ≡ more
 unfolding HasGiven
 rest_is d start now bytes given rest more p h none is image =
     let whole = rw is at (h.whole none).image in

@@ -7,8 +7,8 @@ ghost use Rattle.qoi.specs.Images.{front_image};
 ghost use Rattle.qoi.specs.Qoi.{Error, pixels_max};
 ghost use Rattle.qoi.specs.Rectangles.{rectangle, row_size};
 ghost use Rattle.qoi.specs.pieces.Copying.{rows_size, Gives, Takes, BreaksCopy, Copies};
-ghost use Rattle.qoi.specs.pieces.PixelReader.{pixels_left, HasGiven, HasRows, IsSpent};
-ghost use Rattle.qoi.specs.pieces.PixelWriter.{raw_left, HasTaken};
+ghost use Rattle.qoi.specs.pieces.PixelReader.{unread_bytes, HasGiven, HasRows, IsSpent};
+ghost use Rattle.qoi.specs.pieces.PixelWriter.{missing_bytes, HasTaken};
 ghost use Rattle.qoi.specs.pieces.Sizes.{copied_at_once};
 
 mod raw;
@@ -45,7 +45,7 @@ impl<R: Reader> PixelReader<R> {
     /// ```
     pub fn copy_to<W: Write + Drop>(&mut self, writer: &mut PixelWriter<W>) -> Result<()>
         // All that is left goes to the writer, or it is refused.
-        ensures copies { Copies R.in_memory R.ahead W.contents (pixels_left self.old) self.old
+        ensures copies { Copies R.in_memory R.ahead W.contents (unread_bytes self.old) self.old
             self.new writer.old writer.new result }
         // A success: what was read before and the bytes that were copied, `more`, are the image.
         ensures rest { (d : DecoderState R) (start : Option (List ℕ)) (bytes given more : List ℕ)
@@ -104,7 +104,7 @@ impl<R: Reader> PixelReader<R> {
         writer: &mut PixelWriter<W>,
         count: usize,
     ) -> Result<()>
-        requires fits { count ≤ pixels_left self.old }
+        requires fits { count ≤ unread_bytes self.old }
         requires few { count ≤ 4 * pixels_max }
         ensures { Copies R.in_memory R.ahead W.contents count self.old self.new writer.old
             writer.new result }
@@ -126,14 +126,15 @@ impl<R: Reader> PixelReader<R> {
         writer: &mut PixelWriter<W>,
         piece: &mut [u8],
     ) -> Result<()>
-        requires fits { length piece.old ≤ pixels_left self.old }
+        requires fits { length piece.old ≤ unread_bytes self.old }
         requires short { length piece.old ≤ copied_at_once }
-        requires room { length piece.old ≤ raw_left writer.old }
+        requires room { length piece.old ≤ missing_bytes writer.old }
         ensures given { OnOk result (Gives R.ahead piece.new self.old self.new) }
         ensures taken { OnOk result (Takes W.contents piece.new writer.old writer.new) }
         ensures left { OnOk result
-            (pixels_left self.new + length piece.old ≡ pixels_left self.old) }
-        ensures room { OnOk result (raw_left writer.new + length piece.old ≡ raw_left writer.old) }
+            (unread_bytes self.new + length piece.old ≡ unread_bytes self.old) }
+        ensures room { OnOk result
+            (missing_bytes writer.new + length piece.old ≡ missing_bytes writer.old) }
         ensures spent { IsSpent self.old → 0 < length piece.old
             → IsErrOf result Error.UnexpectedBufferEnd
             × (self.new ≡ self.old) × (writer.new ≡ writer.old) }

@@ -20,7 +20,7 @@ use Rattle.std.proofs.Math.Nat.{mul_comm, mul-add}
 use Rattle.std.proofs.KnownBytes.{Keeps-refl}
 use Rattle.qoi.specs.declared.types.Channels.TheVariants.{Rgb, Rgba}
 use Rattle.qoi.specs.Decoding.{ReadsImage}
-use Rattle.qoi.specs.pieces.PixelReader.{PixelsState, pixels_left, HasGiven, HasRows, RefusesPixels}
+use Rattle.qoi.specs.pieces.PixelReader.{PixelsState, unread_bytes, HasGiven, HasRows, RefusesPixels}
 use Rattle.qoi.specs.Rectangles.{rectangle}
 use Rattle.qoi.specs.inner.Chunks.{RefusesChunks}
 use Rattle.qoi.proofs.format.RectangleLaws.{whole_rows}
@@ -91,7 +91,7 @@ byte_bounds h Rgba valid = (omega (arith, valid), omega (arith, valid))
 pub has_given : {R : Type 0} (d : DecoderState R) (start now : Option (List ℕ)) (given : List ℕ) (p : PixelsState R)
     → IsUnread (channels_number d.header.channels) (channels_number d.channels) (pixel_count d.header) start now given p.unread
     → KeepsPixels (channels_number d.channels) p.unread → p.header ≡ d.header → p.channels ≡ d.channels → p.refused ≡ false → 3 ≤ output_byte_count d → HasGiven d start now given p
-unfolding pixels_left HasGiven
+unfolding unread_bytes HasGiven
 has_given d start now given p h pixels same chosen going some =
     let n = pixel_count d.header in
     let k = channels_number d.channels in

@@ -4,7 +4,7 @@ use Rattle.std.proofs.lemmas.List.{length-reverse, drop_at, drop-drop, drop-appe
 use Rattle.qoi.specs.Qoi.{Error, Header, Channels, RgbaPixel, previous, channels_number, pixel_count, header_of, header_size, chunk_bytes, then_chunks}
 use Rattle.qoi.specs.Raw.{IsChannels, output}
 use Rattle.qoi.specs.inner.Hashed.{pixel_of_lanes, HoldsSeen}
-use Rattle.qoi.specs.pieces.PixelReader.{PixelsState, pixels_left, HasGiven}
+use Rattle.qoi.specs.pieces.PixelReader.{PixelsState, unread_bytes, HasGiven}
 use Rattle.qoi.specs.pieces.Unread.{kept_raw, IsUnread}
 use Rattle.qoi.specs.inner.Filling.{DecoderAfter}
 use Rattle.qoi.specs.pieces.RowIndex.{PointState, StandsAt, ReadsFile, IsPointOf, GoesOnAt, file_decoder}
@@ -124,8 +124,8 @@ stands_then n file more m long p = record {
 }
 
 -- what is left at a point, in bytes
-left_at : (channels : Channels) (h : Header) (rest : List ℕ) (m : PointState) (q : PixelsState (List ℕ)) → GoesOnAt channels h rest m q → pixels_left q ≡ m.left * channels_number channels
-unfolding pixels_left
+left_at : (channels : Channels) (h : Header) (rest : List ℕ) (m : PointState) (q : PixelsState (List ℕ)) → GoesOnAt channels h rest m q → unread_bytes q ≡ m.left * channels_number channels
+unfolding unread_bytes
 left_at channels h rest m q s = omega (arith, s.none, s.left)
 
 -- the same of a reader that may be refused
@@ -135,6 +135,6 @@ goes_on_in_file channels h file m (Ok q) s is p = point_resumes channels h file 
 goes_on_in_file channels h file m (Err e) s is p = tt
 
 pub goes_on_left : (channels : Channels) (h : Header) (rest : List ℕ) (m : PointState) (r : Result (PixelsState (List ℕ)) Error) → IfOk r (GoesOnAt channels h rest m)
-    → IfOk r (λ p. pixels_left p ≡ m.left * channels_number channels)
+    → IfOk r (λ p. unread_bytes p ≡ m.left * channels_number channels)
 goes_on_left channels h rest m (Ok q) s = left_at channels h rest m q s
 goes_on_left channels h rest m (Err e) s = tt

@@ -10,7 +10,7 @@ use Rattle.qoi.specs.Reading.{IsImage, StandsAhead}
 use Rattle.qoi.specs.Raw.{IsChannels, output}
 use Rattle.qoi.specs.Images.{file_image, front_image, behind_header}
 use Rattle.qoi.specs.pieces.Copying.{Gives}
-use Rattle.qoi.specs.pieces.PixelReader.{PixelsState, pixels_left, HasGiven, HasRows, RefusesPiece}
+use Rattle.qoi.specs.pieces.PixelReader.{PixelsState, unread_bytes, HasGiven, HasRows, RefusesPiece}
 use Rattle.qoi.specs.pieces.Sizes.{decoded_ahead}
 use Rattle.qoi.specs.pieces.Unread.{kept_count}
 use Rattle.qoi.specs.pieces.RowIndex.{file_decoder, row_size, PointState, undecoded_pixels, points_count, StandsAt, ArePoints, IsPointAt, IsPointOf, HasPoints, ReadsFile, IsRowIndex, IsNearest, IsFileDecoder}
@@ -42,9 +42,9 @@ reads_start h d file p made is g =
 
 -- nothing of the image was read
 pub first_left : (d : DecoderState (List ℕ)) (p : PixelsState (List ℕ)) → HasGiven d (Some d.reader) (Some p.reader) [] p
-    → pixels_left p ≡ pixel_count d.header * channels_number d.channels
+    → unread_bytes p ≡ pixel_count d.header * channels_number d.channels
 unfolding HasGiven
-first_left d p g = sym (zero-add (pixels_left p)) ∙ g.left
+first_left d p g = sym (zero-add (unread_bytes p)) ∙ g.left
 
 -- more was read
 pub reads_more : {T : Type 0} (channels : Channels) (h : Header) (file : List ℕ) (n : ℕ) (p q : PixelsState (List ℕ)) (r : Result T Error)
@@ -80,7 +80,7 @@ unfolding ReadsFile HasGiven
 still_going channels h file p (is, given, r) = r.going
 
 -- an image whose bytes are all read stands whole
-pub stands_whole : (channels : Channels) (h : Header) (file : List ℕ) (p : PixelsState (List ℕ)) → ReadsFile channels h file p → pixels_left p ≡ 0 → StandsAhead h (drop header_size file)
+pub stands_whole : (channels : Channels) (h : Header) (file : List ℕ) (p : PixelsState (List ℕ)) → ReadsFile channels h file p → unread_bytes p ≡ 0 → StandsAhead h (drop header_size file)
 unfolding ReadsFile HasGiven StandsAhead
 stands_whole channels h file p (is, given, r) none =
     let (rest, left, image) = (r.whole none).rest (drop header_size file) refl in
@@ -149,15 +149,15 @@ rows_before : (w r k c n left : ℕ) → left ≡ w * r * c → n + left ≡ w *
 rows_before w r k c n left behind all = omega (arith, behind, all)
 
 pub at_row : (channels : Channels) (h : Header) (file : List ℕ) (k : ℕ) (p : PixelsState (List ℕ)) → ReadsFile channels h file p → k ≤ h.height
-    → pixels_left p ≡ h.width * (h.height - k) * channels_number channels
+    → unread_bytes p ≡ h.width * (h.height - k) * channels_number channels
     → HasRows (file_decoder channels h file) (Some (drop header_size file)) (Some p.reader) (row_size channels h) k p
 unfolding ReadsFile HasRows HasGiven
 at_row channels h file k p (is, given, r) within left =
     let c = channels_number channels in
     let rest = h.height - k in
     let split : rest + k ≡ h.height = omega (arith, within) in
-    let all : length given + pixels_left p ≡ h.width * (rest + k) * c = r.left ∙ sym (ap (λ z. h.width * z * c) split) in
-    (given, rows_before h.width rest k c (length given) (pixels_left p) left all, r)
+    let all : length given + unread_bytes p ≡ h.width * (rest + k) * c = r.left ∙ sym (ap (λ z. h.width * z * c) split) in
+    (given, rows_before h.width rest k c (length given) (unread_bytes p) left all, r)
 
 -- the image of an index has as many rows as its header says
 pub image_size : (h : Header) (file : List ℕ) (points : List PointState) → header_of file ≡ Ok h → IsRowIndex file points → length (file_image file) ≡ row_size h.channels h * h.height
@@ -183,7 +183,7 @@ point_found h file points view i m same is index within found =
     subst (StandsAt (pixel_count h) file) (sym found) (subst (λ (z : Header). StandsAt (pixel_count z) file (slice_index_or points i m)) header (own.are i m within))
 
 -- of all pixels no fewer are unread than of some
-pub enough_left : (a n c : ℕ) (r : Result (PixelsState (List ℕ)) Error) → a ≤ n → IfOk r (λ p. pixels_left p ≡ n * c) → IfOk r (λ p. a * c ≤ pixels_left p)
+pub enough_left : (a n c : ℕ) (r : Result (PixelsState (List ℕ)) Error) → a ≤ n → IfOk r (λ p. unread_bytes p ≡ n * c) → IfOk r (λ p. a * c ≤ unread_bytes p)
 enough_left a n c (Ok p) few all = omega (arith, all, mul-le a c n c few (omega arith))
 enough_left a n c (Err e) few all = tt
 
@@ -237,8 +237,8 @@ fewer_pixels c w r left kept bytes is all split =
 
 -- the point that is noted where a row starts is that row's
 pub point_at : (h : Header) (file : List ℕ) (row : ℕ) (p : PixelsState (List ℕ)) (m : PointState) → IsPointOf file row p m → ReadsFile h.channels h file p
-    → pixels_left p ≡ row_size h.channels h * (h.height - row) → IsPointAt h row m
-unfolding ReadsFile HasGiven pixels_left
+    → unread_bytes p ≡ row_size h.channels h * (h.height - row) → IsPointAt h row m
+unfolding ReadsFile HasGiven unread_bytes
 point_at h file row p m s (is, given, r) here =
     let c = channels_number h.channels in
     let is_c = channels_are h.channels c refl in
@@ -248,7 +248,7 @@ point_at h file row p m s (is, given, r) here =
     whole_pixels c p.unread.undecoded is_c whole ∙ ap (λ k. c * k) (ap (λ k. p.unread.undecoded / k) (sym own) ∙ sym s.left) in
     record {
       row_is = s.row_is;
-      below = fewer_pixels c h.width (h.height - row) m.left (kept_count p.unread) (pixels_left p) is_c here (omega (arith, some));
+      below = fewer_pixels c h.width (h.height - row) m.left (kept_count p.unread) (unread_bytes p) is_c here (omega (arith, some));
       near = omega (arith, some, here, s.few);
     }
 
@@ -288,7 +288,7 @@ point_above h every first k points m valid has within serves =
 pub nearest_found : (channels : Channels) (h : Header) (file : List ℕ) (points : List PointState) (first i : ℕ) (m : PointState) (r : Result (PixelsState (List ℕ)) Error)
     → header_of file ≡ Ok h → IsValid h → IsRowIndex file points → i < length points → m ≡ slice_index_or points i m
     → ((k : ℕ) (d : PointState) → i < k → k < length points → PointState.row (slice_index_or points k d) ≤ first → undecoded_pixels (slice_index_or points k d) < h.width * (h.height - first))
-    → IfOk r (λ p. pixels_left p ≡ undecoded_pixels m * channels_number channels) → IfOk r (IsNearest channels h first points)
+    → IfOk r (λ p. unread_bytes p ≡ undecoded_pixels m * channels_number channels) → IfOk r (IsNearest channels h first points)
 nearest_found channels h file points first i m (Err e) is valid index within found tried left = tt
 nearest_found channels h file points first i m (Ok p) is valid index within found tried left = λ k d below serves.
     let (every, has) = index_rows h file points is index in
@@ -303,7 +303,7 @@ nearest_found channels h file points first i m (Ok p) is valid index within foun
           mul-le h.width (h.height - every * (i + 1)) h.width (h.height - every * (k + 1)) (omega arith) (omega (arith, above)) in
           let bytes : m.left * c ≤ h.width * (h.height - every * (k + 1)) * c =
           mul-le m.left c (h.width * (h.height - every * (k + 1))) c (omega (arith, at.below, rows)) (omega arith) in
-          subst (λ z. pixels_left p ≤ row_size channels h * (h.height - z)) (sym here.row_is) (omega (arith, left, bytes))
+          subst (λ z. unread_bytes p ≤ row_size channels h * (h.height - z)) (sym here.row_is) (omega (arith, left, bytes))
     ]
 
 -- if no point serves, none does above which the reader stands

@@ -8,8 +8,8 @@ use Rattle.qoi.specs.Writers.{AppendsBeginning}
 use Rattle.qoi.specs.Decoding.{RefusesBytes}
 use Rattle.qoi.specs.DecoderState.{DecoderState, output_byte_count}
 use Rattle.qoi.specs.EncoderState.{EncoderState}
-use Rattle.qoi.specs.pieces.PixelReader.{PixelsState, pixels_left, HasGiven, RefusesPixels, IsSpent}
-use Rattle.qoi.specs.pieces.PixelWriter.{WriterState, raw_left, and_raw, HasTaken, HasFailed}
+use Rattle.qoi.specs.pieces.PixelReader.{PixelsState, unread_bytes, HasGiven, RefusesPixels, IsSpent}
+use Rattle.qoi.specs.pieces.PixelWriter.{WriterState, missing_bytes, and_raw, HasTaken, HasFailed}
 use Rattle.qoi.specs.pieces.Sizes.{copied_at_once, decoded_ahead}
 
 -- how many raw bytes so many rows of the reader's image have
@@ -34,7 +34,7 @@ pub record StopsBehind {R : Type 0} (in_memory : Bool) (ahead : R → Option (Li
   -- and as it stands behind that call
   pub why : RefusesPixels in_memory d start (ahead p.reader) error
   pub spent : IsSpent p
-  pub left : pixels_left p ≡ pixels_left was
+  pub left : unread_bytes p ≡ unread_bytes was
   pub kept : IsTrue in_memory → Keeps (ahead was.reader) (ahead p.reader)
   -- In memory no more counts than one more piece and what may be decoded ahead of it: the bytes are
   -- refused as an image of n pixels, too, if these go so far or are all.
@@ -51,7 +51,7 @@ pub record FailsBehind {R : Type 0} (ahead : R → Option (List ℕ)) (d : Decod
   -- and as it stands at the end
   pub reader : p.reader ≡ was.reader
   pub spent : IsSpent p
-  pub left : pixels_left p ≡ pixels_left was + length piece
+  pub left : unread_bytes p ≡ unread_bytes was + length piece
   pub short : length piece ≤ copied_at_once
 
 -- A copy to a pixel writer broke off: the image was refused, behind bytes that the writer took, or the
@@ -82,8 +82,8 @@ pub record Copied {R W : Type 0} (ahead : R → Option (List ℕ)) (contents : W
   pub size : length more ≡ n
   pub given : Gives ahead more p q
   pub taken : Takes contents more w v
-  pub left : pixels_left q + n ≡ pixels_left p
-  pub room : raw_left v + n ≡ raw_left w
+  pub left : unread_bytes q + n ≡ unread_bytes p
+  pub room : missing_bytes v + n ≡ missing_bytes w
 
 -- A call was to copy n raw bytes from a reader to a writer: p and w before, q and v after.
 pub record Copies {R W T : Type 0} (in_memory : Bool) (ahead : R → Option (List ℕ)) (contents : W → Option (List ℕ)) (n : ℕ) (p q : PixelsState R) (w v : WriterState W) (result : Result T Error) : Type 0 where
@@ -92,15 +92,15 @@ pub record Copies {R W T : Type 0} (in_memory : Bool) (ahead : R → Option (Lis
   pub none : (e : EncoderState) (before : Option (List ℕ)) → HasTaken contents e before w → n ≡ 0 → IsOk result × (q ≡ p) × (v ≡ w)
   -- the refusals that leave both as they were: fewer are left, the writer takes fewer or failed before, and the image
   -- was refused before
-  pub few : pixels_left p < n → IsErrOf result UnexpectedBufferEnd × (q ≡ p) × (v ≡ w)
-  pub many : (e : EncoderState) (before : Option (List ℕ)) → HasTaken contents e before w → n ≤ pixels_left p → raw_left w < n
+  pub few : unread_bytes p < n → IsErrOf result UnexpectedBufferEnd × (q ≡ p) × (v ≡ w)
+  pub many : (e : EncoderState) (before : Option (List ℕ)) → HasTaken contents e before w → n ≤ unread_bytes p → missing_bytes w < n
       → IsErrOf result (InvalidImageLength (length e.raw + n) e.header.width e.header.height) × (q ≡ p) × (v ≡ w)
-  pub failed : (e : EncoderState) (before : Option (List ℕ)) → HasFailed contents e before w → n ≤ pixels_left p → IsErrAnd result IsIoError × (q ≡ p) × (v ≡ w)
-  pub spent : (e : EncoderState) (before : Option (List ℕ)) → HasTaken contents e before w → n ≤ raw_left w → 0 < n → n ≤ pixels_left p → IsSpent p
+  pub failed : (e : EncoderState) (before : Option (List ℕ)) → HasFailed contents e before w → n ≤ unread_bytes p → IsErrAnd result IsIoError × (q ≡ p) × (v ≡ w)
+  pub spent : (e : EncoderState) (before : Option (List ℕ)) → HasTaken contents e before w → n ≤ missing_bytes w → 0 < n → n ≤ unread_bytes p → IsSpent p
       → IsErrOf result UnexpectedBufferEnd × (q ≡ p) × (v ≡ w)
   -- the others: the image is refused, or the writer fails
   pub refused : (d : DecoderState R) (start : Option (List ℕ)) (given : List ℕ) (e : EncoderState) (before : Option (List ℕ)) → HasGiven d start (ahead p.reader) given p
-      → HasTaken contents e before w → n ≤ pixels_left p → n ≤ raw_left w → IfErr result (BreaksCopy in_memory ahead contents d start given e before q v)
+      → HasTaken contents e before w → n ≤ unread_bytes p → n ≤ missing_bytes w → IfErr result (BreaksCopy in_memory ahead contents d start given e before q v)
   -- what stays
   pub unchanged : (q.header ≡ p.header) × (q.channels ≡ p.channels)
 
@@ -110,7 +110,7 @@ pub record CopiedRaw {R : Type 0} (ahead : R → Option (List ℕ)) (n : ℕ) (p
   pub size : length more ≡ n
   pub given : Gives ahead more p q
   pub written : Appends old new more
-  pub left : pixels_left q + n ≡ pixels_left p
+  pub left : unread_bytes q + n ≡ unread_bytes p
 
 -- A call was to copy n raw bytes, no more than are left, from a reader to any writer: p and w before, q and v after.
 pub record CopiesRaw {R W T : Type 0} (in_memory : Bool) (ahead : R → Option (List ℕ)) (contents : W → Option (List ℕ)) (n : ℕ) (p q : PixelsState R) (w v : W) (result : Result T Error) : Type 0 where

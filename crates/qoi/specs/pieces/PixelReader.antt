@@ -24,8 +24,12 @@ abbrev pub as_decoder : {R : Type 0} → PixelsState R → DecoderState R
 as_decoder p = record { reader = p.reader; header = p.header; channels = p.channels }
 
 -- how many bytes of the image are unread
-unfoldable pub pixels_left : {R : Type 0} → PixelsState R → ℕ
-pixels_left p = bytes_left p.unread
+unfoldable pub unread_bytes : {R : Type 0} → PixelsState R → ℕ
+unread_bytes p = bytes_left p.unread
+
+-- an older name
+abbrev pub pixels_left : {R : Type 0} → PixelsState R → ℕ
+pixels_left p = unread_bytes p
 
 -- The decoder d decodes an image from `start`. The raw bytes `given` were read of it so far, and `now`
 -- is ahead.
@@ -38,13 +42,13 @@ pub record GivesSoFar {R : Type 0} (d : DecoderState R) (start now : Option (Lis
   pub header : p.header ≡ d.header
   pub channels : p.channels ≡ d.channels
   -- the image has as many bytes as were read and are left
-  pub left : length given + pixels_left p ≡ output_byte_count d
+  pub left : length given + unread_bytes p ≡ output_byte_count d
   -- the bytes that were read are the first ones of the image ahead
   pub front : IfSome start (λ bytes. given ≡ take (length given) (front_image d.channels d.header bytes))
   -- for n pixels at most 5n + 8 bytes were taken
   pub within : TakesAtMost (chunk_max * pixel_count d.header + marker_size) start now
   -- if none are left, the decoder's image was decoded, and they are its bytes
-  pub whole : pixels_left p ≡ 0 → HasDecoded d start now given
+  pub whole : unread_bytes p ≡ 0 → HasDecoded d start now given
 
 -- The same. It is no abbreviation, so that the prover passes it on whole; nor is HasRows.
 unfoldable pub HasGiven : {R : Type 0} → DecoderState R → Option (List ℕ) → Option (List ℕ) → List ℕ → PixelsState R → Type 0
@@ -56,7 +60,7 @@ HasRows d start now stride k p = (given : List ℕ) × (length given ≡ stride 
 
 -- The image was refused, and some of it is left.
 abbrev pub IsSpent : {R : Type 0} → PixelsState R → Type 0
-IsSpent p = (p.refused ≡ true) × (0 < pixels_left p)
+IsSpent p = (p.refused ≡ true) × (0 < unread_bytes p)
 
 -- The decoder's image, which began at `start`, was refused with the error e. Of a stream `new` is ahead; of a
 -- slice `new` isn't used.
@@ -66,8 +70,8 @@ RefusesPixels false d start new e = HasRefused false d start new e
 
 -- So many raw bytes of the image were read: n, or as many as were left. The reader was p, and is q.
 pub record ReadsUpTo {R : Type 0} (n : ℕ) (p q : PixelsState R) (count : ℕ) : Type 0 where
-  pub size : count ≡ min n (pixels_left p)
-  pub left : pixels_left q + count ≡ pixels_left p
+  pub size : count ≡ min n (unread_bytes p)
+  pub left : unread_bytes q + count ≡ unread_bytes p
 
 -- Behind the raw bytes `given` n more were to be read, and the image was refused with the error e.
 pub record RefusesPiece {R : Type 0} (in_memory : Bool) (d : DecoderState R) (start : Option (List ℕ)) (given : List ℕ) (n : ℕ) (new : Option (List ℕ)) (e : Error) : Type 0 where
@@ -83,6 +87,6 @@ pub record RefusesPiece {R : Type 0} (in_memory : Bool) (d : DecoderState R) (st
 pub record StopsAt {R : Type 0} (in_memory : Bool) (ahead : R → Option (List ℕ)) (p q : PixelsState R) : Type 0 where
   pub spent : IsSpent q
   -- as much is left as before
-  pub left : pixels_left q ≡ pixels_left p
+  pub left : unread_bytes q ≡ unread_bytes p
   -- bytes in memory stay
   pub kept : IsTrue in_memory → Keeps (ahead p.reader) (ahead q.reader)

@@ -22,8 +22,12 @@ pub record WriterState (W : Type 0) : Type 0 where
   pub pending : ImageState
 
 -- how many raw bytes of the image haven't come yet
+abbrev pub missing_bytes : {W : Type 0} → WriterState W → ℕ
+missing_bytes p = p.left
+
+-- an older name
 abbrev pub raw_left : {W : Type 0} → WriterState W → ℕ
-raw_left p = p.left
+raw_left p = missing_bytes p
 
 -- the same with these raw bytes more
 abbrev pub and_raw : EncoderState → List ℕ → EncoderState

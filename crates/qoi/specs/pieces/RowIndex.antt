@@ -7,7 +7,7 @@ use Rattle.qoi.specs.inner.Hashed.{pixel_of_lanes, HoldsSeen}
 use Rattle.qoi.specs.inner.Table.{Holds}
 use Rattle.qoi.specs.DecoderState.{DecoderState}
 use Rattle.qoi.specs.pieces.Unread.{kept_count, KeepsWithin, KeepsPixels}
-use Rattle.qoi.specs.pieces.PixelReader.{PixelsState, pixels_left, HasGiven}
+use Rattle.qoi.specs.pieces.PixelReader.{PixelsState, unread_bytes, HasGiven}
 use Rattle.qoi.specs.pieces.Sizes.{decoded_ahead}
 
 -- the decoder, into these channels, of the file with the header h at the front of the bytes
@@ -107,7 +107,7 @@ ReadsFile channels h file p = (header_of file ≡ Ok h) × (given : List ℕ) ×
 abbrev pub IsNearest : Channels → Header → ℕ → List PointState → PixelsState (List ℕ) → Type 0
 IsNearest channels h first points p = (k : ℕ) (m : PointState) → k < length points
     → h.width * (h.height - first) ≤ undecoded_pixels (slice_index_or points k m)
-    → pixels_left p ≤ row_size channels h * (h.height - PointState.row (slice_index_or points k m))
+    → unread_bytes p ≤ row_size channels h * (h.height - PointState.row (slice_index_or points k m))
 
 -- the point behind what a reader keeps, noted for this row, of which some pixels are to come
 pub record IsPointOf (file : List ℕ) (row : ℕ) (p : PixelsState (List ℕ)) (m : PointState) : Type 0 where

@@ -7,8 +7,8 @@ ghost use Rattle.qoi.specs.EncoderState.{EncoderState};
 ghost use Rattle.qoi.specs.Errors.{IsIoError};
 ghost use Rattle.qoi.specs.Images.{front_image};
 ghost use Rattle.qoi.specs.pieces.Copying.{BreaksInput, CopiesRaw};
-ghost use Rattle.qoi.specs.pieces.PixelReader.{pixels_left, HasGiven};
-ghost use Rattle.qoi.specs.pieces.PixelWriter.{raw_left, and_raw, HasTaken, HasFailed};
+ghost use Rattle.qoi.specs.pieces.PixelReader.{unread_bytes, HasGiven};
+ghost use Rattle.qoi.specs.pieces.PixelWriter.{missing_bytes, and_raw, HasTaken, HasFailed};
 ghost use Rattle.qoi.specs.pieces.Sizes.{copied_at_once};
 
 use crate::copying::PIECE;
@@ -35,7 +35,7 @@ impl<R: Reader> PixelReader<R> {
     /// ```
     pub fn copy_raw_to<W: Write>(&mut self, out: &mut W) -> Result<()>
         // All that is left is written, or it is refused.
-        ensures copies { CopiesRaw R.in_memory R.ahead W.contents (pixels_left self.old) self.old
+        ensures copies { CopiesRaw R.in_memory R.ahead W.contents (unread_bytes self.old) self.old
             self.new out.old out.new result }
         // A success: what was read before and the bytes that were written, `more`, are the image.
         ensures rest { (d : DecoderState R) (start : Option (List ℕ)) (bytes given more : List ℕ)
@@ -59,9 +59,10 @@ impl<R: Reader> PixelReader<R> {
     fn copy_raw_piece<W: Write>(&mut self, out: &mut W, buf: &mut [u8]) -> Result<()>
         requires some { 0 < length buf.old }
         requires short { length buf.old ≤ copied_at_once }
-        requires more { 0 < pixels_left self.old }
+        requires more { 0 < unread_bytes self.old }
         ensures { CopiesRaw R.in_memory R.ahead W.contents
-            (min (length buf.old) (pixels_left self.old)) self.old self.new out.old out.new result }
+            (min (length buf.old) (unread_bytes self.old)) self.old self.new out.old out.new
+            result }
     {
         let left = self.left();
         let size = self.read(buf)?;
@@ -95,10 +96,10 @@ impl<W: Write + Drop> PixelWriter<W> {
             → HasTaken W.contents e before self.old → OnOk result ((raw : List ℕ)
             × Consumes (R.remaining input.old) (R.remaining input.new) raw
             × HasTaken W.contents (and_raw e raw) before self.new) }
-        ensures all { OnOk result (raw_left self.new ≡ 0) }
+        ensures all { OnOk result (missing_bytes self.new ≡ 0) }
         // If none is missing, nothing happens.
         ensures none { (e : EncoderState) (before : Option (List ℕ))
-            → HasTaken W.contents e before self.old → raw_left self.old ≡ 0
+            → HasTaken W.contents e before self.old → missing_bytes self.old ≡ 0
             → IsOk result × (self.new ≡ self.old) × (input.new ≡ input.old) }
 
         // The refusals: the reader or the writer fails; a writer that failed before stays as it
@@ -124,12 +125,12 @@ impl<W: Write + Drop> PixelWriter<W> {
     fn take_raw_piece<R: Read>(&mut self, input: &mut R, piece: &mut [u8]) -> Result<()>
         requires some { 0 < length piece.old }
         requires short { length piece.old ≤ copied_at_once }
-        requires fits { length piece.old ≤ raw_left self.old }
+        requires fits { length piece.old ≤ missing_bytes self.old }
         ensures taken { (e : EncoderState) (before : Option (List ℕ))
             → HasTaken W.contents e before self.old → OnOk result ((raw : List ℕ)
             × Consumes (R.remaining input.old) (R.remaining input.new) raw
             × HasTaken W.contents (and_raw e raw) before self.new) }
-        ensures less { OnOk result (raw_left self.new < raw_left self.old) }
+        ensures less { OnOk result (missing_bytes self.new < missing_bytes self.old) }
         ensures refused { (e : EncoderState) (before : Option (List ℕ))
             → HasTaken W.contents e before self.old
             → IfErr result (BreaksInput W.contents (R.remaining input.old)

@@ -4,7 +4,7 @@ ghost use Rattle.std.specs.Prelude.{◌*◌, ◌≡◌, ℕ, ◌+◌, ◌-◌, �
 ghost use Rattle.qoi.specs.Decoded.{HasDecoded};
 ghost use Rattle.qoi.specs.DecoderState.{DecoderState, output_byte_count};
 ghost use Rattle.qoi.specs.Images.{front_image, front_rest};
-ghost use Rattle.qoi.specs.pieces.PixelReader.{PixelsState, as_decoder, pixels_left, HasGiven, HasRows, ReadsUpTo, RefusesPixels, RefusesPiece, StopsAt, IsSpent};
+ghost use Rattle.qoi.specs.pieces.PixelReader.{PixelsState, as_decoder, unread_bytes, HasGiven, HasRows, ReadsUpTo, RefusesPixels, RefusesPiece, StopsAt, IsSpent};
 ghost use Rattle.qoi.specs.Qoi.{Error, channels_number, pixels_max};
 ghost use Rattle.qoi.specs.pieces.Unread.{bytes_left, IsRestOf, KeepsPixels, Asks, Steps};
 ghost use Rattle.qoi.specs.Reading.{StandsAhead, IsCutAhead, IsWrongAhead, SaysWhy};
@@ -69,7 +69,7 @@ impl<R: Reader> Decoder<R> {
         ensures rows { (stride : ℕ)
             → HasRows self (R.ahead self.reader) (R.ahead result.reader) stride 0 result }
         ensures same { as_decoder result ≡ self }
-        ensures left { pixels_left result ≡ output_byte_count self }
+        ensures left { unread_bytes result ≡ output_byte_count self }
     {
         let size = self.required_buf_len();
         PixelReader {
@@ -166,9 +166,9 @@ impl<R: Reader> PixelReader<R> {
 
     /// How many raw bytes of the image are unread: none after the last ones, and some for ever after
     /// a refusal.
-    #[tactic(auto, unfolding(crate::specs::pieces::PixelReader::pixels_left, crate::specs::pieces::PixelReader::HasGiven))]
+    #[tactic(auto, unfolding(crate::specs::pieces::PixelReader::unread_bytes, crate::specs::pieces::PixelReader::HasGiven))]
     pub fn left(&self) -> usize
-        ensures left { result ≡ pixels_left self.now }
+        ensures left { result ≡ unread_bytes self.now }
         ensures most { result ≤ 4 * pixels_max }
         ensures within { result ≤ output_byte_count (as_decoder self.now) }
         // If none are left, the decoder's image was decoded, and these are its bytes.
@@ -203,7 +203,7 @@ impl<R: Reader> PixelReader<R> {
     /// have been read; a slice's tail is as before the call, and a stream stands after the bytes that
     /// were read. `left` is as before, and no more of the image can be read: each further `read` into
     /// a buffer that isn't empty returns `UnexpectedBufferEnd`.
-    #[tactic(auto, unfolding(crate::specs::pieces::PixelReader::pixels_left))]
+    #[tactic(auto, unfolding(crate::specs::pieces::PixelReader::unread_bytes))]
     pub fn read(&mut self, buf: &mut [u8]) -> Result<usize>
         // A success: the bytes follow those that were read before.
         ensures read { (d : DecoderState R) (start : Option (List ℕ)) (given : List ℕ)
@@ -234,7 +234,7 @@ impl<R: Reader> PixelReader<R> {
             → length buf.old ≡ stride * n → IfOk result (λ size. length buf.old ≤ size
             → buf.new ≡ rectangle stride k 0 n stride (front_image d.channels d.header bytes)) }
         ensures size { IfOk result (ReadsUpTo (length buf.old) self.old self.new) }
-        ensures none { min (length buf.old) (pixels_left self.old) ≡ 0
+        ensures none { min (length buf.old) (unread_bytes self.old) ≡ 0
             → (result ≡ Ok 0) × (self.new ≡ self.old) }
 
         // The refusals: those of the image, and then no more of it is read. Bytes in memory stay.
@@ -248,7 +248,8 @@ impl<R: Reader> PixelReader<R> {
             × (self.new ≡ self.old) × (buf.new ≡ buf.old) }
 
         // What stays: later bytes of the buffer, header and channels.
-        ensures later { drop (pixels_left self.old) buf.new ≡ drop (pixels_left self.old) buf.old }
+        ensures later { drop (unread_bytes self.old) buf.new
+            ≡ drop (unread_bytes self.old) buf.old }
         ensures unchanged { (self.new.header ≡ self.old.header)
             × (self.new.channels ≡ self.old.channels) }
     {
@@ -270,12 +271,12 @@ impl<R: Reader> PixelReader<R> {
     }
 
     /// Refuses what is left of the image, as after a refusal of `read`: so many bytes count as left.
-    #[tactic(auto, unfolding(crate::specs::pieces::PixelReader::pixels_left))]
+    #[tactic(auto, unfolding(crate::specs::pieces::PixelReader::unread_bytes))]
     pub(crate) fn refuse_rest(&mut self, left: usize)
         requires some { 0 < left }
         requires within { left ≤ output_byte_count (as_decoder self.old) }
         ensures spent { IsSpent self.new }
-        ensures left { pixels_left self.new ≡ left }
+        ensures left { unread_bytes self.new ≡ left }
         ensures unchanged { as_decoder self.new ≡ as_decoder self.old }
     {
         // There is no fault to take: what is kept is dropped.

@@ -9,7 +9,7 @@ ghost use Rattle.qoi.specs.Sent.{SendsFile, SendsPart, SendsSomeFile};
 ghost use Rattle.qoi.specs.Styles.{Style};
 ghost use Rattle.qoi.specs.EncoderState.{EncoderState};
 ghost use Rattle.qoi.specs.inner.Sending.{pixel_size, EndsOpaque};
-ghost use Rattle.qoi.specs.pieces.PixelWriter.{WriterState, HasTaken, HasFailed, RefusesRaw, SendsSome, and_raw, raw_left};
+ghost use Rattle.qoi.specs.pieces.PixelWriter.{WriterState, HasTaken, HasFailed, RefusesRaw, SendsSome, and_raw, missing_bytes};
 
 mod sending;
 mod workspace;
@@ -131,7 +131,7 @@ impl<W: Write + Drop> PixelWriter<W> {
     /// How many raw bytes of the image haven't come yet.
     #[tactic(auto, unfolding(crate::specs::pieces::PixelWriter::HasTaken))]
     pub fn left(&self) -> usize
-        ensures left { result ≡ raw_left self.now }
+        ensures left { result ≡ missing_bytes self.now }
         ensures of_image { (e : EncoderState) (before : Option (List ℕ))
             → HasTaken W.contents e before self.now
             → length e.raw + result ≡ image_byte_count e.header }
@@ -158,7 +158,8 @@ impl<W: Write + Drop> PixelWriter<W> {
         ensures joined { (e : EncoderState) (before : Option (List ℕ)) (first all : List ℕ)
             → HasTaken W.contents (and_raw e first) before self.old → all ≡ first ++ raw.now
             → OnOk result (HasTaken W.contents (and_raw e all) before self.new) }
-        ensures left { OnOk result (raw_left self.new + length raw.now ≡ raw_left self.old) }
+        ensures left { OnOk result
+            (missing_bytes self.new + length raw.now ≡ missing_bytes self.old) }
 
         // The refusals: a fault, if the bytes fit, or too many bytes; and any call after a fault.
         ensures refused { (e : EncoderState) (before : Option (List ℕ))
@@ -170,7 +171,7 @@ impl<W: Write + Drop> PixelWriter<W> {
 
         // What they leave: all as it was, but after a fault.
         ensures unchanged { IfErr result (λ e. IsIoError e ⊎ (self.new ≡ self.old)) }
-        ensures left_stays { OnErr result (raw_left self.new ≡ raw_left self.old) }
+        ensures left_stays { OnErr result (missing_bytes self.new ≡ missing_bytes self.old) }
     {
         if self.failed {
             return Err(failed_before());
@@ -196,11 +197,11 @@ impl<W: Write + Drop> PixelWriter<W> {
     #[tactic(auto, unfolding(crate::specs::pieces::PixelWriter::HasTaken))]
     pub(crate) fn check_room(&self, more: usize) -> Result<()>
         requires { more ≤ 4 * pixels_max }
-        ensures room { OnOk result (more ≤ raw_left self.now) }
+        ensures room { OnOk result (more ≤ missing_bytes self.now) }
         ensures many { (e : EncoderState) (before : Option (List ℕ))
             → HasTaken W.contents e before self.now → IfErr result (λ error. (error
             ≡ Error.InvalidImageLength (length e.raw + more) e.header.width e.header.height)
-            × (raw_left self.now < more)) }
+            × (missing_bytes self.now < more)) }
         ensures spent { (e : EncoderState) (before : Option (List ℕ))
             → HasFailed W.contents e before self.now → IsErrAnd result IsIoError }
     {

@@ -5,7 +5,7 @@ ghost use Rattle.qoi.specs.Decoded.{HasHeader};
 ghost use Rattle.qoi.specs.declared.error.Error.{Error};
 ghost use Rattle.qoi.specs.pieces.Mark.{MarkState, mark_of, reader_at, marked_left, MarksGiven, MarksRows};
 ghost use Rattle.qoi.specs.pieces.Unread.{IsRestOf};
-ghost use Rattle.qoi.specs.pieces.PixelReader.{pixels_left, HasGiven, HasRows};
+ghost use Rattle.qoi.specs.pieces.PixelReader.{unread_bytes, HasGiven, HasRows};
 
 use crate::decode::Decoder;
 use crate::decode::pixel_reader::PixelReader;
@@ -55,7 +55,7 @@ impl<'a> PixelReader<Bytes<'a>> {
     /// counts from the front of the slice, so bytes may be appended behind the file.
     ///
     /// In another slice, the mark stands as far from the end as the reader does from that of its own.
-    #[tactic(auto, unfolding(crate::specs::pieces::Mark::marked_left, crate::specs::pieces::PixelReader::pixels_left))]
+    #[tactic(auto, unfolding(crate::specs::pieces::Mark::marked_left, crate::specs::pieces::PixelReader::unread_bytes))]
     pub fn mark(&self, file: &[u8]) -> Mark
         ensures state { result ≡ mark_of (length file.now - length self.now.reader) self.now }
         // If the slice is that of the file, of which some decoder was made, the mark says what was
@@ -77,7 +77,7 @@ impl<'a> PixelReader<Bytes<'a>> {
             → HasHeader e (Some file.now) (Some bytes)
             → HasRows d (Some bytes) (Some self.now.reader) stride k self.now
             → MarksRows d (bytes ++ more) stride k result }
-        ensures left { marked_left result ≡ pixels_left self.now }
+        ensures left { marked_left result ≡ unread_bytes self.now }
     {
         Mark {
             at: file.len().saturating_sub(self.decoder.reader.0.len()),
@@ -103,7 +103,7 @@ impl Mark {
     /// only how many come.
     ///
     /// `UnexpectedBufferEnd` if the slice ends before the mark.
-    #[tactic(auto, unfolding(crate::specs::pieces::Mark::marked_left, crate::specs::pieces::PixelReader::pixels_left))]
+    #[tactic(auto, unfolding(crate::specs::pieces::Mark::marked_left, crate::specs::pieces::PixelReader::unread_bytes))]
     pub fn resume<'a>(&self, file: &'a [u8]) -> Result<PixelReader<Bytes<'a>>>
         // The reader that was marked, with the bytes of the slice behind the mark ahead.
         ensures same { self.now.at ≤ length file.entry.now
@@ -121,7 +121,7 @@ impl Mark {
         ensures accepts { (d e : DecoderState (List ℕ)) (bytes given : List ℕ)
             → HasHeader e (Some file.entry.now) (Some bytes) → MarksGiven d bytes given self.now
             → IsOk result }
-        ensures left { IfOk result (λ p. pixels_left p ≡ marked_left self.now) }
+        ensures left { IfOk result (λ p. unread_bytes p ≡ marked_left self.now) }
     {
         if file.len() < self.at {
             return Err(Error::UnexpectedBufferEnd);

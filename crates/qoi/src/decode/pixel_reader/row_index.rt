@@ -5,7 +5,7 @@ ghost use Rattle.qoi.specs.Images.{front_image, file_image};
 ghost use Rattle.qoi.specs.Qoi.{Error, Header, Channels, channels_number, header_of, header_size, pixel_count, IsValid};
 ghost use Rattle.qoi.specs.Reading.{StandsAhead};
 ghost use Rattle.qoi.specs.Rectangles.{rectangle};
-ghost use Rattle.qoi.specs.pieces.PixelReader.{pixels_left, HasRows};
+ghost use Rattle.qoi.specs.pieces.PixelReader.{unread_bytes, HasRows};
 ghost use Rattle.qoi.specs.pieces.RowIndex.{file_decoder, row_size, PointState, IsPointOf, points_count, ReadsFile, HasPoints, IsRowIndex, IsNearest, IsFileDecoder};
 ghost use Rattle.qoi.specs.pieces.Sizes.{decoded_ahead};
 ghost use Rattle.qoi.specs.pieces.Unread.{bytes_left};
@@ -75,7 +75,7 @@ fn skip_to(reader: &mut PixelReader<Bytes<'_>>, bytes_left: usize) -> Result<()>
         → ReadsFile channels h file reader.old
         → OnOk result (ReadsFile channels h file reader.new) }
     ensures left { OnOk result
-        (pixels_left reader.new ≡ min bytes_left (pixels_left reader.old)) }
+        (unread_bytes reader.new ≡ min bytes_left (unread_bytes reader.old)) }
     ensures refused { (channels : Channels) (h : Header) (file : List ℕ)
         → ReadsFile channels h file reader.old → IfErr result (HasRefusedFile file) }
     ensures accepts { (channels : Channels) (h : Header) (file : List ℕ)
@@ -169,7 +169,7 @@ impl RowIndex {
         ensures accepts { IsRowIndex file.entry.now self.now → IsOk result }
         ensures left { IfOk result (λ p. decoder.entry.header.width
             * (decoder.entry.header.height - first) * channels_number decoder.entry.channels
-            ≤ pixels_left p) }
+            ≤ unread_bytes p) }
         // No point that serves stands for a row further below.
         ensures nearest { IsRowIndex file.entry.now self.now → IfOk result (IsNearest
             decoder.entry.channels decoder.entry.header first self.now) }

@@ -4,7 +4,7 @@ ghost use Rattle.qoi.specs.DecoderState.{DecoderState};
 ghost use Rattle.qoi.specs.Qoi.{Error};
 ghost use Rattle.qoi.specs.Rectangles.{row_size};
 ghost use Rattle.qoi.specs.pieces.Copying.{rows_size, Gives};
-ghost use Rattle.qoi.specs.pieces.PixelReader.{pixels_left, HasGiven, HasRows, RefusesPiece, IsSpent};
+ghost use Rattle.qoi.specs.pieces.PixelReader.{unread_bytes, HasGiven, HasRows, RefusesPiece, IsSpent};
 ghost use Rattle.qoi.specs.pieces.Skipping.{StopsWithin};
 
 use crate::decode::pixel_reader::PixelReader;
@@ -40,21 +40,21 @@ impl<R: Reader> PixelReader<R> {
             → stride ≡ row_size d.channels d.header
             → OnOk result (HasRows d start (R.ahead self.new.reader) stride (k + rows) self.new) }
         ensures left { OnOk result
-            (pixels_left self.new + rows_size self.old rows ≡ pixels_left self.old) }
+            (unread_bytes self.new + rows_size self.old rows ≡ unread_bytes self.old) }
         ensures none { rows_size self.old rows ≡ 0 → IsOk result × (self.new ≡ self.old) }
 
         // The refusals that leave it as it was: too few rows, and an image that was refused before.
-        ensures few { pixels_left self.old < rows_size self.old rows
+        ensures few { unread_bytes self.old < rows_size self.old rows
             → IsErrOf result Error.UnexpectedBufferEnd × (self.new ≡ self.old) }
         ensures spent { 0 < rows_size self.old rows → IsSpent self.old
             → IsErrOf result Error.UnexpectedBufferEnd × (self.new ≡ self.old) }
         // The others: those of the image, within these rows, and then no more of it is read.
         ensures refused { (d : DecoderState R) (start : Option (List ℕ)) (given : List ℕ)
             → HasGiven d start (R.ahead self.old.reader) given self.old
-            → rows_size self.old rows ≤ pixels_left self.old
+            → rows_size self.old rows ≤ unread_bytes self.old
             → IfErr result (RefusesPiece R.in_memory d start given (rows_size self.old rows)
             (R.ahead self.new.reader)) }
-        ensures within { rows_size self.old rows ≤ pixels_left self.old → OnErr result
+        ensures within { rows_size self.old rows ≤ unread_bytes self.old → OnErr result
             (StopsWithin R.in_memory R.ahead (rows_size self.old rows) self.old self.new) }
 
         // What stays: header and channels.
@@ -70,10 +70,10 @@ impl<R: Reader> PixelReader<R> {
 
     // Reads the next raw bytes, so many.
     pub(super) fn skip_bytes(&mut self, count: usize) -> Result<()>
-        requires { count ≤ pixels_left self.old }
+        requires { count ≤ unread_bytes self.old }
         ensures skipped { OnOk result ((more : List ℕ) × Gives R.ahead more self.old self.new
             × (length more ≡ count)) }
-        ensures left { OnOk result (pixels_left self.new + count ≡ pixels_left self.old) }
+        ensures left { OnOk result (unread_bytes self.new + count ≡ unread_bytes self.old) }
         ensures none { count ≡ 0 → IsOk result × (self.new ≡ self.old) }
         ensures spent { 0 < count → IsSpent self.old
             → IsErrOf result Error.UnexpectedBufferEnd × (self.new ≡ self.old) }

@@ -4,7 +4,7 @@ ghost use Rattle.qoi.specs.Decoded.{HasHeader};
 ghost use Rattle.qoi.specs.DecoderState.{DecoderState};
 ghost use Rattle.qoi.specs.Images.{front_image};
 ghost use Rattle.qoi.specs.pieces.Mark.{marked_left, MarksRows};
-ghost use Rattle.qoi.specs.pieces.PixelReader.{pixels_left, HasRows};
+ghost use Rattle.qoi.specs.pieces.PixelReader.{unread_bytes, HasRows};
 
 use crate::tests::library::support::{assert_both, assert_given, assert_number, made};
 use qoi::{Bytes, Error, Mark, PixelReader, Reader};
@@ -16,7 +16,7 @@ use std::process::Abort;
 fn rest<R: Reader>(alloc: Global, pixels: &mut PixelReader<R>) -> Result<Vec<u8>, Error>
     ensures { (d : DecoderState R) (bytes : List ℕ) (stride k : ℕ)
         → HasRows d (Some bytes) (R.ahead pixels.old.reader) stride k pixels.old
-        → IfOk result (λ rest. rest.items ≡ take (pixels_left pixels.old)
+        → IfOk result (λ rest. rest.items ≡ take (unread_bytes pixels.old)
         (drop (stride * k) (front_image d.channels d.header bytes))) }
 {
     let mut rest = vec![in alloc; 0u8; pixels.left()]?;
@@ -35,7 +35,7 @@ pub fn by_clone<R: Reader + Clone + Drop>(
         → ((reader : R) → R.is_clone pixels.reader reader → reader ≡ pixels.reader)
         → HasRows d (Some bytes) (R.ahead pixels.reader) stride k pixels
         → IfOk result (λ both. (both.0.items ≡ both.1.items)
-        × (both.0.items ≡ take (pixels_left pixels)
+        × (both.0.items ≡ take (unread_bytes pixels)
         (drop (stride * k) (front_image d.channels d.header bytes)))) }
 {
     let mut pixels = pixels;
@@ -67,7 +67,7 @@ pub fn twice(
         → HasHeader e (Some file.now) (Some bytes)
         → HasRows d (Some bytes) (Some pixels.entry.reader) stride k pixels.entry
         → IfOk result (λ both. (both.0.items ≡ both.1.items)
-        × (both.0.items ≡ take (pixels_left pixels.entry)
+        × (both.0.items ≡ take (unread_bytes pixels.entry)
         (drop (stride * k) (front_image d.channels d.header bytes)))) }
 {
     let mut pixels = pixels;
@@ -88,7 +88,7 @@ pub fn again(
         → HasHeader e (Some file.now) (Some bytes)
         → HasHeader f (Some longer.now) (Some (bytes ++ more))
         → HasRows d (Some bytes) (Some pixels.now.reader) stride k pixels.now
-        → IfOk result (λ rest. rest.items ≡ take (pixels_left pixels.now)
+        → IfOk result (λ rest. rest.items ≡ take (unread_bytes pixels.now)
         (drop (stride * k) (front_image d.channels d.header (bytes ++ more)))) }
 {
     let mark = pixels.mark(file);

@@ -6,7 +6,7 @@ ghost use Rattle.qoi.specs.DecoderState.{DecoderState, output_byte_count};
 ghost use Rattle.qoi.specs.Images.{file_image, front_image, HasFrontFile};
 ghost use Rattle.qoi.specs.Qoi.{header_of};
 ghost use Rattle.qoi.specs.Reading.{StandsAhead};
-ghost use Rattle.qoi.specs.pieces.PixelReader.{HasGiven, pixels_left};
+ghost use Rattle.qoi.specs.pieces.PixelReader.{HasGiven, unread_bytes};
 ghost use Rattle.qoi_tool.specs.Pictures.{DiffersAt, HaveOneShape};
 
 use crate::tests::library::support::made;
@@ -80,8 +80,8 @@ fn next_difference(
         → size ≡ output_byte_count d
         → IfOk result (λ o. IfSome o (DiffersAt (front_image d.channels d.header bytes)
         (front_image e.channels e.header others))) }
-    ensures fewer { 0 < pixels_left first.old
-        → OnOk result (pixels_left first.new < pixels_left first.old) }
+    ensures fewer { 0 < unread_bytes first.old
+        → OnOk result (unread_bytes first.new < unread_bytes first.old) }
     ensures whole { (d e : DecoderState (List ℕ)) (bytes others given : List ℕ)
         → HasGiven d (Some bytes) (Some first.old.reader) given first.old
         → HasGiven e (Some others) (Some second.old.reader) given second.old

@@ -3,7 +3,7 @@ use Rattle.std.proofs.Common.{◌≡◌, ◌++◌, length-append, arith, rules, 
 use Rattle.std.proofs.lemmas.Grind.{common_steps}
 use Rattle.std.proofs.KnownBytes.{Appends-trans}
 use Rattle.std.specs.Io.KnownBytes.{Appends}
-use Rattle.qoi.specs.pieces.PixelReader.{pixels_left}
+use Rattle.qoi.specs.pieces.PixelReader.{unread_bytes}
 use Rattle.qoi.proofs.Copied.{decoded_all, given_both, raw_breaks_later, rest_is}
 use Rattle.qoi.proofs.decoding.Refusals.{handed_on}
 use Rattle.qoi.proofs.decode.pixel_reader.PixelReader.copy_raw_to.Goals as goal
@@ -45,6 +45,6 @@ returns-clause-decoded g c d start given h =
 pub returns-clause-rest : goal.returns-clause-rest
 returns-clause-rest g c d start bytes given more h is image =
     let i = c.loop-buf.invariant in
-    let none : pixels_left c.loop-buf.self ≡ 0 = omega (arith, c.left.ensures.left, c.loop-buf-test.false) in
+    let none : unread_bytes c.loop-buf.self ≡ 0 = omega (arith, c.left.ensures.left, c.loop-buf-test.false) in
     subst (Appends (g.W.Write.contents c.args.out.now) (g.W.Write.contents c.loop-buf.out))
     (rest_is d start _ bytes given i.more more c.loop-buf.self (i.given d start given h) none is image) i.written

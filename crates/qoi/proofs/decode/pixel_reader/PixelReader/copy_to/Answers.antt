@@ -2,7 +2,7 @@
 use Rattle.std.proofs.Common.{◌≡◌, ◌++◌, arith, subst}
 use Rattle.std.proofs.lemmas.Result.{on_ok_weaker}
 use Rattle.qoi.specs.pieces.Copying.{Copies, Takes}
-use Rattle.qoi.specs.pieces.PixelReader.{pixels_left}
+use Rattle.qoi.specs.pieces.PixelReader.{unread_bytes}
 use Rattle.qoi.proofs.Copied.{decoded_all, rest_is}
 use Rattle.qoi.proofs.decode.pixel_reader.PixelReader.copy_to.Goals as goal
 
@@ -14,14 +14,14 @@ returns-clause-copies g c =
 pub returns-clause-decoded : goal.returns-clause-decoded
 returns-clause-decoded g c d start given h =
     on_ok_weaker c.copy_bytes.result
-    (λ x. let none : pixels_left c.copy_bytes.new.self ≡ 0 = omega (arith, x.left, c.left-left.ensures.left) in
+    (λ x. let none : unread_bytes c.copy_bytes.new.self ≡ 0 = omega (arith, x.left, c.left-left.ensures.left) in
     (x.more, decoded_all d start _ (given ++ x.more) c.copy_bytes.new.self (x.given d start given h) none))
     c.copy_bytes.ensures.copied
 
 pub returns-clause-rest : goal.returns-clause-rest
 returns-clause-rest g c d start bytes given more h is image =
     on_ok_weaker c.copy_bytes.result
-    (λ x. let none : pixels_left c.copy_bytes.new.self ≡ 0 = omega (arith, x.left, c.left-left.ensures.left) in
+    (λ x. let none : unread_bytes c.copy_bytes.new.self ≡ 0 = omega (arith, x.left, c.left-left.ensures.left) in
     subst (λ z. Takes g.W.Write.contents z c.args.writer.now c.copy_bytes.new.writer)
     (rest_is d start _ bytes given x.more more c.copy_bytes.new.self (x.given d start given h) none is image) x.taken)
     c.copy_bytes.ensures.copied

@@ -1,7 +1,7 @@
 -- More bytes of the image were read, or it was refused before.
 use Rattle.std.proofs.Common.{◌≡◌, List, ◌++◌, ℕ, Option}
 use Rattle.qoi.specs.DecoderState.{DecoderState}
-use Rattle.qoi.specs.pieces.PixelReader.{pixels_left, HasGiven, IsSpent}
+use Rattle.qoi.specs.pieces.PixelReader.{unread_bytes, HasGiven, IsSpent}
 use Rattle.qoi.proofs.decode.pixel_reader.PixelReader.finish.Given as goal
 
 abbrev pub invariant-loop-buf : goal.invariant-loop-buf
@@ -13,4 +13,4 @@ invariant-loop-buf g l = record {
 }
 
 abbrev pub decreases-loop-buf : goal.decreases-loop-buf
-decreases-loop-buf g l = pixels_left l.self
+decreases-loop-buf g l = unread_bytes l.self

@@ -2,7 +2,7 @@
 use Rattle.std.proofs.Common.{◌≡◌, List, ℕ, Option}
 use Rattle.std.specs.Io.KnownBytes.{Consumes}
 use Rattle.qoi.specs.EncoderState.{EncoderState}
-use Rattle.qoi.specs.pieces.PixelWriter.{raw_left, and_raw, HasTaken}
+use Rattle.qoi.specs.pieces.PixelWriter.{missing_bytes, and_raw, HasTaken}
 use Rattle.qoi.proofs.encode.pixel_writer.PixelWriter.copy_raw_from.Given as goal
 
 abbrev pub invariant-loop-buf : goal.invariant-loop-buf
@@ -10,8 +10,8 @@ invariant-loop-buf g l = record {
   taken : (e : EncoderState) (before : Option (List ℕ)) → HasTaken g.W.Write.contents e before l.initial.self
       → (raw : List ℕ) × Consumes (g.R.Read.remaining l.initial.input) (g.R.Read.remaining l.input) raw
       × HasTaken g.W.Write.contents (and_raw e raw) before l.self;
-  none : raw_left l.initial.self ≡ 0 → (l.self ≡ l.initial.self) × (l.input ≡ l.initial.input);
+  none : missing_bytes l.initial.self ≡ 0 → (l.self ≡ l.initial.self) × (l.input ≡ l.initial.input);
 }
 
 abbrev pub decreases-loop-buf : goal.decreases-loop-buf
-decreases-loop-buf g l = raw_left l.self
+decreases-loop-buf g l = missing_bytes l.self

@@ -1,6 +1,6 @@
 -- The bytes so far are the same.
 use Rattle.std.proofs.Common.{ℕ, List, Some}
-use Rattle.qoi.specs.pieces.PixelReader.{pixels_left, HasGiven}
+use Rattle.qoi.specs.pieces.PixelReader.{unread_bytes, HasGiven}
 use Rattle.qoi_tool.proofs.tests.library.differences.difference.Given as goal
 
 abbrev pub invariant-loop-first : goal.invariant-loop-first
@@ -11,4 +11,4 @@ invariant-loop-first l = record {
 }
 
 abbrev pub decreases-loop-first : goal.decreases-loop-first
-decreases-loop-first l = pixels_left l.first
+decreases-loop-first l = unread_bytes l.first

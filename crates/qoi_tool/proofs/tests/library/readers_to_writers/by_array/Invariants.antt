@@ -1,7 +1,7 @@
 -- What was read so far was taken by the writer.
 use Rattle.std.proofs.Common.{ℕ, List}
 use Rattle.qoi.specs.declared.types.Style.TheVariants.{Reference}
-use Rattle.qoi.specs.pieces.PixelReader.{pixels_left, HasGiven}
+use Rattle.qoi.specs.pieces.PixelReader.{unread_bytes, HasGiven}
 use Rattle.qoi.specs.pieces.PixelWriter.{HasTaken}
 use Rattle.qoi_tool.proofs.tests.library.readers_to_writers.by_array.Given as goal
 
@@ -13,4 +13,4 @@ invariant-loop-row g l = record {
 }
 
 abbrev pub decreases-loop-row : goal.decreases-loop-row
-decreases-loop-row g l = pixels_left l.pixels
+decreases-loop-row g l = unread_bytes l.pixels

@@ -1,7 +1,7 @@
 -- Some bytes were taken, with those that the writer had.
 use Rattle.std.proofs.Common.{◌≡◌, ℕ, List, Option, ◌+◌, ◌≤◌, ◌<◌, length}
 use Rattle.qoi.specs.EncoderState.{EncoderState}
-use Rattle.qoi.specs.pieces.PixelWriter.{HasTaken, raw_left}
+use Rattle.qoi.specs.pieces.PixelWriter.{HasTaken, missing_bytes}
 use Rattle.qoi_tool.proofs.tests.library.readers_to_writers.shrink.Given as goal
 
 abbrev pub invariant-loop-pixels : goal.invariant-loop-pixels
@@ -13,4 +13,4 @@ invariant-loop-pixels g l = record {
 }
 
 abbrev pub decreases-loop-pixels : goal.decreases-loop-pixels
-decreases-loop-pixels g l = raw_left l.writer
+decreases-loop-pixels g l = missing_bytes l.writer

@@ -1,7 +1,7 @@
 -- What was read so far was written.
 use Rattle.std.proofs.Common.{ℕ, List}
 use Rattle.std.specs.Io.KnownBytes.{Appends}
-use Rattle.qoi.specs.pieces.PixelReader.{as_decoder, pixels_left, HasGiven}
+use Rattle.qoi.specs.pieces.PixelReader.{as_decoder, unread_bytes, HasGiven}
 use Rattle.qoi_tool.proofs.tests.library.row_callers.to_raw.Given as goal
 
 abbrev pub invariant-loop-row : goal.invariant-loop-row
@@ -12,4 +12,4 @@ invariant-loop-row g l = record {
 }
 
 abbrev pub decreases-loop-row : goal.decreases-loop-row
-decreases-loop-row g l = pixels_left l.pixels
+decreases-loop-row g l = unread_bytes l.pixels

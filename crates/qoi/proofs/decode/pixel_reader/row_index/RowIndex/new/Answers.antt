@@ -1,7 +1,7 @@
 -- The image is read whole, and the points are those of its rows.
 use Rattle.std.proofs.Common.{◌≡◌, ◌<◌, ◌*◌, ◌+◌, ◌-◌, ◌∙◌, ℕ, [], ◌∷◌, Ok, sym, ap, subst, inl, inr, length, length-append, slice_index_or, arith}
 use Rattle.qoi.specs.Qoi.{Header, IsValid, channels_number, pixel_count, header_of}
-use Rattle.qoi.specs.pieces.PixelReader.{pixels_left}
+use Rattle.qoi.specs.pieces.PixelReader.{unread_bytes}
 use Rattle.qoi.specs.pieces.RowIndex.{PointState, ArePoints, IsPointAt, HasPoints}
 use Rattle.qoi.proofs.decoding.Points.{point_stands}
 use Rattle.qoi.proofs.decoding.RowIndexes.{all_left, row_left, below_point, fewer_points, first_left, image_size, no_points, one_point_more, one_row_more, point_at, still_going, refused_header, row_index, row_index_then, reads_start, stands_whole}
@@ -45,7 +45,7 @@ keep_point-requires-clause-going c =
     still_going h.channels h c.args.file.now c.skip_to.new.reader (c.in_ok-skip_to.ensures.file h.channels h c.args.file.now c.loop-k.invariant.reads)
 
 pub keep_point-requires-clause-some : goal.keep_point-requires-clause-some
-unfolding pixels_left
+unfolding unread_bytes
 keep_point-requires-clause-some c =
     let h = c.header.result.now in
     let here = row_left h c.max-apart.result c.loop-k.k _ _ _ c.loop-k.invariant.left c.bytes_from.ensures c.in_ok-skip_to.ensures.left in
