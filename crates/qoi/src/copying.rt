@@ -2,13 +2,12 @@
 ghost use Rattle.std.specs.Prelude.{◌≡◌, ℕ, ◌+◌, ◌*◌, ◌<◌, ◌≤◌, List, ◌++◌, length, Option, Some, IfErr, OnOk, IsErrOf};
 ghost use Rattle.qoi.specs.Decoded.{HasDecoded};
 ghost use Rattle.qoi.specs.DecoderState.{DecoderState};
-ghost use Rattle.qoi.specs.EncoderState.{EncoderState};
 ghost use Rattle.qoi.specs.Images.{front_image};
 ghost use Rattle.qoi.specs.Qoi.{Error, pixels_max};
 ghost use Rattle.qoi.specs.Rectangles.{rectangle, row_size};
 ghost use Rattle.qoi.specs.pieces.Copying.{rows_size, Gives, Takes, BreaksCopy, Copies};
-ghost use Rattle.qoi.specs.pieces.PixelReader.{unread_bytes, HasGiven, HasRows, IsSpent};
-ghost use Rattle.qoi.specs.pieces.PixelWriter.{missing_bytes, HasTaken};
+ghost use Rattle.qoi.specs.pieces.PixelReader.{unread_bytes, IfGiven, HasRows, IsSpent};
+ghost use Rattle.qoi.specs.pieces.PixelWriter.{missing_bytes, IfTaken};
 ghost use Rattle.qoi.specs.pieces.Sizes.{copied_at_once};
 
 mod raw;
@@ -18,8 +17,8 @@ use crate::encode::PixelWriter;
 use crate::error::{Error, Result};
 use std::io::Write;
 
-// How many raw bytes go at once: no more than `copied_at_once`, by `early` of `StopsBehind`. By hand
-// have to follow PIECE of fuzz/session.h, the numbers in comments and on the pages, and the
+// How many raw bytes go at once: no more than `copied_at_once`, by `early` of `StopsBehind`. By
+// hand have to follow PIECE of fuzz/session.h, the numbers in comments and on the pages, and the
 // tests of readers and writers that fail.
 const PIECE: usize = 4096;
 
@@ -48,14 +47,12 @@ impl<R: Reader> PixelReader<R> {
         ensures copies { Copies R.in_memory R.ahead W.contents (unread_bytes self.old) self.old
             self.new writer.old writer.new result }
         // A success: what was read before and the bytes that were copied, `more`, are the image.
-        ensures rest { (d : DecoderState R) (start : Option (List ℕ)) (bytes given more : List ℕ)
-            → HasGiven d start (R.ahead self.old.reader) given self.old → start ≡ Some bytes
-            → given ++ more ≡ front_image d.channels d.header bytes
-            → OnOk result (Takes W.contents more writer.old writer.new) }
+        ensures rest { IfGiven R.ahead self.old (λ d start given. (bytes more : List ℕ)
+            → start ≡ Some bytes → given ++ more ≡ front_image d.channels d.header bytes
+            → OnOk result (Takes W.contents more writer.old writer.new)) }
         // So the image was decoded, and the reader stands behind its end marker.
-        ensures decoded { (d : DecoderState R) (start : Option (List ℕ)) (given : List ℕ)
-            → HasGiven d start (R.ahead self.old.reader) given self.old → OnOk result
-            ((rest : List ℕ) × HasDecoded d start (R.ahead self.new.reader) (given ++ rest)) }
+        ensures decoded { IfGiven R.ahead self.old (λ d start given. OnOk result ((rest : List ℕ)
+            × HasDecoded d start (R.ahead self.new.reader) (given ++ rest))) }
     {
         let left = self.left();
         self.copy_bytes(writer, left)
@@ -138,12 +135,9 @@ impl<R: Reader> PixelReader<R> {
         ensures spent { IsSpent self.old → 0 < length piece.old
             → IsErrOf result Error.UnexpectedBufferEnd
             × (self.new ≡ self.old) × (writer.new ≡ writer.old) }
-        ensures refused { (d : DecoderState R) (start : Option (List ℕ)) (given : List ℕ)
-            (e : EncoderState) (before : Option (List ℕ))
-            → HasGiven d start (R.ahead self.old.reader) given self.old
-            → HasTaken W.contents e before writer.old
-            → IfErr result (BreaksCopy R.in_memory R.ahead W.contents d start given e before
-            self.new writer.new) }
+        ensures refused { IfGiven R.ahead self.old (λ d start given. IfTaken W.contents writer.old
+            (λ e before. IfErr result (BreaksCopy R.in_memory R.ahead W.contents d start given
+            e before self.new writer.new))) }
         ensures unchanged { (self.new.header ≡ self.old.header)
             × (self.new.channels ≡ self.old.channels) }
     {

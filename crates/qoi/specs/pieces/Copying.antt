@@ -8,8 +8,8 @@ use Rattle.qoi.specs.Writers.{AppendsBeginning}
 use Rattle.qoi.specs.Decoding.{RefusesBytes}
 use Rattle.qoi.specs.DecoderState.{DecoderState, output_byte_count}
 use Rattle.qoi.specs.EncoderState.{EncoderState}
-use Rattle.qoi.specs.pieces.PixelReader.{PixelsState, unread_bytes, HasGiven, RefusesPixels, IsSpent}
-use Rattle.qoi.specs.pieces.PixelWriter.{WriterState, missing_bytes, and_raw, HasTaken, HasFailed}
+use Rattle.qoi.specs.pieces.PixelReader.{PixelsState, unread_bytes, HasGiven, IfGiven, RefusesPixels, IsSpent}
+use Rattle.qoi.specs.pieces.PixelWriter.{WriterState, missing_bytes, and_raw, HasTaken, IfTaken, HasFailed}
 use Rattle.qoi.specs.pieces.Sizes.{copied_at_once, decoded_ahead}
 
 -- how many raw bytes so many rows of the reader's image have
@@ -18,12 +18,11 @@ rows_size p rows = row_size p.channels p.header * rows
 
 -- the reader gave these raw bytes of the image, behind those that it had given
 abbrev pub Gives : {R : Type 0} → (R → Option (List ℕ)) → List ℕ → PixelsState R → PixelsState R → Type 0
-Gives ahead more p q = (d : DecoderState _) (start : Option (List ℕ)) (given : List ℕ) → HasGiven d start (ahead p.reader) given p
-    → HasGiven d start (ahead q.reader) (given ++ more) q
+Gives ahead more p q = IfGiven ahead p (λ d start given. HasGiven d start (ahead q.reader) (given ++ more) q)
 
 -- the writer took these raw bytes, behind those that it had taken
 abbrev pub Takes : {W : Type 0} → (W → Option (List ℕ)) → List ℕ → WriterState W → WriterState W → Type 0
-Takes contents more w v = (e : EncoderState) (before : Option (List ℕ)) → HasTaken contents e before w → HasTaken contents (and_raw e more) before v
+Takes contents more w v = IfTaken contents w (λ e before. HasTaken contents (and_raw e more) before v)
 
 -- Of the decoder's image the raw bytes `given` were read, and then `more`. Behind them the image was
 -- refused, with this error, and the reader is p.
@@ -89,18 +88,18 @@ pub record Copied {R W : Type 0} (ahead : R → Option (List ℕ)) (contents : W
 pub record Copies {R W T : Type 0} (in_memory : Bool) (ahead : R → Option (List ℕ)) (contents : W → Option (List ℕ)) (n : ℕ) (p q : PixelsState R) (w v : WriterState W) (result : Result T Error) : Type 0 where
   -- a success; of no bytes nothing happens
   pub copied : OnOk result (Copied ahead contents n p q w v)
-  pub none : (e : EncoderState) (before : Option (List ℕ)) → HasTaken contents e before w → n ≡ 0 → IsOk result × (q ≡ p) × (v ≡ w)
+  pub none : IfTaken contents w (λ e before. n ≡ 0 → IsOk result × (q ≡ p) × (v ≡ w))
   -- the refusals that leave both as they were: fewer are left, the writer takes fewer or failed before, and the image
   -- was refused before
   pub few : unread_bytes p < n → IsErrOf result UnexpectedBufferEnd × (q ≡ p) × (v ≡ w)
-  pub many : (e : EncoderState) (before : Option (List ℕ)) → HasTaken contents e before w → n ≤ unread_bytes p → missing_bytes w < n
-      → IsErrOf result (InvalidImageLength (length e.raw + n) e.header.width e.header.height) × (q ≡ p) × (v ≡ w)
+  pub many : IfTaken contents w (λ e before. n ≤ unread_bytes p → missing_bytes w < n
+      → IsErrOf result (InvalidImageLength (length e.raw + n) e.header.width e.header.height) × (q ≡ p) × (v ≡ w))
   pub failed : (e : EncoderState) (before : Option (List ℕ)) → HasFailed contents e before w → n ≤ unread_bytes p → IsErrAnd result IsIoError × (q ≡ p) × (v ≡ w)
-  pub spent : (e : EncoderState) (before : Option (List ℕ)) → HasTaken contents e before w → n ≤ missing_bytes w → 0 < n → n ≤ unread_bytes p → IsSpent p
-      → IsErrOf result UnexpectedBufferEnd × (q ≡ p) × (v ≡ w)
+  pub spent : IfTaken contents w (λ e before. n ≤ missing_bytes w → 0 < n → n ≤ unread_bytes p → IsSpent p
+      → IsErrOf result UnexpectedBufferEnd × (q ≡ p) × (v ≡ w))
   -- the others: the image is refused, or the writer fails
-  pub refused : (d : DecoderState R) (start : Option (List ℕ)) (given : List ℕ) (e : EncoderState) (before : Option (List ℕ)) → HasGiven d start (ahead p.reader) given p
-      → HasTaken contents e before w → n ≤ unread_bytes p → n ≤ missing_bytes w → IfErr result (BreaksCopy in_memory ahead contents d start given e before q v)
+  pub refused : IfGiven ahead p (λ d start given. IfTaken contents w (λ e before. n ≤ unread_bytes p → n ≤ missing_bytes w
+      → IfErr result (BreaksCopy in_memory ahead contents d start given e before q v)))
   -- what stays
   pub unchanged : (q.header ≡ p.header) × (q.channels ≡ p.channels)
 
@@ -120,7 +119,6 @@ pub record CopiesRaw {R W T : Type 0} (in_memory : Bool) (ahead : R → Option (
   -- the refusals: an image that was refused before leaves both as they were, and the others are its refusal now and a
   -- fault of the writer
   pub spent : 0 < n → IsSpent p → IsErrOf result UnexpectedBufferEnd × (q ≡ p) × (v ≡ w)
-  pub refused : (d : DecoderState R) (start : Option (List ℕ)) (given : List ℕ) → HasGiven d start (ahead p.reader) given p
-      → IfErr result (BreaksRaw in_memory ahead d start given (contents w) q (contents v))
+  pub refused : IfGiven ahead p (λ d start given. IfErr result (BreaksRaw in_memory ahead d start given (contents w) q (contents v)))
   -- what stays
   pub unchanged : (q.header ≡ p.header) × (q.channels ≡ p.channels)

@@ -54,6 +54,10 @@ pub record GivesSoFar {R : Type 0} (d : DecoderState R) (start now : Option (Lis
 unfoldable pub HasGiven : {R : Type 0} → DecoderState R → Option (List ℕ) → Option (List ℕ) → List ℕ → PixelsState R → Type 0
 HasGiven d start now given p = GivesSoFar d start now given p
 
+-- F holds of each image of which the reader p gave raw bytes: of its decoder, what it began with, and these bytes.
+abbrev pub IfGiven : {R : Type 0} → (R → Option (List ℕ)) → PixelsState R → (DecoderState R → Option (List ℕ) → List ℕ → Type 0) → Type 0
+IfGiven ahead p F = (d : DecoderState _) (start : Option (List ℕ)) (given : List ℕ) → HasGiven d start (ahead p.reader) given p → F d start given
+
 -- Of that image k rows of `stride` bytes were read.
 unfoldable pub HasRows : {R : Type 0} → DecoderState R → Option (List ℕ) → Option (List ℕ) → ℕ → ℕ → PixelsState R → Type 0
 HasRows d start now stride k p = (given : List ℕ) × (length given ≡ stride * k) × HasGiven d start now given p

@@ -48,6 +48,10 @@ pub record TakesSoFar {W : Type 0} (contents : W → Option (List ℕ)) (e : Enc
 unfoldable pub HasTaken : {W : Type 0} → (W → Option (List ℕ)) → EncoderState → Option (List ℕ) → WriterState W → Type 0
 HasTaken contents e before p = TakesSoFar contents e before p
 
+-- F holds of each encoder whose raw bytes the pixel writer took, and of what its writer had before.
+abbrev pub IfTaken : {W : Type 0} → (W → Option (List ℕ)) → WriterState W → (EncoderState → Option (List ℕ) → Type 0) → Type 0
+IfTaken contents p F = (e : EncoderState) (before : Option (List ℕ)) → HasTaken contents e before p → F e before
+
 -- A beginning of the file of each image whose raw bytes begin with those of e was sent.
 abbrev pub SendsSome : EncoderState → Option (List ℕ) → Option (List ℕ) → Type 0
 SendsSome e before now = (more : List ℕ) → length (e.raw ++ more) ≡ image_byte_count e.header → AreBytes more → SendsPart (and_raw e more) before now

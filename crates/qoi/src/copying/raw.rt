@@ -2,13 +2,12 @@
 ghost use Rattle.std.specs.Prelude.{◌≡◌, ℕ, ◌≤◌, ◌<◌, List, ◌++◌, length, min, Option, Some, IfErr, OnOk, IsOk, IsErrAnd};
 ghost use Rattle.std.specs.Io.KnownBytes.{Appends, Consumes};
 ghost use Rattle.qoi.specs.Decoded.{HasDecoded};
-ghost use Rattle.qoi.specs.DecoderState.{DecoderState};
 ghost use Rattle.qoi.specs.EncoderState.{EncoderState};
 ghost use Rattle.qoi.specs.Errors.{IsIoError};
 ghost use Rattle.qoi.specs.Images.{front_image};
 ghost use Rattle.qoi.specs.pieces.Copying.{BreaksInput, CopiesRaw};
-ghost use Rattle.qoi.specs.pieces.PixelReader.{unread_bytes, HasGiven};
-ghost use Rattle.qoi.specs.pieces.PixelWriter.{missing_bytes, and_raw, HasTaken, HasFailed};
+ghost use Rattle.qoi.specs.pieces.PixelReader.{unread_bytes, IfGiven};
+ghost use Rattle.qoi.specs.pieces.PixelWriter.{missing_bytes, and_raw, HasTaken, IfTaken, HasFailed};
 ghost use Rattle.qoi.specs.pieces.Sizes.{copied_at_once};
 
 use crate::copying::PIECE;
@@ -38,14 +37,12 @@ impl<R: Reader> PixelReader<R> {
         ensures copies { CopiesRaw R.in_memory R.ahead W.contents (unread_bytes self.old) self.old
             self.new out.old out.new result }
         // A success: what was read before and the bytes that were written, `more`, are the image.
-        ensures rest { (d : DecoderState R) (start : Option (List ℕ)) (bytes given more : List ℕ)
-            → HasGiven d start (R.ahead self.old.reader) given self.old → start ≡ Some bytes
-            → given ++ more ≡ front_image d.channels d.header bytes
-            → OnOk result (Appends (W.contents out.old) (W.contents out.new) more) }
+        ensures rest { IfGiven R.ahead self.old (λ d start given. (bytes more : List ℕ)
+            → start ≡ Some bytes → given ++ more ≡ front_image d.channels d.header bytes
+            → OnOk result (Appends (W.contents out.old) (W.contents out.new) more)) }
         // So the image was decoded, and the reader stands behind its end marker.
-        ensures decoded { (d : DecoderState R) (start : Option (List ℕ)) (given : List ℕ)
-            → HasGiven d start (R.ahead self.old.reader) given self.old → OnOk result
-            ((rest : List ℕ) × HasDecoded d start (R.ahead self.new.reader) (given ++ rest)) }
+        ensures decoded { IfGiven R.ahead self.old (λ d start given. OnOk result ((rest : List ℕ)
+            × HasDecoded d start (R.ahead self.new.reader) (given ++ rest))) }
     {
         let mut buf = [0; PIECE];
         while self.left() > 0 {
@@ -92,22 +89,18 @@ impl<W: Write + Drop> PixelWriter<W> {
     /// ```
     pub fn copy_raw_from<R: Read>(&mut self, input: &mut R) -> Result<()>
         // A success: the bytes that the reader gave came, and none is missing.
-        ensures taken { (e : EncoderState) (before : Option (List ℕ))
-            → HasTaken W.contents e before self.old → OnOk result ((raw : List ℕ)
+        ensures taken { IfTaken W.contents self.old (λ e before. OnOk result ((raw : List ℕ)
             × Consumes (R.remaining input.old) (R.remaining input.new) raw
-            × HasTaken W.contents (and_raw e raw) before self.new) }
+            × HasTaken W.contents (and_raw e raw) before self.new)) }
         ensures all { OnOk result (missing_bytes self.new ≡ 0) }
         // If none is missing, nothing happens.
-        ensures none { (e : EncoderState) (before : Option (List ℕ))
-            → HasTaken W.contents e before self.old → missing_bytes self.old ≡ 0
-            → IsOk result × (self.new ≡ self.old) × (input.new ≡ input.old) }
+        ensures none { IfTaken W.contents self.old (λ e before. missing_bytes self.old ≡ 0
+            → IsOk result × (self.new ≡ self.old) × (input.new ≡ input.old)) }
 
         // The refusals: the reader or the writer fails; a writer that failed before stays as it
         // was.
-        ensures refused { (e : EncoderState) (before : Option (List ℕ))
-            → HasTaken W.contents e before self.old
-            → IfErr result (BreaksInput W.contents (R.remaining input.old)
-            (R.remaining input.new) e before self.new) }
+        ensures refused { IfTaken W.contents self.old (λ e before. IfErr result (BreaksInput
+            W.contents (R.remaining input.old) (R.remaining input.new) e before self.new)) }
         ensures spent { (e : EncoderState) (before : Option (List ℕ))
             → HasFailed W.contents e before self.old → IsErrAnd result IsIoError
             × (self.new ≡ self.old) × (input.new ≡ input.old) }
@@ -126,15 +119,12 @@ impl<W: Write + Drop> PixelWriter<W> {
         requires some { 0 < length piece.old }
         requires short { length piece.old ≤ copied_at_once }
         requires fits { length piece.old ≤ missing_bytes self.old }
-        ensures taken { (e : EncoderState) (before : Option (List ℕ))
-            → HasTaken W.contents e before self.old → OnOk result ((raw : List ℕ)
+        ensures taken { IfTaken W.contents self.old (λ e before. OnOk result ((raw : List ℕ)
             × Consumes (R.remaining input.old) (R.remaining input.new) raw
-            × HasTaken W.contents (and_raw e raw) before self.new) }
+            × HasTaken W.contents (and_raw e raw) before self.new)) }
         ensures less { OnOk result (missing_bytes self.new < missing_bytes self.old) }
-        ensures refused { (e : EncoderState) (before : Option (List ℕ))
-            → HasTaken W.contents e before self.old
-            → IfErr result (BreaksInput W.contents (R.remaining input.old)
-            (R.remaining input.new) e before self.new) }
+        ensures refused { IfTaken W.contents self.old (λ e before. IfErr result (BreaksInput
+            W.contents (R.remaining input.old) (R.remaining input.new) e before self.new)) }
     {
         let count = input.read(piece)?;
         if count == 0 {

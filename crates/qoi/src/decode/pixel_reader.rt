@@ -4,7 +4,7 @@ ghost use Rattle.std.specs.Prelude.{◌*◌, ◌≡◌, ℕ, ◌+◌, ◌-◌, �
 ghost use Rattle.qoi.specs.Decoded.{HasDecoded};
 ghost use Rattle.qoi.specs.DecoderState.{DecoderState, output_byte_count};
 ghost use Rattle.qoi.specs.Images.{front_image, front_rest};
-ghost use Rattle.qoi.specs.pieces.PixelReader.{PixelsState, as_decoder, unread_bytes, HasGiven, HasRows, ReadsUpTo, RefusesPixels, RefusesPiece, StopsAt, IsSpent};
+ghost use Rattle.qoi.specs.pieces.PixelReader.{PixelsState, as_decoder, unread_bytes, HasGiven, IfGiven, HasRows, ReadsUpTo, RefusesPixels, RefusesPiece, StopsAt, IsSpent};
 ghost use Rattle.qoi.specs.Qoi.{Error, channels_number, pixels_max};
 ghost use Rattle.qoi.specs.pieces.Unread.{bytes_left, IsRestOf, KeepsPixels, Asks, Steps};
 ghost use Rattle.qoi.specs.Reading.{StandsAhead, IsCutAhead, IsWrongAhead, SaysWhy};
@@ -172,17 +172,14 @@ impl<R: Reader> PixelReader<R> {
         ensures most { result ≤ 4 * pixels_max }
         ensures within { result ≤ output_byte_count (as_decoder self.now) }
         // If none are left, the decoder's image was decoded, and these are its bytes.
-        ensures all { (d : DecoderState R) (start : Option (List ℕ)) (given : List ℕ)
-            → HasGiven d start (R.ahead self.now.reader) given self.now → result ≡ 0
-            → HasDecoded d start (R.ahead self.now.reader) given }
-        ensures image { (d : DecoderState R) (start : Option (List ℕ)) (bytes given : List ℕ)
-            → HasGiven d start (R.ahead self.now.reader) given self.now → start ≡ Some bytes
-            → result ≡ 0 → given ≡ front_image d.channels d.header bytes }
+        ensures all { IfGiven R.ahead self.now (λ d start given. result ≡ 0
+            → HasDecoded d start (R.ahead self.now.reader) given) }
+        ensures image { IfGiven R.ahead self.now (λ d start given. (bytes : List ℕ)
+            → start ≡ Some bytes → result ≡ 0 → given ≡ front_image d.channels d.header bytes) }
         // Before: what was read and what is left are as many bytes as the image has, and what was
         // read is its front.
-        ensures of_image { (d : DecoderState R) (start : Option (List ℕ)) (given : List ℕ)
-            → HasGiven d start (R.ahead self.now.reader) given self.now
-            → length given + result ≡ output_byte_count d }
+        ensures of_image { IfGiven R.ahead self.now (λ d start given.
+            length given + result ≡ output_byte_count d) }
         ensures front { (d : DecoderState R) (bytes given : List ℕ)
             → HasGiven d (Some bytes) (R.ahead self.now.reader) given self.now
             → given ≡ take (length given) (front_image d.channels d.header bytes) }
@@ -206,10 +203,8 @@ impl<R: Reader> PixelReader<R> {
     #[tactic(auto, unfolding(crate::specs::pieces::PixelReader::unread_bytes))]
     pub fn read(&mut self, buf: &mut [u8]) -> Result<usize>
         // A success: the bytes follow those that were read before.
-        ensures read { (d : DecoderState R) (start : Option (List ℕ)) (given : List ℕ)
-            → HasGiven d start (R.ahead self.old.reader) given self.old
-            → IfOk result (λ size.
-            HasGiven d start (R.ahead self.new.reader) (given ++ take size buf.new) self.new) }
+        ensures read { IfGiven R.ahead self.old (λ d start given. IfOk result (λ size.
+            HasGiven d start (R.ahead self.new.reader) (given ++ take size buf.new) self.new)) }
         // In the image they are those behind the bytes that were read before.
         ensures follows { (d : DecoderState R) (bytes given : List ℕ)
             → HasGiven d (Some bytes) (R.ahead self.old.reader) given self.old
@@ -238,10 +233,8 @@ impl<R: Reader> PixelReader<R> {
             → (result ≡ Ok 0) × (self.new ≡ self.old) }
 
         // The refusals: those of the image, and then no more of it is read. Bytes in memory stay.
-        ensures refused { (d : DecoderState R) (start : Option (List ℕ)) (given : List ℕ)
-            → HasGiven d start (R.ahead self.old.reader) given self.old
-            → IfErr result (RefusesPiece R.in_memory d start given (length buf.old)
-            (R.ahead self.new.reader)) }
+        ensures refused { IfGiven R.ahead self.old (λ d start given. IfErr result
+            (RefusesPiece R.in_memory d start given (length buf.old) (R.ahead self.new.reader))) }
         ensures stops { OnErr result (StopsAt R.in_memory R.ahead self.old self.new) }
         ensures again { IsSpent self.old → 0 < length buf.old
             → IsErrOf result Error.UnexpectedBufferEnd
@@ -303,10 +296,8 @@ impl<R: Reader + Drop> PixelReader<R> {
     /// with its reader, so no contract can say where that stood.
     pub fn finish(mut self) -> Result<Decoder<R>>
         // A success: the bytes that were read, and others, are the image.
-        ensures finished { (d : DecoderState R) (start : Option (List ℕ)) (given : List ℕ)
-            → HasGiven d start (R.ahead self.reader) given self
-            → IfOk result (λ decoder. (rest : List ℕ)
-            × HasDecoded d start (R.ahead decoder.reader) (given ++ rest)) }
+        ensures finished { IfGiven R.ahead self (λ d start given. IfOk result (λ decoder.
+            (rest : List ℕ) × HasDecoded d start (R.ahead decoder.reader) (given ++ rest))) }
         // If nothing was read before, the image stood ahead, and the decoder goes on behind it.
         ensures passed { HasGiven (as_decoder self) (R.ahead self.reader) (R.ahead self.reader) []
             self → IfOk result (λ decoder. IfSome (R.ahead self.reader) (λ bytes.
@@ -318,10 +309,8 @@ impl<R: Reader + Drop> PixelReader<R> {
             decoder ≡ record (as_decoder self) { reader = decoder.reader }) }
 
         // The refusals: those of the image, now or before.
-        ensures refused { (d : DecoderState R) (start : Option (List ℕ)) (given : List ℕ)
-            → HasGiven d start (R.ahead self.reader) given self
-            → IfErr result (λ e. (new : Option (List ℕ))
-            × RefusesPixels R.in_memory d start new e) }
+        ensures refused { IfGiven R.ahead self (λ d start given. IfErr result (λ e.
+            (new : Option (List ℕ)) × RefusesPixels R.in_memory d start new e)) }
         ensures missing { HasGiven (as_decoder self) (R.ahead self.reader) (R.ahead self.reader) []
             self → IsTrue R.in_memory → OnErr result (IfSome (R.ahead self.reader) (λ bytes.
             StandsAhead self.header bytes → ⊥)) }

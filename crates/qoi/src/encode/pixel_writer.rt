@@ -9,7 +9,7 @@ ghost use Rattle.qoi.specs.Sent.{SendsFile, SendsPart, SendsSomeFile};
 ghost use Rattle.qoi.specs.Styles.{Style};
 ghost use Rattle.qoi.specs.EncoderState.{EncoderState};
 ghost use Rattle.qoi.specs.inner.Sending.{pixel_size, EndsOpaque};
-ghost use Rattle.qoi.specs.pieces.PixelWriter.{WriterState, HasTaken, HasFailed, RefusesRaw, SendsSome, and_raw, missing_bytes};
+ghost use Rattle.qoi.specs.pieces.PixelWriter.{WriterState, HasTaken, IfTaken, HasFailed, RefusesRaw, SendsSome, and_raw, missing_bytes};
 
 mod sending;
 mod workspace;
@@ -132,9 +132,8 @@ impl<W: Write + Drop> PixelWriter<W> {
     #[tactic(auto, unfolding(crate::specs::pieces::PixelWriter::HasTaken))]
     pub fn left(&self) -> usize
         ensures left { result ≡ missing_bytes self.now }
-        ensures of_image { (e : EncoderState) (before : Option (List ℕ))
-            → HasTaken W.contents e before self.now
-            → length e.raw + result ≡ image_byte_count e.header }
+        ensures of_image { IfTaken W.contents self.now (λ e before.
+            length e.raw + result ≡ image_byte_count e.header) }
     {
         self.left
     }
@@ -151,10 +150,9 @@ impl<W: Write + Drop> PixelWriter<W> {
     #[tactic(auto, unfolding(crate::specs::pieces::PixelWriter::HasTaken))]
     pub fn write(&mut self, raw: &[u8]) -> Result<()>
         // A success: these raw bytes came, too.
-        ensures taken { (e : EncoderState) (before : Option (List ℕ))
-            → HasTaken W.contents e before self.old
-            → OnOk result (HasTaken W.contents (and_raw e raw.now) before self.new) }
-        // Behind others, as a call before this one took them.
+        ensures taken { IfTaken W.contents self.old (λ e before.
+            OnOk result (HasTaken W.contents (and_raw e raw.now) before self.new)) }
+        // It follows, behind others that a call before this one took.
         ensures joined { (e : EncoderState) (before : Option (List ℕ)) (first all : List ℕ)
             → HasTaken W.contents (and_raw e first) before self.old → all ≡ first ++ raw.now
             → OnOk result (HasTaken W.contents (and_raw e all) before self.new) }
@@ -162,9 +160,8 @@ impl<W: Write + Drop> PixelWriter<W> {
             (missing_bytes self.new + length raw.now ≡ missing_bytes self.old) }
 
         // The refusals: a fault, if the bytes fit, or too many bytes; and any call after a fault.
-        ensures refused { (e : EncoderState) (before : Option (List ℕ))
-            → HasTaken W.contents e before self.old
-            → IfErr result (RefusesRaw W.contents e raw.now before self.new) }
+        ensures refused { IfTaken W.contents self.old (λ e before.
+            IfErr result (RefusesRaw W.contents e raw.now before self.new)) }
         ensures spent { (e : EncoderState) (before : Option (List ℕ))
             → HasFailed W.contents e before self.old
             → IsErrAnd result IsIoError × (self.new ≡ self.old) }
@@ -198,10 +195,9 @@ impl<W: Write + Drop> PixelWriter<W> {
     pub(crate) fn check_room(&self, more: usize) -> Result<()>
         requires { more ≤ 4 * pixels_max }
         ensures room { OnOk result (more ≤ missing_bytes self.now) }
-        ensures many { (e : EncoderState) (before : Option (List ℕ))
-            → HasTaken W.contents e before self.now → IfErr result (λ error. (error
+        ensures many { IfTaken W.contents self.now (λ e before. IfErr result (λ error. (error
             ≡ Error.InvalidImageLength (length e.raw + more) e.header.width e.header.height)
-            × (missing_bytes self.now < more)) }
+            × (missing_bytes self.now < more))) }
         ensures spent { (e : EncoderState) (before : Option (List ℕ))
             → HasFailed W.contents e before self.now → IsErrAnd result IsIoError }
     {
@@ -235,27 +231,22 @@ impl<W: Write + Drop> PixelWriter<W> {
     /// `left` isn't 0 call `into_writer` to get it back.
     pub fn finish(self) -> Result<W>
         // A success: all raw bytes came, and the file was sent, which `file` says as a function.
-        ensures sent { (e : EncoderState) (before : Option (List ℕ))
-            → HasTaken W.contents e before self
-            → IfOk result (λ w. (n : ℕ) × SendsFile e before (W.contents w) n) }
-        ensures file { (e : EncoderState) (before : Option (List ℕ))
-            → HasTaken W.contents e before self → IfOk result (λ w.
-            Appends before (W.contents w) (image_file e.style e.header e.raw)) }
+        ensures sent { IfTaken W.contents self (λ e before.
+            IfOk result (λ w. (n : ℕ) × SendsFile e before (W.contents w) n)) }
+        ensures file { IfTaken W.contents self (λ e before. IfOk result (λ w.
+            Appends before (W.contents w) (image_file e.style e.header e.raw))) }
         // The same by its parts: the prover finds them where a call before this one copied.
         ensures parts { (raw : List ℕ) (h : Header) (style : Style) (before : Option (List ℕ))
             → HasTaken W.contents (record { raw = raw; header = h; style = style }) before self
             → IfOk result (λ w. Appends before (W.contents w) (image_file style h raw)) }
-        ensures some { (e : EncoderState) (before : Option (List ℕ))
-            → HasTaken W.contents e before self → IfOk result (λ w.
-            SendsSomeFile e.style e.header before (W.contents w)) }
+        ensures some { IfTaken W.contents self (λ e before. IfOk result (λ w.
+            SendsSomeFile e.style e.header before (W.contents w))) }
 
         // The refusals: a fault, if all bytes came, or too few bytes; and after a fault any call.
-        ensures refused { (e : EncoderState) (before : Option (List ℕ))
-            → HasTaken W.contents e before self
-            → IfErr result (λ error.
+        ensures refused { IfTaken W.contents self (λ e before. IfErr result (λ error.
             (IsIoError error × (length e.raw ≡ image_byte_count e.header))
             ⊎ ((error ≡ Error.InvalidImageLength (length e.raw) e.header.width e.header.height)
-            × (length e.raw < image_byte_count e.header))) }
+            × (length e.raw < image_byte_count e.header)))) }
         ensures spent { (e : EncoderState) (before : Option (List ℕ))
             → HasFailed W.contents e before self → IsErrAnd result IsIoError }
     {
@@ -268,9 +259,8 @@ impl<W: Write + Drop> PixelWriter<W> {
     // of a writer that is dropped.
     #[tactic(auto, unfolding(crate::specs::pieces::PixelWriter::HasTaken))]
     fn send_rest(&mut self) -> Result<()>
-        ensures sent { (e : EncoderState) (before : Option (List ℕ))
-            → HasTaken W.contents e before self.old
-            → OnOk result ((n : ℕ) × SendsFile e before (W.contents self.new.writer) n) }
+        ensures sent { IfTaken W.contents self.old (λ e before.
+            OnOk result ((n : ℕ) × SendsFile e before (W.contents self.new.writer) n)) }
         ensures all { OnOk result (self.old.left ≡ 0) }
 
         // The refusals: too few bytes, and then nothing is sent, or a fault.
@@ -279,10 +269,9 @@ impl<W: Write + Drop> PixelWriter<W> {
             (image_byte_count self.old.header - self.old.left)
             self.old.header.width self.old.header.height)
             × (0 < self.old.left) × (self.new ≡ self.old))) }
-        ensures part { (e : EncoderState) (before : Option (List ℕ))
-            → HasTaken W.contents e before self.old
-            → IfErr result (λ error. IsIoError error
-            → (self.old.left ≡ 0) × SendsPart e before (W.contents self.new.writer)) }
+        ensures part { IfTaken W.contents self.old (λ e before. IfErr result (λ error.
+            IsIoError error
+            → (self.old.left ≡ 0) × SendsPart e before (W.contents self.new.writer))) }
         ensures spent { IsTrue self.old.failed
             → IsErrAnd result IsIoError × (self.new ≡ self.old) }
     {

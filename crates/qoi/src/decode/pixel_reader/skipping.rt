@@ -4,7 +4,7 @@ ghost use Rattle.qoi.specs.DecoderState.{DecoderState};
 ghost use Rattle.qoi.specs.Qoi.{Error};
 ghost use Rattle.qoi.specs.Rectangles.{row_size};
 ghost use Rattle.qoi.specs.pieces.Copying.{rows_size, Gives};
-ghost use Rattle.qoi.specs.pieces.PixelReader.{unread_bytes, HasGiven, HasRows, RefusesPiece, IsSpent};
+ghost use Rattle.qoi.specs.pieces.PixelReader.{unread_bytes, IfGiven, HasRows, RefusesPiece, IsSpent};
 ghost use Rattle.qoi.specs.pieces.Skipping.{StopsWithin};
 
 use crate::decode::pixel_reader::PixelReader;
@@ -49,11 +49,9 @@ impl<R: Reader> PixelReader<R> {
         ensures spent { 0 < rows_size self.old rows → IsSpent self.old
             → IsErrOf result Error.UnexpectedBufferEnd × (self.new ≡ self.old) }
         // The others: those of the image, within these rows, and then no more of it is read.
-        ensures refused { (d : DecoderState R) (start : Option (List ℕ)) (given : List ℕ)
-            → HasGiven d start (R.ahead self.old.reader) given self.old
-            → rows_size self.old rows ≤ unread_bytes self.old
-            → IfErr result (RefusesPiece R.in_memory d start given (rows_size self.old rows)
-            (R.ahead self.new.reader)) }
+        ensures refused { IfGiven R.ahead self.old (λ d start given.
+            rows_size self.old rows ≤ unread_bytes self.old → IfErr result (RefusesPiece
+            R.in_memory d start given (rows_size self.old rows) (R.ahead self.new.reader))) }
         ensures within { rows_size self.old rows ≤ unread_bytes self.old → OnErr result
             (StopsWithin R.in_memory R.ahead (rows_size self.old rows) self.old self.new) }
 
@@ -77,10 +75,8 @@ impl<R: Reader> PixelReader<R> {
         ensures none { count ≡ 0 → IsOk result × (self.new ≡ self.old) }
         ensures spent { 0 < count → IsSpent self.old
             → IsErrOf result Error.UnexpectedBufferEnd × (self.new ≡ self.old) }
-        ensures refused { (d : DecoderState R) (start : Option (List ℕ)) (given : List ℕ)
-            → HasGiven d start (R.ahead self.old.reader) given self.old
-            → IfErr result (RefusesPiece R.in_memory d start given count
-            (R.ahead self.new.reader)) }
+        ensures refused { IfGiven R.ahead self.old (λ d start given. IfErr result
+            (RefusesPiece R.in_memory d start given count (R.ahead self.new.reader))) }
         ensures within { OnErr result
             (StopsWithin R.in_memory R.ahead count self.old self.new) }
         ensures unchanged { (self.new.header ≡ self.old.header)

@@ -46,7 +46,7 @@ returns-in_err-check_room g c =
       many = λ e before t _ _. (handed_as _ c.from_residual.ensures.1 (many e before t).0, refl, refl);
       failed = λ e before f _. (handed_and _ _ c.from_residual.ensures.1 (c.in_err-check_room.ensures.spent e before f), refl, refl);
       spent = λ e before t fits _ _ _. absurd (omega (arith, fits, (many e before t).1));
-      refused = λ d start given e before h t _ fits. absurd (omega (arith, fits, (many e before t).1));
+      refused = λ d start given h e before t _ fits. absurd (omega (arith, fits, (many e before t).1));
       unchanged = (refl, refl);
     }
 
@@ -60,10 +60,10 @@ returns-in_err-copy_piece g c =
       many = λ e before t _ more. absurd (omega (arith, more, c.in_ok-check_room.ensures.room));
       failed = λ e before f _. absurd (c.in_ok-check_room.ensures.spent e before f);
       spent = first_of (search rules, grind (arith, common_steps));
-      refused = λ d start given e before h t _ _.
+      refused = λ d start given h e before t _ _.
           handed_on _ _ _ c.from_residual-in_err-copy_piece.ensures.1
           (breaks_later g.R.Reader.in_memory g.R.Reader.ahead g.W.Write.contents d start given e before i.more c.copy_piece.new.self c.copy_piece.new.writer _
-          (c.in_err-copy_piece.ensures.refused d start (given ++ i.more) (and_raw e i.more) before (i.given d start given h) (i.taken e before t)));
+          (c.in_err-copy_piece.ensures.refused d start (given ++ i.more) (i.given d start given h) (and_raw e i.more) before (i.taken e before t)));
       unchanged = first_of (search rules, grind (arith, common_steps));
     }
 

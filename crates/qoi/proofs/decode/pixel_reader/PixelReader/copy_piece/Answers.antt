@@ -9,7 +9,7 @@ use Rattle.qoi.proofs.decoding.Refusals.{handed_on}
 use Rattle.qoi.proofs.decode.pixel_reader.PixelReader.copy_piece.Goals as goal
 
 pub returns-in_err-read-clause-refused : goal.returns-in_err-read-clause-refused
-returns-in_err-read-clause-refused g c d start given e before h t =
+returns-in_err-read-clause-refused g c d start given h e before t =
     handed_on _ _ _ c.from_residual.ensures.1 (
       [],
       inl (
@@ -21,7 +21,7 @@ returns-in_err-read-clause-refused g c d start given e before h t =
 
 pub returns-clause-refused : goal.returns-clause-refused
 unfolding HasTaken
-returns-clause-refused g c d start given e before h t =
+returns-clause-refused g c d start given h e before t =
     let piece = c.read.new.buf in
     let size = c.in_ok-read.field-0 in
     let read = subst (λ x. HasGiven d start (g.R.Reader.ahead c.read.new.self.reader) (given ++ x) c.read.new.self)

@@ -43,7 +43,7 @@ returns-clause-decoded g c d start given h =
     (i.more, decoded_all d start _ (given ++ i.more) c.loop-buf.self (i.given d start given h) (omega (arith, c.left.ensures.left, c.loop-buf-test.false)))
 
 pub returns-clause-rest : goal.returns-clause-rest
-returns-clause-rest g c d start bytes given more h is image =
+returns-clause-rest g c d start given h bytes more is image =
     let i = c.loop-buf.invariant in
     let none : unread_bytes c.loop-buf.self ≡ 0 = omega (arith, c.left.ensures.left, c.loop-buf-test.false) in
     subst (Appends (g.W.Write.contents c.args.out.now) (g.W.Write.contents c.loop-buf.out))

@@ -19,7 +19,7 @@ returns-clause-decoded g c d start given h =
     c.copy_bytes.ensures.copied
 
 pub returns-clause-rest : goal.returns-clause-rest
-returns-clause-rest g c d start bytes given more h is image =
+returns-clause-rest g c d start given h bytes more is image =
     on_ok_weaker c.copy_bytes.result
     (λ x. let none : unread_bytes c.copy_bytes.new.self ≡ 0 = omega (arith, x.left, c.left-left.ensures.left) in
     subst (λ z. Takes g.W.Write.contents z c.args.writer.now c.copy_bytes.new.writer)
