@@ -120,7 +120,7 @@ pub record HasDecodedFile (bytes : List ℕ) (h : Header) (out : List ℕ) : Typ
   pub not_cut : AreCut (pixel_count h) (drop header_size bytes) → ⊥
   -- nor wrong
   pub not_wrong : AreWrong (pixel_count h) (drop header_size bytes) → ⊥
-  -- they aren't what an encoder made without its last byte
+  -- they aren't what an encoder made without its last byte: it follows from `not_part`
   pub not_without_last : (e : EncoderState) (whole : List ℕ) → MakesFile e whole → bytes ≡ take (length whole - 1) whole → ⊥
   -- nor a shorter part of it
   pub not_part : (e : EncoderState) (whole : List ℕ) (n : ℕ) → MakesFile e whole → bytes ≡ take n whole → n < length whole → ⊥

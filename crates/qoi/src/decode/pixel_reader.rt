@@ -210,7 +210,8 @@ impl<R: Reader> PixelReader<R> {
             → HasGiven d (Some bytes) (R.ahead self.old.reader) given self.old
             → IfOk result (λ size. take size buf.new
             ≡ take size (drop (length given) (front_image d.channels d.header bytes))) }
-        // A buffer of a row that is filled: behind k rows of the image it is row k.
+        // A buffer of a row that is filled: behind k rows of the image it is row k. It follows from
+        // the next two, for one row.
         ensures rows { (d : DecoderState R) (start : Option (List ℕ)) (stride k : ℕ)
             → HasRows d start (R.ahead self.old.reader) stride k self.old
             → length buf.old ≡ stride → IfOk result (λ size. stride ≤ size

@@ -230,7 +230,8 @@ impl<W: Write + Drop> PixelWriter<W> {
     /// nothing is sent; `IoError` as in `write`. After a refusal the writer is dropped, so while
     /// `left` isn't 0 call `into_writer` to get it back.
     pub fn finish(self) -> Result<W>
-        // A success: all raw bytes came, and the file was sent, which `file` says as a function.
+        // A success: all raw bytes came, and the file was sent, which `file` says as a function. It
+        // follows from `parts`.
         ensures sent { IfTaken W.contents self (λ e before.
             IfOk result (λ w. (n : ℕ) × SendsFile e before (W.contents w) n)) }
         ensures file { IfTaken W.contents self (λ e before. IfOk result (λ w.
