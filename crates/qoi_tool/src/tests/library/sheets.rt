@@ -1,6 +1,7 @@
 //! A contact sheet: the images of many files, one below the other, are encoded as one, in constant
-//! memory. Only the loop has a proof file, with its invariant.
-ghost use Rattle.std.specs.Prelude.{◌≡◌, ℕ, List, Ok, Option, IfOk, OnOk};
+//! memory; or pictures beside each other, row by row. Only the loops have a proof file, with their
+//! invariants.
+ghost use Rattle.std.specs.Prelude.{◌≡◌, ℕ, List, Ok, Option, IfOk, OnOk, take, drop};
 ghost use Rattle.std.specs.List.{flat_map};
 ghost use Rattle.std.specs.Io.KnownBytes.{Appends};
 ghost use Rattle.qoi.specs.declared.header.Header.{Header};
@@ -51,6 +52,31 @@ pub fn append_files<W: Write + Drop>(files: &[&[u8]], sheet: &mut PixelWriter<W>
     Ok(())
 }
 
+/// Encodes a row of pictures that stand beside each other, behind what the sheet took: of each so many
+/// raw bytes, behind so many.
+pub fn append_row<W: Write + Drop>(
+    pictures: &[&[u8]],
+    above: usize,
+    size: usize,
+    sheet: &mut PixelWriter<W>,
+) -> Result<()>
+    ensures { (e : EncoderState) (before : Option (List ℕ))
+        → HasTaken W.contents e before sheet.old → OnOk result (HasTaken W.contents
+        (and_raw e (flat_map (λ p. take size (drop above p.now)) pictures.now)) before
+        sheet.new) }
+{
+    for p in pictures {
+        let Some(rest) = p.get(above..) else {
+            return Err(Error::UnexpectedBufferEnd);
+        };
+        let Some(row) = rest.get(..size) else {
+            return Err(Error::UnexpectedBufferEnd);
+        };
+        sheet.write(row)?;
+    }
+    Ok(())
+}
+
 /// The file, with this header, of the images of files, one below the other. Each has its width, and
 /// they have its height together.
 pub fn contact_sheet<W: Write + Drop>(
@@ -93,4 +119,27 @@ fn three_pictures(rt: HostRuntime) {
     let narrow = made::encoded(&rt, alloc, b"new", 1, 1);
     let other: [&[u8]; 3] = [&first, &second, &narrow];
     assert!(&rt; contact_sheet(alloc, header, &other, Vec::new(alloc)).is_err());
+}
+
+// Three pictures of a pixel's width, beside each other: both of their rows, and a third, which they lack.
+#[test]
+fn pictures_beside_each_other(rt: HostRuntime) {
+    let alloc = rt.alloc();
+    let header = Header {
+        height: 2,
+        ..row(3, Channels::Rgb)
+    };
+    let sheet = PixelWriter::new(alloc, header, Style::Reference, Vec::new(alloc));
+    let mut sheet = sheet.expect(&rt, "refused");
+    let pictures: [&[u8]; 3] = [b"abcdef", b"ABCDEF", b"123456"];
+    append_row(&pictures, 0, 3, &mut sheet).expect(&rt, "refused");
+    append_row(&pictures, 3, 3, &mut sheet).expect(&rt, "refused");
+    assert!(&rt; append_row(&pictures, 6, 3, &mut sheet).is_err());
+    let file = sheet.finish().expect(&rt, "refused");
+    assert_decoded(
+        &rt,
+        alloc,
+        &mut made::slice(&rt, &file),
+        b"abcABC123defDEF456",
+    );
 }
