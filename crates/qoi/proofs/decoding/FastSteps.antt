@@ -60,11 +60,11 @@ one_more false size s = omega (arith, s)
 pub full_size : (b size : ℕ) → b < 256 → size ≡ bool_byte (nat_eq b 255) → (b < 255 → size ≡ 0) × (255 ≤ b → size ≡ 1)
 full_size b size low is = (λ less. grind (arith, nat_tests), λ more. grind (arith, nat_tests))
 
--- A chunk's pixel was put into the table and is stored, as often as is asked for and a vector holds;
+-- A chunk's pixel was put into the table and is stored, as often as is asked for, `most` times at most;
 -- its first byte is at hand, and so is the byte after the chunk.
-pub record Stores {N F : ℕ} (bytes : List ℕ) (now : Progress N F) (table out : List ℕ) (new : Progress N F) (table' out' : List ℕ) : Type 0 where
+pub record Stores {N F : ℕ} (most : ℕ) (bytes : List ℕ) (now : Progress N F) (table out : List ℕ) (new : Progress N F) (table' out' : List ℕ) : Type 0 where
   pub put : (past : Past) → HoldsSeen table past → HoldsSeen table' (pixel_of_lanes new.last ∷ past)
-  pub stored : (count : ℕ) → count ≤ 16 / N → HasCopies F N now.at count new.last out out'
+  pub stored : (count : ℕ) → count ≤ most → HasCopies F N now.at count new.last out out'
   pub size : length out' ≡ length out
   pub next : new.next ≡ get_or bytes new.taken 0
   pub fits : AreBytes bytes
@@ -110,12 +110,12 @@ step_within a least most room = record {
 }
 
 -- an RGB or RGBA chunk of `size` bytes, with the pixel that it has after the last one
-pub full_step : {N F : ℕ} {bytes table table' out out' : List ℕ} (now new : Progress N F) (size : ℕ) → HasAhead 6 16 bytes out now
-    → Stores bytes now table out new table' out' → 254 ≤ now.next → new.at ≡ now.at + N → new.taken ≡ now.taken + size
+pub full_step : {N F k : ℕ} {bytes table table' out out' : List ℕ} (now new : Progress N F) (size : ℕ) → HasAhead k 16 bytes out now → 6 ≤ k
+    → Stores 1 bytes now table out new table' out' → 254 ≤ now.next → new.at ≡ now.at + N → new.taken ≡ now.taken + size
     → (now.next ≡ 254 → size ≡ 4) → (now.next ≡ 255 → size ≡ 5)
     → IsAfterFull now.next (take (length bytes - now.taken) (drop now.taken bytes)) (pixel_of_lanes now.last) (pixel_of_lanes new.last)
     → FastStep 4 5 4 bytes now table out new table' out'
-full_step {N} {bytes = bytes} {out = out} now new size ahead s full at taken four five px =
+full_step {N} {bytes = bytes} {out = out} now new size ahead some s full at taken four five px =
     let is = ahead.three_or_four in
     let one = (in_vector N is).0 in
     let rest = drop now.taken bytes in
@@ -126,12 +126,12 @@ full_step {N} {bytes = bytes} {out = out} now new size ahead s full at taken fou
       | inr more ↦ let e = five (omega (arith, more, ahead.byte)) in (omega (arith, e), omega (arith, e))
     ] in
     step_within (fast_step {room = 4} now new 1 size is ahead.whole (omega (arith, ahead.room_is)) (block_fits N now.at 1 (length out) is one ahead.room_is) s.size
-    (omega (arith, at)) (by_channels (λ d. d * 1 ≤ 4) is (omega arith) (omega arith)) s.put (s.stored 1 one) s.next (omega (arith, s.next, s.fits new.taken)) taken
-    (λ first. decodes_full rest now.next size (omega (arith, ahead.input_is, length-drop now.taken bytes)) fits first full four five read)) bounds.0 bounds.1 (omega arith)
+    (omega (arith, at)) (by_channels (λ d. d * 1 ≤ 4) is (omega arith) (omega arith)) s.put (s.stored 1 (omega arith)) s.next (omega (arith, s.next, s.fits new.taken)) taken
+    (λ first. decodes_full rest now.next size (omega (arith, ahead.input_is, some, length-drop now.taken bytes)) fits first full four five read)) bounds.0 bounds.1 (omega arith)
 
 -- a short chunk of `size` bytes, with the pixel that it has after the last one
 pub short_step : {N F k : ℕ} {bytes table table' out out' : List ℕ} (now new : Progress N F) (size adds : ℕ) → HasAhead k 16 bytes out now → 2 ≤ k
-    → Stores bytes now table out new table' out' → now.next ≤ 191 + 16 / N → new.at ≡ now.at + adds → IsAdvance N now.next adds → new.taken ≡ now.taken + size
+    → Stores (16 / N) bytes now table out new table' out' → now.next ≤ 191 + 16 / N → new.at ≡ now.at + adds → IsAdvance N now.next adds → new.taken ≡ now.taken + size
     → HasSize now.next size
     → IsAfterShort now.next (get_or bytes (now.taken + 1) 0) table (pixel_of_lanes now.last) (pixel_of_lanes new.last)
     → FastStep size size 16 bytes now table out new table' out'

@@ -80,6 +80,16 @@ pub four_bytes_written : (f c : ℕ) (p : RgbaPixel) (out bytes : List ℕ) (at 
     (get_or both 0 0 ∷ get_or both 1 0 ∷ get_or both 2 0 ∷ get_or both 3 0 ∷ []))) (at + c) (p ∷ []))
 four_bytes_written f c p out bytes at e room is = rw (is, e) (record { at_is = omega arith; same = bytes_put 4 at 4 out _ (omega (arith, e, room)) refl (omega arith) })
 
+-- a pixel once, by four bytes that begin with its own
+pub read_bytes_written : (f c px : ℕ) (out bytes : List ℕ) (at : ℕ) → IsChannels c → at + 4 ≤ length out → length bytes ≡ 4
+    → take c bytes ≡ output f c (pixel_of_lanes px ∷ [])
+    → HasCopies f c at 1 px out (put_mid at (at + 4 - at) out (put_chunk 0 (take (at + 4 - at) (drop at out)) bytes))
+read_bytes_written f c px out bytes at is room size e = record {
+  at_is = refl;
+  same = by_channels (λ d. take (at + d * 1) (put_mid at (at + 4 - at) out (put_chunk 0 (take (at + 4 - at) (drop at out)) bytes)) ≡ take at out ++ take d bytes) is
+      (bytes_put 4 at 3 out bytes room size (omega arith)) (bytes_put 4 at 4 out bytes room size (omega arith)) ∙ ap (λ z. take at out ++ z) e;
+}
+
 -- no copies
 pub written_none : (f c : ℕ) (old : List ℕ) (at px : ℕ) → HasCopies f c at 0 px old old
 written_none f c old at px = record { at_is = refl; same = let none : at + c * 0 ≡ at = omega arith in rw none (sym (append-nil (take at old))) }

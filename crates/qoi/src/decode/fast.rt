@@ -44,10 +44,10 @@ pub(super) fn is_short<const N: usize>(b1: u8) -> bool
     b1 <= (QOI_OP_RUN - 1) + (16 / N) as u8
 }
 
-/// Whether a run with this first byte has fewer bytes of pixels than there is room for.
+// Whether a run with this first byte has fewer bytes of pixels than there is room for.
 #[inline(always)]
 #[tactic(auto, using(crate::proofs::decoding::FastSteps::run_below))]
-pub(super) fn leaves_room<const N: usize>(b1: u8, room: usize) -> bool
+fn leaves_room<const N: usize>(b1: u8, room: usize) -> bool
     requires channels { IsChannels N }
     requires run { (run_tag ≤ b1) × (b1 < rgb_tag) }
     ensures { IsTrue result ↔ (N * (b1 - (run_tag - 1)) < room) }
@@ -187,7 +187,7 @@ impl<const N: usize, const F: usize> Progress<N, F> {
         let four = bytes[self.taken + 4];
         let last = self
             .last
-            .after_full(self.next as usize, &bytes[self.taken..]);
+            .after_full::<4>(self.next as usize, &bytes[self.taken..]);
         table.put(last);
         store_vector::<N, F>(out, self.at, last);
         let five = bytes[self.taken + 5];
@@ -200,10 +200,10 @@ impl<const N: usize, const F: usize> Progress<N, F> {
         }
     }
 
-    /// Decodes a run that a vector doesn't hold, and that doesn't fill the output: by the vectors of
-    /// any run, if those have room.
+    // Decodes a run that a vector doesn't hold, and that doesn't fill the output: by the vectors of
+    // any run, if those have room.
     #[inline(always)]
-    pub(super) fn long_run(self, table: &mut TermTable, bytes: &[u8], out: &mut [u8]) -> Self
+    fn long_run(self, table: &mut TermTable, bytes: &[u8], out: &mut [u8]) -> Self
         requires ahead { HasAhead 2 (N * (self.next - (run_tag - 1)) + 1) bytes.now out.old self }
         requires run { (run_tag ≤ self.next) × (self.next < rgb_tag) }
         ensures step { FastStep 1 1 (N * (self.entry.next - (run_tag - 1))) bytes.now

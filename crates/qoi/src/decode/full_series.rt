@@ -1,13 +1,18 @@
 //! The loop for noise, in which most chunks are RGB or RGBA ones: it takes those in series, of
 //! which no chunk waits for another, and each jump goes the same way until the series ends.
-ghost use Rattle.std.specs.Prelude.{◌≡◌, ◌<◌};
-ghost use Rattle.qoi.specs.inner.Filling.{CanLoop, HasAhead, FastChunks, IsFullTag};
+ghost use Rattle.std.specs.Prelude.{◌≡◌, ◌+◌, ◌<◌, ◌≤◌, length};
+ghost use Rattle.qoi.specs.inner.Filling.{CanLoop, CanStore, HasAhead, HasCopies, FastChunks, IsFullTag};
+ghost use Rattle.qoi.specs.inner.Hashed.{pixel_of_lanes, IsAfterFull};
 
 use crate::consts::{QOI_OP_RGB, QOI_OP_RGBA};
-use crate::decode::fast::{INPUT_ROOM, OUTPUT_ROOM, Progress, is_short, leaves_room};
+use crate::decode::fast::{INPUT_ROOM, Progress, is_short};
 use crate::decode::hashed::Hashed;
-use crate::decode::output::store_vector;
+use crate::decode::output::{VECTOR, store_four, store_vector};
 use crate::decode::table::TermTable;
+
+// Bytes of room for the vectors of two short chunks and of two full ones: little, so that few bytes
+// of a row are left for other loops.
+const DENSE_ROOM: usize = 52;
 
 // A series of chunks with the first byte `TAG`: how far it came, and the pixel before it, whose
 // alpha RGB chunks keep. So no chunk waits for another.
@@ -23,7 +28,7 @@ impl<const N: usize, const F: usize, const TAG: u8> Series<N, F, TAG> {
     // Decodes the chunk that comes next, whose first byte is `TAG`.
     #[inline(always)]
     fn chunk_of(self, table: &mut TermTable, bytes: &[u8], out: &mut [u8]) -> Self
-        requires ahead { HasAhead 6 16 bytes.now out.old self.to }
+        requires ahead { HasAhead 9 16 bytes.now out.old self.to }
         requires tag { IsFullTag TAG × (self.to.next ≡ TAG) }
         requires alpha { KeepsAlpha TAG self.before self.to.last }
         ensures step { FastStep 4 5 4 bytes.now
@@ -31,9 +36,9 @@ impl<const N: usize, const F: usize, const TAG: u8> Series<N, F, TAG> {
         ensures alpha { KeepsAlpha TAG result.before result.to.last }
     {
         let Series { to, before } = self;
-        let last = before.after_full(TAG as usize, &bytes[to.taken..]);
+        let last = before.after_full::<8>(TAG as usize, &bytes[to.taken..]);
         table.put(last);
-        store_vector::<N, F>(out, to.at, last);
+        store_full::<N, F, TAG>(out, to.at, (before, last), &bytes[to.taken..]);
         let taken = to.taken + (TAG - (QOI_OP_RGB - 4)) as usize;
         let to = Progress {
             last,
@@ -43,6 +48,27 @@ impl<const N: usize, const F: usize, const TAG: u8> Series<N, F, TAG> {
         };
         Series { to, before }
     }
+}
+
+// Stores the pixel of the chunk that the bytes begin with, whose first byte is `TAG`: by the chunk's
+// own bytes, if those are the output's. With it comes the pixel before it.
+#[inline(always)]
+fn store_full<const N: usize, const F: usize, const TAG: u8>(
+    out: &mut [u8],
+    at: usize,
+    pixels: (Hashed, Hashed),
+    bytes: &[u8],
+)
+    requires space { CanStore N (at + VECTOR) out.old }
+    requires tag { IsFullTag TAG × (5 ≤ length bytes.now) }
+    requires pixel { IsAfterFull TAG bytes.now
+        (pixel_of_lanes pixels.0) (pixel_of_lanes pixels.1) }
+    ensures { HasCopies F N at 1 pixels.1 out.old out.new }
+{
+    if N == 3 || F == 4 && TAG == QOI_OP_RGBA {
+        return store_four::<N, F>(out, at, pixels.1, &bytes[1..]);
+    }
+    store_vector::<N, F>(out, at, pixels.1);
 }
 
 // Decodes chunks with the first byte `TAG`, as many as come one after the other: two, and others
@@ -56,14 +82,14 @@ fn series_of<const N: usize, const F: usize, const TAG: u8>(
 ) -> Progress<N, F>
     requires tag { IsFullTag TAG × (from.next ≡ TAG) }
     requires room { CanLoop 8 1 bytes.now out.old from }
-    requires ahead { HasAhead 11 20 bytes.now out.old from }
+    requires ahead { HasAhead 14 20 bytes.now out.old from }
     ensures chunks { FastChunks bytes.now from.entry table.old out.old result table.new out.new }
     ensures some { from.entry.taken < result.taken }
 {
     let before = from.last;
     let mut series = Series::<N, F, TAG> { to: from, before };
     let input_end = bytes.len() - INPUT_ROOM;
-    let output_end = out.len() - OUTPUT_ROOM;
+    let output_end = out.len() - DENSE_ROOM;
     loop {
         let one = series.chunk_of(table, bytes, out);
         if one.to.next != TAG {
@@ -90,7 +116,7 @@ pub(super) fn dense_loop<const N: usize, const F: usize>(
 {
     let mut now = from.by_fields();
     let input_end = bytes.len() - INPUT_ROOM;
-    let output_end = out.len() - OUTPUT_ROOM;
+    let output_end = out.len() - DENSE_ROOM;
     while now.taken <= input_end && now.at <= output_end {
         let one = now.short_chunks::<1>(table, bytes, out);
         now = one.short_chunks::<1>(table, bytes, out);
@@ -101,9 +127,8 @@ pub(super) fn dense_loop<const N: usize, const F: usize>(
             now = series_of::<N, F, 0xfe>(table, now, bytes, out);
         } else if now.next == QOI_OP_RGBA {
             now = series_of::<N, F, 0xff>(table, now, bytes, out);
-        } else if leaves_room::<N>(now.next, out.len() - now.at) {
-            now = now.long_run(table, bytes, out);
         } else {
+            // A long run, which noise has seldom, ends the loop.
             return now.by_fields();
         }
     }

@@ -1,5 +1,5 @@
 //! Pixels as single numbers that hold their index positions too.
-ghost use Rattle.std.specs.Prelude.{◌≡◌, ℕ, ◌<◌, ◌≤◌, length, take, slice_index, replicate};
+ghost use Rattle.std.specs.Prelude.{◌≡◌, ◌⊎◌, ℕ, ◌<◌, ◌≤◌, length, take, slice_index, replicate};
 ghost use Rattle.qoi.specs.Qoi.{pixel, start, hash, positions, rgb_tag};
 ghost use Rattle.qoi.specs.Raw.{IsChannels, output};
 ghost use Rattle.qoi.specs.inner.Hashed.{pixel_of_lanes, IsPlain, IsHashed, IsAfterShort, IsAfterFull};
@@ -7,7 +7,7 @@ ghost use Rattle.qoi.specs.inner.Hashed.{pixel_of_lanes, IsPlain, IsHashed, IsAf
 use crate::decode::deltas::{kept_by, read_by, second_added};
 use crate::decode::table::SizedTerms;
 use std::marker::Model;
-use std::simd::{Simd, u8x4, u8x16, u16x4, u64x2};
+use std::simd::{Simd, u8x4, u8x8, u8x16, u16x4, u16x8, u64x2};
 
 // 4 * (3 * 2^56 + 5 * 2^40 + 7 * 2^24 + 11 * 2^8): the eight highest bits of its product with a
 // pixel in lanes of 16 bits (red, green, blue and alpha from bits 0, 16, 32 and 48 on) are the eight
@@ -103,14 +103,15 @@ impl Hashed {
 
     /// The pixel of the RGB or RGBA chunk that the bytes begin with, whose first byte is `b1`; after
     /// an RGB chunk alpha stays (QOI specification 1.0, "QOI_OP_RGB" and "QOI_OP_RGBA"). One sum for
-    /// both, without a jump.
+    /// both, without a jump. `READS` bytes are read at once, four or eight.
     #[inline(always)]
-    pub(super) fn after_full(self, b1: usize, bytes: &[u8]) -> Hashed
-        requires { (rgb_tag ≤ b1) × (b1 < 256) × (5 ≤ length bytes.now) }
+    pub(super) fn after_full<const READS: usize>(self, b1: usize, bytes: &[u8]) -> Hashed
+        requires full { (rgb_tag ≤ b1) × (b1 < 256) }
+        requires reads { ((READS ≡ 4) ⊎ (READS ≡ 8)) × (READS < length bytes.now) }
         ensures { IsAfterFull b1 bytes.now (pixel_of_lanes self) (pixel_of_lanes result) }
     {
         let own = (self.0 & kept_by(b1)).wrapping_mul(ALPHA_FACTOR);
-        let read = Hashed::of_lanes(four_lanes(&bytes[1..5]) & read_by(b1));
+        let read = Hashed::of_lanes(four_lanes::<READS>(&bytes[1..]) & read_by(b1));
         Hashed(own.wrapping_add(read.0))
     }
 
@@ -134,14 +135,19 @@ impl Hashed {
     }
 }
 
-// Four bytes, read at once, in lanes of 16 bits.
+// The first four bytes in lanes of 16 bits. `READS` bytes are read at once: for eight one instruction
+// reads and spreads them.
 #[inline(always)]
-fn four_lanes(bytes: &[u8]) -> u64
-    requires { 4 ≤ length bytes.now }
+fn four_lanes<const READS: usize>(bytes: &[u8]) -> u64
+    requires { ((READS ≡ 4) ⊎ (READS ≡ 8)) × (READS ≤ length bytes.now) }
     ensures pixel { pixel_of_lanes result ≡ pixel (slice_index bytes.now 0)
         (slice_index bytes.now 1) (slice_index bytes.now 2) (slice_index bytes.now 3) }
     ensures plain { IsPlain result }
 {
+    if READS == 8 {
+        let eight: u16x8 = u8x8::from_slice(bytes).cast();
+        return u64x2::from_le_bytes(eight.to_le_bytes()).to_array()[0];
+    }
     let four: u16x4 = u8x4::from_slice(bytes).cast();
     Simd::<u64, 1>::from_le_bytes(four.to_le_bytes()).to_array()[0]
 }

@@ -31,7 +31,7 @@ pub(super) fn decode_chunk<const N: usize, const F: usize, const RUN_FITS: bool,
         (last.after_short(table, b1 as usize, bytes[1]), size)
     } else {
         (
-            last.after_full(b1 as usize, bytes),
+            last.after_full::<4>(b1 as usize, bytes),
             4 + usize::from(b1 == QOI_OP_RGBA),
         )
     };

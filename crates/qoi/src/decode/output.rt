@@ -1,12 +1,14 @@
 //! What the decoders' loops store in the output: pixels, by vectors of sixteen bytes.
-ghost use Rattle.std.specs.Prelude.{◌≡◌, ◌+◌, ◌*◌, ◌/◌, ◌%◌, ◌-◌, ◌<◌, ◌≤◌, ℕ, [], ◌∷◌, ◌++◌, length, replicate};
+ghost use Rattle.std.specs.Prelude.{◌≡◌, ◌+◌, ◌*◌, ◌/◌, ◌%◌, ◌-◌, ◌<◌, ◌≤◌, ℕ, [], ◌∷◌, ◌++◌, length, replicate, take};
 ghost use Rattle.qoi.specs.Qoi.{Past, run_max};
+ghost use Rattle.qoi.specs.Raw.{output};
 ghost use Rattle.qoi.specs.declared.decode.output.TheConstants.{VECTOR, RUN_ROOM};
 ghost use Rattle.qoi.specs.inner.Filling.{CanStore, HasWritten, HasCopies, HasFilled, HasRoom};
 ghost use Rattle.qoi.specs.inner.Hashed.{pixel_of_lanes};
 
 use crate::decode::hashed::Hashed;
 use crate::decode::reached::Reached;
+use std::simd::u8x4;
 
 /// How many bytes a vector has: those of a register.
 pub(super) const VECTOR: usize = 16;
@@ -43,6 +45,23 @@ pub(super) fn store_vector<const N: usize, const F: usize>(out: &mut [u8], at: u
 {
     px.repeated::<N, F>()
         .copy_to_slice(&mut out[at..at + VECTOR]);
+}
+
+/// Stores a pixel at `at` by four bytes that begin with its own. A vector stands across two lines of
+/// the cache oftener, and then takes twice as long.
+#[inline(always)]
+pub(super) fn store_four<const N: usize, const F: usize>(
+    out: &mut [u8],
+    at: usize,
+    px: Hashed,
+    bytes: &[u8],
+)
+    requires space { CanStore N (at + 4) out.old }
+    requires four { 4 ≤ length bytes.now }
+    requires pixel { take N bytes.now ≡ output F N (pixel_of_lanes px ∷ []) }
+    ensures { HasCopies F N at 1 px out.old out.new }
+{
+    u8x4::from_slice(bytes).copy_to_slice(&mut out[at..at + 4]);
 }
 
 // Stores two vectors, the second at the end of the whole pixels of the first.

@@ -2,6 +2,7 @@
 //! each of which, if it was noise, comes a loop for that. So noise costs other chunks no test.
 //! `AT_ONCE` is for how many short chunks room is tested at once.
 ghost use Rattle.std.specs.Prelude.{◌≡◌, ◌⊎◌, ◌+◌, ◌*◌, ◌<◌, ◌≤◌, length, drop, Some, true};
+ghost use Rattle.qoi.specs.Raw.{IsChannels};
 ghost use Rattle.qoi.specs.inner.Filling.{INPUT_ROOM, IsFillable, filling, CanLoop, FastChunks};
 ghost use Rattle.qoi.specs.inner.Chunks.{TakesMore};
 
@@ -19,27 +20,41 @@ const STRETCH: usize = 2048;
 // `DENSE_STRETCH` bytes go by `dense_loop`, and the next stretch has `SHORT_STRETCH`.
 const DENSE: usize = 3;
 
-const DENSE_STRETCH: usize = 4096;
+const DENSE_STRETCH: usize = 8192;
 
 const SHORT_STRETCH: usize = 128;
 
-// Decodes some `DENSE_STRETCH` bytes by `dense_loop`, if the stretch before was dense.
+// Whether chunks of so many bytes, which gave so many bytes of pixels, were dense.
+#[inline(always)]
+fn is_dense<const N: usize>(taken: usize, written: usize) -> bool
+    requires { IsChannels N }
+{
+    DENSE * (written / N) < taken
+}
+
+// Decodes some `DENSE_STRETCH` bytes by `dense_loop`, if the chunks before were dense, and notes
+// whether these are.
 #[inline(always)]
 fn take_dense<const N: usize, const F: usize>(
     table: &mut TermTable,
     from: Progress<N, F>,
     bytes: &[u8],
     out: &mut [u8],
-    is_dense: bool,
 ) -> Progress<N, F>
     requires { CanLoop 8 1 bytes.now out.old from }
     ensures { FastChunks bytes.now from.entry table.old out.old result table.new out.new }
 {
-    if is_dense {
-        let end = bytes.len().min(from.taken + DENSE_STRETCH);
-        return dense_loop(table, from, &bytes[..end], out);
+    if !table.is_dense() {
+        return from;
     }
-    from
+    let Progress { taken, at, .. } = from;
+    let end = bytes.len().min(taken + DENSE_STRETCH);
+    let dense = dense_loop(table, from, &bytes[..end], out);
+    let more = dense.taken - taken;
+    let written = dense.at - at;
+    let was_dense = is_dense::<N>(more, written);
+    table.note_dense(was_dense);
+    dense
 }
 
 // `chunks_ahead` from a state of the loop: in stretches, if `AT_ONCE` is 8.
@@ -58,18 +73,23 @@ fn chunks_by_stretches<const N: usize, const F: usize, const AT_ONCE: usize>(
     }
     let mut now = from.by_fields();
     let input_end = bytes.len() - INPUT_ROOM;
-    let mut stretch_end = input_end.min(now.taken + FIRST_STRETCH);
+    let mut size = FIRST_STRETCH;
     while now.taken <= input_end {
+        let is_short = table.is_dense();
+        let dense = take_dense(table, now, bytes, out);
+        let stretch_end = input_end.min(dense.taken + if is_short { SHORT_STRETCH } else { size });
         // For this call the input ends behind the stretch.
-        let stretch = now.fast_loop::<8>(table, &bytes[..stretch_end + INPUT_ROOM], out);
+        let stretch = dense.fast_loop::<8>(table, &bytes[..stretch_end + INPUT_ROOM], out);
         // Within the stretch the output has no room for what comes; or the input ends.
         if stretch.taken <= stretch_end || input_end < stretch.taken {
             return stretch.by_fields();
         }
-        let pixels = (stretch.at - now.at) / N;
-        let is_dense = DENSE * pixels < stretch.taken - now.taken;
-        now = take_dense(table, stretch, bytes, out, is_dense).by_fields();
-        stretch_end = input_end.min(now.taken + if is_dense { SHORT_STRETCH } else { STRETCH });
+        let taken = stretch.taken - dense.taken;
+        let written = stretch.at - dense.at;
+        let was_dense = is_dense::<N>(taken, written);
+        table.note_dense(was_dense);
+        now = stretch.by_fields();
+        size = STRETCH;
     }
     now.by_fields()
 }

@@ -9,12 +9,14 @@ use crate::decode::hashed::Hashed;
 use std::marker::Model;
 
 /// What the decoders' sum takes by the first byte of a chunk: the pixel at the index position that
-/// it names, or what another byte adds. For bytes from `SIZE` on, `added` knows the number.
+/// it names, or what another byte adds. For bytes from `SIZE` on, `added` knows the number. It is
+/// kept from piece to piece, and with it whether chunks were dense (`stretches`).
 ///
 /// A contract sees the list of the numbers.
 #[derive(Drop)]
 pub(super) struct SizedTerms<const SIZE: usize> {
     numbers: [u64; SIZE],
+    is_dense: bool,
 }
 
 /// A number for each first byte, so that no test is needed.
@@ -43,7 +45,10 @@ impl SizedTerms<256> {
     {
         let mut numbers = [0; 256];
         numbers.copy_from_slice(all_added());
-        SizedTerms { numbers }
+        SizedTerms {
+            numbers,
+            is_dense: false,
+        }
     }
 }
 
@@ -52,7 +57,10 @@ impl SizedTerms<64> {
     pub(super) fn new_small() -> SizedTerms<64>
         ensures { HoldsSeen result [] }
     {
-        SizedTerms { numbers: [0; 64] }
+        SizedTerms {
+            numbers: [0; 64],
+            is_dense: false,
+        }
     }
 }
 
@@ -63,7 +71,22 @@ impl<const SIZE: usize> SizedTerms<SIZE> {
     {
         SizedTerms {
             numbers: self.numbers,
+            is_dense: self.is_dense,
         }
+    }
+
+    /// Whether the last chunks were dense.
+    #[inline(always)]
+    pub(super) fn is_dense(&self) -> bool {
+        self.is_dense
+    }
+
+    /// Notes whether the last chunks were dense.
+    #[inline(always)]
+    pub(super) fn note_dense(&mut self, is_dense: bool)
+        ensures { self.new ≡ self.old }
+    {
+        self.is_dense = is_dense;
     }
 
     /// What is held at the index position that a chunk's first byte names, or what another first

@@ -21,17 +21,10 @@ loop-now-preserved-then-now g c =
     chunks_then (omega (arith, c.short_chunks-now.auto.out, c.short_chunks-one.auto.out, c.loop-now.auto.out))
     (two g (goal.at.loop-now-preserved-then-now g c).After-short_chunks-now) c.series_of-now.ensures.chunks
 
-pub loop-now-preserved-then-now-2 : goal.loop-now-preserved-then-now-2
-loop-now-preserved-then-now-2 g c =
-    chunks_then (omega (arith, c.short_chunks-now.auto.out, c.short_chunks-one.auto.out, c.loop-now.auto.out))
-    (two g (goal.at.loop-now-preserved-then-now-2 g c).After-short_chunks-now) c.series_of-now-then-now-2.ensures.chunks
-
 pub loop-now-preserved : goal.loop-now-preserved
 loop-now-preserved g c =
-    let short = step_then c.short_chunks-one.ensures.step c.short_chunks-now.ensures.step in
-    let run = c.long_run-now.ensures in
-    step_more (two g (goal.at.loop-now-preserved g c).After-short_chunks-now) run.step (omega (arith, run.step.taken, short.taken, c.loop-now-test.true, c.requires.input_is))
-    (omega (arith, run.below, c.long_run-now.auto.out, c.short_chunks-now.auto.out, c.short_chunks-one.auto.out, c.loop-now.auto.out))
+    chunks_then (omega (arith, c.short_chunks-now.auto.out, c.short_chunks-one.auto.out, c.loop-now.auto.out))
+    (two g (goal.at.loop-now-preserved g c).After-short_chunks-now) c.series_of-now-then-now-2.ensures.chunks
 
-pub returns-else-leaves_room : goal.returns-else-leaves_room
-returns-else-leaves_room g c = rw c.by_fields.ensures (two g (goal.at.returns-else-leaves_room g c).After-short_chunks-now)
+pub returns-else-now-2 : goal.returns-else-now-2
+returns-else-now-2 g c = rw c.by_fields.ensures (two g (goal.at.returns-else-now-2 g c).After-short_chunks-now)

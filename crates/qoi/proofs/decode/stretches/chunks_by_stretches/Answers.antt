@@ -1,4 +1,4 @@
--- A stretch and a series more.
+-- Chunks of noise, if any, and a stretch more.
 use Rattle.std.proofs.Common.{◌+◌, arith}
 use Rattle.qoi.specs.inner.Filling.{FastChunks}
 use Rattle.qoi.proofs.decoding.FastSteps.{chunks_then, front_chunks}
@@ -10,14 +10,13 @@ use Rattle.qoi.proofs.decode.stretches.chunks_by_stretches.Goals as goal
 stretch : (g : Over) (c : After-fast_loop-stretch g) → FastChunks c.args.bytes.now c.args.from c.args.table.now c.args.out.now
     c.fast_loop-stretch.result c.fast_loop-stretch.new.table c.fast_loop-stretch.new.out
 stretch g c =
-    let i = c.loop-now.invariant in
-    chunks_then c.loop-now.auto.out i.0 (front_chunks (c.loop-now.stretch_end + 22) (omega (arith, i.1)) (omega (arith, i.2 c.loop-now-test.true)) c.fast_loop-stretch.ensures)
+    chunks_then (omega (arith, c.take_dense-dense.auto.out, c.loop-now.auto.out)) (chunks_then c.loop-now.auto.out c.loop-now.invariant.0 c.take_dense-dense.ensures)
+    (front_chunks (c.min-stretch_end.result + 22) (omega (arith, c.min-stretch_end.ensures, c.requires.input_is))
+    (omega (arith, c.min-stretch_end.ensures, c.take_dense-dense.ensures.taken, c.loop-now-test.true, c.requires.input_is)) c.fast_loop-stretch.ensures)
 
 pub loop-now-preserved : goal.loop-now-preserved
 loop-now-preserved g c =
-    let here = stretch g (goal.at.loop-now-preserved g c).After-fast_loop-stretch in
-    let full = chunks_then (omega (arith, c.fast_loop-stretch.auto.out)) here c.take_dense.ensures in
-    (rw c.by_fields-now-in-loop-now.ensures full, omega (arith, c.min-stretch_end-in-loop-now.ensures), λ le. omega (arith, c.min-stretch_end-in-loop-now.ensures, le))
+    (rw c.by_fields-now-in-loop-now.ensures (rw c.note_dense.ensures (stretch g (goal.at.loop-now-preserved g c).After-fast_loop-stretch)), omega arith)
 
 pub returns-then-stretch-stretch_end : goal.returns-then-stretch-stretch_end
 returns-then-stretch-stretch_end g c = rw c.by_fields.ensures (stretch g (goal.at.returns-then-stretch-stretch_end g c).After-fast_loop-stretch)

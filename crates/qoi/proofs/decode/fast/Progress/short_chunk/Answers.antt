@@ -1,5 +1,5 @@
 -- The chunk's pixel is the sum, its copies are those of the vector, and the byte after it is picked.
-use Rattle.std.proofs.Common.{◌+◌, arith, refl}
+use Rattle.std.proofs.Common.{◌+◌, ◌/◌, arith, refl}
 use Rattle.qoi.specs.inner.Filling.{Progress, taken_further}
 use Rattle.qoi.proofs.decoding.FirstChunk.{size_of}
 use Rattle.qoi.proofs.decoding.FastSteps.{Stores, one_more, next_byte, short_step, step_within}
@@ -12,7 +12,7 @@ returns g c =
     let more = c.from.result in
     let luma = c.is_luma-luma.result in
     let new : Progress g.row.N g.row.F = record { last = c.after_short-last.result; taken = c.args.self.taken + more + (g.row.DONE + 1); at = now.at + c.advance.result; next = c.pick.result } in
-    let stores : Stores bytes now c.args.table.now c.args.out.now new c.put.new.self c.store_vector.new.out = record {
+    let stores : Stores (16 / g.row.N) bytes now c.args.table.now c.args.out.now new c.put.new.self c.store_vector.new.out = record {
       put = c.put.ensures;
       stored = c.store_vector.ensures;
       size = c.store_vector.auto.out;
