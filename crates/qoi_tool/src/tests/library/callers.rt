@@ -1,18 +1,15 @@
 //! A caller for each way of using the library, proved by the contracts of its public calls alone.
-ghost use Rattle.std.specs.Prelude.{◌≡◌, ℕ, ◌+◌, ◌*◌, ◌<◌, ◌≤◌, ◌++◌, List, Option, Some, Ok, IfOk, IfErr, IsErrOf, length, map, drop};
+ghost use Rattle.std.specs.Prelude.{◌≡◌, ℕ, ◌+◌, ◌<◌, ◌≤◌, ◌++◌, List, Option, Some, Ok, IfOk, IfErr, IsErrOf, length, map, drop};
 ghost use Rattle.std.specs.Io.KnownBytes.{Consumes};
 ghost use Rattle.qoi.specs.declared.header.Header.{Header};
-ghost use Rattle.qoi.specs.declared.types.Style.TheVariants.{Reference, Tight};
+ghost use Rattle.qoi.specs.declared.types.Style.TheVariants.{Tight};
 ghost use Rattle.qoi.specs.declared.error.Error.{Error};
-ghost use Rattle.qoi.specs.Qoi.{channels_number, header_bytes, header_of, pixel_count, header_size, IsValid, file};
-ghost use Rattle.qoi.specs.Encoded.{IsFileOf, IsShortest, Spans, OpensBlack, image_header, image_pixels};
+ghost use Rattle.qoi.specs.Qoi.{channels_number, header_bytes, header_of, pixel_count, IsValid, file};
+ghost use Rattle.qoi.specs.Encoded.{IsFileOf, IsShortest, image_header};
 ghost use Rattle.qoi.specs.Raw.{image_byte_count, without_fourth};
 ghost use Rattle.qoi_tool.specs.Files.{AreFiles};
-ghost use Rattle.qoi.specs.Regular.{Regular};
 ghost use Rattle.qoi.specs.Writers.{AppendsBeginning};
-ghost use Rattle.qoi.specs.declared.chunk.Chunk.{Chunk};
 ghost use Rattle.qoi.specs.Decoding.{DecodesFile, ReadsImage, TakesHeader};
-ghost use Rattle.qoi.specs.Verdicts.{AreCut};
 
 use qoi::{
     Channels, Decoder, Encoder, Error, Header, Style, decode_to_buf, decode_to_vec, encode_to_buf,
@@ -45,20 +42,6 @@ pub fn first_byte(alloc: Global, file: &[u8]) -> Result<u8, Error> {
 pub fn decoded_part<'a>(buf: &'a mut [u8], file: &[u8]) -> Result<&'a [u8], Error> {
     let header = decode_to_buf(buf, file)?;
     Ok(&buf[..header.n_bytes()])
-}
-
-/// The part of a buffer that a file was encoded into.
-pub fn encoded_part<'a>(
-    buf: &'a mut [u8],
-    raw: &[u8],
-    width: u32,
-    height: u32,
-) -> Result<&'a [u8], Error>
-    ensures { IfOk result (λ file. (h : Header) × (image_header raw.now width height ≡ Ok h)
-        × IsFileOf Reference h raw.now file.now) }
-{
-    let size = encode_to_buf(buf, raw, width, height)?;
-    Ok(&buf[..size])
 }
 
 /// A buffer and a vector, by the methods, in any style.
@@ -132,23 +115,6 @@ pub fn lengths<W: Write>(
     Ok((reference, places, tight))
 }
 
-/// Shortness. A file is at most four bytes longer than that of any regular list of the image, and
-/// no longer at all unless the image opens with opaque black.
-pub fn near_shortest(alloc: Global, raw: &[u8], width: u32, height: u32) -> Result<Vec<u8>, Error>
-    ensures encoded { IfOk result (λ v. (h : Header) × (image_header raw.now width height ≡ Ok h)
-        × IsFileOf Reference h raw.now v.items) }
-    ensures four_at_most { IfOk result (λ v. (h : Header)
-        × (image_header raw.now width height ≡ Ok h) × ((others : List Chunk)
-        → Spans h raw.now others → Regular others
-        → length v.items ≤ length (file h others) + 4)) }
-    ensures none_shorter { IfOk result (λ v. (h : Header)
-        × (image_header raw.now width height ≡ Ok h)
-        × ((OpensBlack (image_pixels h raw.now) → ⊥) → (others : List Chunk)
-        → Spans h raw.now others → Regular others → length v.items ≤ length (file h others))) }
-{
-    encode_to_vec(alloc, raw, width, height)
-}
-
 /// The shortest file. In style `Tight` no list of chunks of the image, regular or not, makes a
 /// shorter one.
 pub fn shortest(alloc: Global, raw: &[u8], width: u32, height: u32) -> Result<Vec<u8>, Error>
@@ -216,14 +182,6 @@ pub fn two_frames<R: Read + Drop>(alloc: Global, reader: R) -> Result<(Vec<u8>, 
     Ok((image, other))
 }
 
-/// Memory. The raw bytes of a file are at most 248 for each of its bytes.
-pub fn bounded_bytes(alloc: Global, file: &[u8]) -> Result<Vec<u8>, Error>
-    ensures { IfOk result (λ raw. length raw.items ≤ 248 * length file.now) }
-{
-    let (_, raw) = decode_to_vec(alloc, file)?;
-    Ok(raw)
-}
-
 /// Memory that is bounded first. The raw bytes of a file whose image is small enough, as the free
 /// call decodes them; `OutOfMemory` if it isn't.
 pub fn at_most(alloc: Global, file: &[u8], most: usize) -> Result<Vec<u8>, Error>
@@ -250,16 +208,4 @@ pub fn both_channels(alloc: Global, file: &[u8]) -> Result<(Vec<u8>, Vec<u8>), E
     let mut three = Decoder::new(file)?.with_channels(Channels::Rgb);
     let rgb = three.decode_to_vec(alloc)?;
     Ok((rgb, rgba))
-}
-
-/// Bytes that are still to come. If the error is `UnexpectedBufferEnd`, the bytes after the header
-/// are cut.
-pub fn more_needed(alloc: Global, file: &[u8]) -> Result<(Header, Result<Vec<u8>, Error>), Error>
-    ensures { IfOk result (λ x. IsErrOf x.1 Error.UnexpectedBufferEnd
-        → AreCut (pixel_count x.0) (drop header_size file.now)) }
-{
-    let mut decoder = Decoder::new(file)?;
-    let header = *decoder.header();
-    let raw = decoder.decode_to_vec(alloc);
-    Ok((header, raw))
 }

@@ -165,6 +165,8 @@ pub fn size_examples()
         ≡ 18446744065119617025 }
     ensures longest_file { max_len 2 3 4 ≡ 52 }
     ensures longest_without_channels { max_len 1 1 0 ≡ 23 }
+    ensures longest_without_pixels { max_len 0 5 3 ≡ 22 }
+    ensures longest_of_all { max_len 20000 20000 4 ≡ 2000000022 }
     ensures capped_file { max_len 4294967295 4294967295 4 ≡ 18446744073709551615 }
     ensures uncapped_file { max_len 4294967295 4294967295 0 ≡ 18446744065119617047 }
     ensures shortest_file { IsFileLength default_header 23 }

@@ -1,145 +1,39 @@
-//! A store of frames with an index: a frame is appended, read by its number, and dropped, and the
-//! store is recovered from its bytes alone. Only `find` has a proof file: its loop's invariant and
-//! measure.
-ghost use Rattle.std.specs.Prelude.{◌≡◌, ℕ, ◌+◌, ◌<◌, ◌≤◌, List, [], ◌∷◌, ◌++◌, None, Ok, IfOk, IfErr, IfSome, IsErrOf, IsSome, OnOk, OnErr, length, take, drop, slice_index_or};
-ghost use Rattle.qoi.specs.declared.error.Error.{Error};
+//! Frames, which are files one right behind the other, are found again from their bytes alone: all of
+//! them, and no others. A store of frames stands in docs/RECIPES.md. Only `find` has a proof file: its
+//! loop's invariant and measure.
+ghost use Rattle.std.specs.Prelude.{◌≡◌, ℕ, ◌+◌, ◌<◌, ◌≤◌, List, [], ◌∷◌, ◌++◌, None, IfOk, IfSome, IsSome, length, take, drop};
 ghost use Rattle.qoi.specs.declared.header.Header.{Header};
-ghost use Rattle.qoi.specs.Encoded.{image_header};
 ghost use Rattle.qoi.specs.Images.{file_image, file_rest, BeginsWithFile};
-ghost use Rattle.qoi.specs.Qoi.{default_header, header_of};
 ghost use Rattle.qoi.specs.Tiles.{AreFrames, ArePictures};
 
-use crate::tests::fakes::{ONE_RGB_PIXEL, PIXEL};
-use crate::tests::library::support::decodings::after;
-use crate::tests::library::support::{assert_bytes, assert_cut, assert_header, made};
-use qoi::laws::reading::{
-    files_are_read, frames_are_found, frames_stay, pictures_are_read, stores_stay,
-};
-use qoi::{Decoder, Encoder, Error, Header, decode_to_vec};
+use crate::tests::fakes::ONE_RGB_PIXEL;
+use crate::tests::library::support::decodings::front;
+use crate::tests::library::support::{assert_bytes, made};
+use qoi::laws::reading::{files_are_read, frames_are_found, frames_stay, stores_stay};
+use qoi::{Decoder, Error};
 use std::alloc::Global;
 use std::process::Abort;
 
-/// Frames as files in one vector, one right behind the other, and the offset of each.
+/// Frames as files in one vector, and the offset of each.
 #[derive(Drop)]
 pub struct Frames {
     pub bytes: Vec<u8>,
     pub offsets: Vec<usize>,
 }
 
-impl Frames {
-    /// A store of no frames.
-    pub fn new(alloc: Global) -> Frames
-        ensures { ArePictures result.bytes.items result.offsets.items [] [] }
-    {
-        stores_stay();
-        Frames {
-            bytes: Vec::new(alloc),
-            offsets: Vec::new(alloc),
-        }
-    }
-
-    /// Appends a frame of this width and height; the others stay. A refusal leaves all as it was.
-    pub fn append(&mut self, raw: &[u8], width: u32, height: u32) -> Result<(), Error>
-        ensures added { (headers : List Header) (images : List (List ℕ))
-            → ArePictures self.old.bytes.items self.old.offsets.items headers images
-            → OnOk result ((h : Header) × (image_header raw.now width height ≡ Ok h)
-            × ArePictures self.new.bytes.items self.new.offsets.items (headers ++ h ∷ [])
-            (images ++ raw.now ∷ [])) }
-        ensures refused { OnErr result ((self.new.bytes.items ≡ self.old.bytes.items)
-            × (self.new.offsets.items ≡ self.old.offsets.items)) }
-    {
-        stores_stay();
-        let at = self.bytes.len();
-        self.offsets.reserve(1)?;
-        let encoder = Encoder::new(raw, width, height)?;
-        if let Err(e) = encoder.encode_to_stream(&mut self.bytes) {
-            self.bytes.truncate(at);
-            return Err(e);
-        }
-        self.offsets.push(at)?;
-        Ok(())
-    }
-
-    /// The bytes from frame k on, if there are so many frames.
-    pub fn at<'a>(&'a self, k: usize) -> Option<&'a [u8]>
-        ensures header { (headers : List Header) (images : List (List ℕ))
-            → ArePictures self.entry.now.bytes.items self.entry.now.offsets.items headers images
-            → IfSome result (λ b.
-            header_of b.now ≡ Ok (slice_index_or headers k default_header)) }
-        ensures image { (headers : List Header) (images : List (List ℕ))
-            → ArePictures self.entry.now.bytes.items self.entry.now.offsets.items headers images
-            → IfSome result (λ b. file_image b.now ≡ slice_index_or images k []) }
-        ensures stands { (headers : List Header) (images : List (List ℕ))
-            → ArePictures self.entry.now.bytes.items self.entry.now.offsets.items headers images
-            → IfSome result (λ b. BeginsWithFile b.now) }
-        ensures some { (headers : List Header) (images : List (List ℕ))
-            → ArePictures self.entry.now.bytes.items self.entry.now.offsets.items headers images
-            → k < length images → IsSome result }
-        ensures none { (headers : List Header) (images : List (List ℕ))
-            → ArePictures self.entry.now.bytes.items self.entry.now.offsets.items headers images
-            → length images ≤ k → result ≡ None }
-    {
-        pictures_are_read();
-        if k >= self.offsets.len() {
-            return None;
-        }
-        let at = self.offsets[k];
-        if at > self.bytes.len() {
-            return None;
-        }
-        Some(&self.bytes[at..])
-    }
-
-    /// Frame k and its header. A frame that the store has is refused only if memory runs out.
-    pub fn get(&self, alloc: Global, k: usize) -> Result<(Header, Vec<u8>), Error>
-        ensures frame { (headers : List Header) (images : List (List ℕ))
-            → ArePictures self.now.bytes.items self.now.offsets.items headers images
-            → IfOk result (λ x. (x.0 ≡ slice_index_or headers k default_header)
-            × (x.1.items ≡ slice_index_or images k [])) }
-        ensures found { (headers : List Header) (images : List (List ℕ))
-            → ArePictures self.now.bytes.items self.now.offsets.items headers images
-            → k < length images → IfErr result (λ e. e ≡ Error.OutOfMemory) }
-        ensures none { (headers : List Header) (images : List (List ℕ))
-            → ArePictures self.now.bytes.items self.now.offsets.items headers images
-            → length images ≤ k → IsErrOf result Error.UnexpectedBufferEnd }
-    {
-        let Some(bytes) = self.at(k) else {
-            return Err(Error::UnexpectedBufferEnd);
-        };
-        decode_to_vec(alloc, bytes)
-    }
-
-    /// Drops the last frame; the others stay.
-    pub fn drop_last(&mut self)
-        ensures { (headers : List Header) (h : Header) (images : List (List ℕ)) (last : List ℕ)
-            → ArePictures self.old.bytes.items self.old.offsets.items (headers ++ h ∷ [])
-            (images ++ last ∷ [])
-            → ArePictures self.new.bytes.items self.new.offsets.items headers images }
-    {
-        stores_stay();
-        if let Some(at) = self.offsets.pop() {
-            self.bytes.truncate(at);
-        }
-    }
-
-    /// The store of the whole frames that the bytes begin with, exactly; what follows is cut off.
-    pub fn recover(alloc: Global, bytes: Vec<u8>) -> Result<Frames, Error>
-        ensures frames { IfOk result (λ s. (headers : List Header) × (images : List (List ℕ))
-            × ArePictures s.bytes.items s.offsets.items headers images) }
-        ensures front { IfOk result (λ s.
-            s.bytes.items ≡ take (length s.bytes.items) bytes.items) }
-        ensures whole { (front rest offsets : List ℕ) (headers : List Header)
-            (images : List (List ℕ)) → ArePictures front offsets headers images
-            → bytes.items ≡ front ++ rest → (BeginsWithFile rest → ⊥)
-            → IfOk result (λ s. ArePictures s.bytes.items s.offsets.items headers images) }
-        ensures same { (front rest offsets : List ℕ) (headers : List Header)
-            (images : List (List ℕ)) → ArePictures front offsets headers images
-            → bytes.items ≡ front ++ rest → (BeginsWithFile rest → ⊥)
-            → IfOk result (λ s. (s.bytes.items ≡ front) × (s.offsets.items ≡ offsets)) }
-    {
-        let (offsets, end) = find(alloc, &bytes)?;
-        Ok(cut(bytes, end, offsets))
-    }
+/// The whole frames that the bytes begin with, exactly; what follows is cut off.
+pub fn recover(alloc: Global, bytes: Vec<u8>) -> Result<Frames, Error>
+    ensures frames { IfOk result (λ s. (headers : List Header) × (images : List (List ℕ))
+        × ArePictures s.bytes.items s.offsets.items headers images) }
+    ensures front { IfOk result (λ s.
+        s.bytes.items ≡ take (length s.bytes.items) bytes.items) }
+    ensures same { (front rest offsets : List ℕ) (headers : List Header)
+        (images : List (List ℕ)) → ArePictures front offsets headers images
+        → bytes.items ≡ front ++ rest → (BeginsWithFile rest → ⊥)
+        → IfOk result (λ s. (s.bytes.items ≡ front) × (s.offsets.items ≡ offsets)) }
+{
+    let (offsets, end) = find(alloc, &bytes)?;
+    Ok(cut(bytes, end, offsets))
 }
 
 /// Cuts off what follows the frames.
@@ -200,23 +94,6 @@ fn note(bytes: &[u8], at: usize, offsets: &mut Vec<usize>) -> Result<Option<usiz
     Ok(Some(at + n))
 }
 
-/// How many bytes follow the file at the front; none if no file stands there.
-fn rest_length(bytes: &[u8]) -> Option<usize>
-    ensures some { IfSome result (λ n. BeginsWithFile bytes.now
-        × (n ≡ length (file_rest bytes.now))) }
-    ensures fewer { IfSome result (λ n. n < length bytes.now) }
-    ensures none { BeginsWithFile bytes.now → IsSome result }
-{
-    files_are_read();
-    let Ok(decoder) = Decoder::new(bytes) else {
-        return None;
-    };
-    match decoder.into_pixels().finish() {
-        Ok(decoder) => Some(decoder.into_data().len()),
-        Err(_) => None,
-    }
-}
-
 /// How many bytes the file at the front has; none if no file stands there.
 fn file_length(bytes: &[u8]) -> Option<usize>
     ensures some { IfSome result (λ n. BeginsWithFile bytes.now
@@ -224,87 +101,33 @@ fn file_length(bytes: &[u8]) -> Option<usize>
     ensures more { IfSome result (λ n. 0 < n) }
     ensures none { BeginsWithFile bytes.now → IsSome result }
 {
-    let rest = rest_length(bytes)?;
-    Some(bytes.len() - rest)
-}
-
-// A black pixel. Its file has the chunk `c0`.
-const BLACK: [u8; 3] = [0; 3];
-
-// The files of three frames: the pixel, a black one, and the pixel again.
-const THREE: [u8; 75] = [
-    0x71, 0x6f, 0x69, 0x66, 0, 0, 0, 1, 0, 0, 0, 1, 3, 0, 0xfe, 0x0b, 0x79, 0xe7, 0, 0, 0, 0, 0, 0,
-    0, 1, 0x71, 0x6f, 0x69, 0x66, 0, 0, 0, 1, 0, 0, 0, 1, 3, 0, 0xc0, 0, 0, 0, 0, 0, 0, 0, 1, 0x71,
-    0x6f, 0x69, 0x66, 0, 0, 0, 1, 0, 0, 0, 1, 3, 0, 0xfe, 0x0b, 0x79, 0xe7, 0, 0, 0, 0, 0, 0, 0, 1,
-];
-
-// Appends a frame of one pixel.
-fn add(rt: &impl Abort, frames: &mut Frames, raw: &[u8]) {
-    frames.append(raw, 1, 1).expect(rt, "refused");
-}
-
-// A store of these frames.
-fn three(rt: &impl Abort, alloc: Global) -> Frames {
-    let mut frames = Frames::new(alloc);
-    add(rt, &mut frames, &PIXEL);
-    add(rt, &mut frames, &BLACK);
-    add(rt, &mut frames, &PIXEL);
-    frames
-}
-
-// Frame k of a store is this image of one pixel.
-fn assert_frame(rt: &impl Abort, alloc: Global, frames: &Frames, k: usize, raw: &[u8]) {
-    let (header, found) = frames.get(alloc, k).expect(rt, "refused");
-    assert_header(rt, &header, &Header::default());
-    assert_bytes(rt, &found, raw);
-}
-
-// Compares all that a store holds.
-fn assert_holds(rt: &impl Abort, frames: &Frames, bytes: &[u8], offsets: &[usize]) {
-    assert_bytes(rt, &frames.bytes, bytes);
-    assert!(rt; frames.offsets.as_slice() == offsets);
-}
-
-#[test]
-fn three_frames(rt: HostRuntime) {
-    let alloc = rt.alloc();
-    let mut frames = three(&rt, alloc);
-    assert_frame(&rt, alloc, &frames, 0, &PIXEL);
-    assert_frame(&rt, alloc, &frames, 1, &BLACK);
-    assert_cut(&rt, frames.get(alloc, 3));
-    // Two raw bytes are no image.
-    assert!(rt; frames.append(&[1, 2], 1, 1).is_err());
-    assert_holds(&rt, &frames, &THREE, &[0, 26, 49]);
-}
-
-#[test]
-fn last_frame_dropped(rt: HostRuntime) {
-    let mut frames = three(&rt, rt.alloc());
-    frames.drop_last();
-    assert_holds(&rt, &frames, &THREE[..49], &[0, 26]);
-    for _ in 0..3 {
-        frames.drop_last();
+    files_are_read();
+    let Ok(decoder) = Decoder::new(bytes) else {
+        return None;
+    };
+    match decoder.into_pixels().finish() {
+        Ok(decoder) => Some(bytes.len() - decoder.into_data().len()),
+        Err(_) => None,
     }
-    assert_holds(&rt, &frames, &[], &[]);
 }
 
-// The store that is recovered from bytes holds these, and another frame behind them.
+// The frames that are recovered from bytes are these.
 fn assert_recovered(rt: &impl Abort, alloc: Global, bytes: &[u8], held: &[u8], offsets: &[usize]) {
     let bytes = made::bytes(rt, alloc, bytes);
-    let mut frames = Frames::recover(alloc, bytes).expect(rt, "refused");
-    assert_holds(rt, &frames, held, offsets);
-    add(rt, &mut frames, &PIXEL);
-    assert_bytes(rt, after(&frames.bytes, held.len()), &ONE_RGB_PIXEL);
+    let found = recover(alloc, bytes).expect(rt, "refused");
+    assert_bytes(rt, &found.bytes, held);
+    assert!(rt; found.offsets.as_slice() == offsets);
 }
 
+// Two frames, one and a part of another, none, and one and other bytes.
 #[test]
 fn recovered(rt: HostRuntime) {
     let alloc = rt.alloc();
-    assert_recovered(&rt, alloc, &THREE[..60], &THREE[..49], &[0, 26]);
-    assert_recovered(&rt, alloc, &THREE, &THREE, &[0, 26, 49]);
+    let one = ONE_RGB_PIXEL;
+    let two = made::joined(&rt, alloc, &one, &one);
+    assert_recovered(&rt, alloc, &two, &two, &[0, 26]);
+    assert_recovered(&rt, alloc, front(&two, 51), &one, &[0]);
     assert_recovered(&rt, alloc, &[], &[], &[]);
-    // Other bytes follow a file.
-    let (file, mut longer) = (ONE_RGB_PIXEL, [0x78; 28]);
-    longer[..26].copy_from_slice(&file);
-    assert_recovered(&rt, alloc, &longer, &file, &[0]);
+    let longer = made::joined(&rt, alloc, &one, b"xy");
+    assert_recovered(&rt, alloc, &longer, &one, &[0]);
 }

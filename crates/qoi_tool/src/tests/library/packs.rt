@@ -1,5 +1,5 @@
 //! Callers that keep several files in one slice (a pack): the image of the file at an offset comes
-//! back with its header, whatever follows it. `put_many` alone has a proof file: its loop's invariant.
+//! back with its header, whatever follows it. None has a proof file.
 ghost use Rattle.std.specs.Prelude.{◌≡◌, ◌<◌, ℕ, List, length, Ok, IfOk, IfErr, IsErrOf, OnOk};
 ghost use Rattle.qoi.specs.declared.error.Error.{Error};
 ghost use Rattle.qoi.specs.declared.header.Header.{Header};
@@ -60,36 +60,6 @@ pub fn get(alloc: Global, atlas: &[u8], offset: usize) -> Result<(Header, Vec<u8
     decode_to_vec(alloc, &atlas[offset..])
 }
 
-/// A tile is put at the end of an atlas. This says no more than that the tiles before it stay.
-fn put_behind(atlas: &mut Vec<u8>, raw: &[u8], width: u32, height: u32) -> Result<(), Error>
-    ensures { (offset : ℕ) (h : Header) (tile : List ℕ)
-        → HasPicture atlas.old.items offset h tile
-        → OnOk result (HasPicture atlas.new.items offset h tile) }
-{
-    put(atlas, raw, width, height)?;
-    Ok(())
-}
-
-/// A tile is put at the end of an atlas, and its offset returned; another is put behind it, `count`
-/// times.
-pub fn put_many(
-    atlas: &mut Vec<u8>,
-    first: &[u8],
-    other: &[u8],
-    count: usize,
-    width: u32,
-    height: u32,
-) -> Result<usize, Error>
-    ensures { (h : Header) → image_header first.now width height ≡ Ok h
-        → IfOk result (λ offset. HasPicture atlas.new.items offset h first.now) }
-{
-    let offset = put(atlas, first, width, height)?;
-    for _ in 0..count {
-        put_behind(atlas, other, width, height)?;
-    }
-    Ok(offset)
-}
-
 // A tile.
 const OTHER: [u8; 3] = [1, 2, 3];
 
@@ -123,8 +93,8 @@ fn at_the_end_of_an_atlas(rt: HostRuntime) {
 fn before_other_tiles(rt: HostRuntime) {
     let alloc = rt.alloc();
     let mut atlas = Vec::new(alloc);
-    let offset = put_many(&mut atlas, &OTHER, &PIXEL, 3, 1, 1);
-    assert_tile(&rt, alloc, &atlas, offset, &OTHER);
-    let offset = put_file(alloc, &mut atlas, &ONE_RGB_PIXEL);
-    assert_tile(&rt, alloc, &atlas, offset, &PIXEL);
+    let first = put(&mut atlas, &OTHER, 1, 1);
+    let other = put_file(alloc, &mut atlas, &ONE_RGB_PIXEL);
+    assert_tile(&rt, alloc, &atlas, first, &OTHER);
+    assert_tile(&rt, alloc, &atlas, other, &PIXEL);
 }

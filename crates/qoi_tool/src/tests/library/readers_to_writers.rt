@@ -1,16 +1,13 @@
 //! Callers from any reader to any writer, that hold a row: a file is encoded again, in chosen
 //! channels, and a smaller picture is made of it. Only the loops have proof files, with their
 //! invariants.
-ghost use Rattle.std.specs.Prelude.{◌≡◌, ◌<◌, ◌≤◌, ◌+◌, ◌^◌, ℕ, List, Option, length, drop, Some, Ok, IfOk, OnOk};
+ghost use Rattle.std.specs.Prelude.{◌≡◌, ◌<◌, ◌≤◌, ◌+◌, ◌^◌, ℕ, List, Option, length, Some, IfOk, OnOk};
 ghost use Rattle.std.specs.Io.KnownBytes.{Appends};
-ghost use Rattle.qoi.specs.declared.header.Header.{Header};
-ghost use Rattle.qoi.specs.declared.types.Channels.TheVariants.{Rgba};
 ghost use Rattle.qoi.specs.declared.types.Style.TheVariants.{Reference};
 ghost use Rattle.qoi.specs.Encoded.{image_file};
 ghost use Rattle.qoi.specs.EncoderState.{EncoderState};
 ghost use Rattle.qoi.specs.pieces.PixelWriter.{HasTaken};
 ghost use Rattle.qoi.specs.Images.{front_image};
-ghost use Rattle.qoi.specs.Qoi.{header_of, header_size};
 ghost use Rattle.qoi.specs.Sent.{SendsSomeFile};
 
 use crate::tests::fakes::ONE_RGB_PIXEL;
@@ -18,7 +15,7 @@ use crate::tests::library::support::images::row;
 use crate::tests::library::support::{assert_decoded, assert_given, made};
 use qoi::{Channels, Decoder, Header, PixelReader, PixelWriter, Reader, Result, Style};
 use std::alloc::Global;
-use std::io::{BufRead, Write};
+use std::io::Write;
 use std::process::Abort;
 
 /// A file is encoded again, by a row that is an array.
@@ -41,18 +38,6 @@ pub fn by_array<R: Reader + Drop, W: Write + Drop>(
         writer.write(&row[..count])?;
     }
     Ok(writer.finish()?)
-}
-
-/// From a reader with a buffer, in four channels.
-pub fn in_four<R: BufRead + Drop, W: Write + Drop>(alloc: Global, input: R, out: W) -> Result<W>
-    ensures { (bytes : List ℕ) (h : Header) → R.remaining input ≡ Some bytes
-        → header_of bytes ≡ Ok h → IfOk result (λ w. Appends (W.contents out) (W.contents w)
-        (image_file Reference (record h { channels = Rgba })
-        (front_image Rgba h (drop header_size bytes)))) }
-{
-    let decoder = Decoder::from_buf_read(input)?.with_channels(Channels::Rgba);
-    let out = by_array(alloc, decoder, out)?;
-    Ok(out)
 }
 
 // Where in a row byte i of its every second pixel stands.
@@ -120,19 +105,13 @@ pub fn thumbnail<R: Reader + Drop, W: Write + Drop>(
     Ok(out)
 }
 
-// The file of a pixel, in its own channels and in four.
+// The file of a pixel.
 #[test]
 fn files_are_encoded_again(rt: HostRuntime) {
     let alloc = rt.alloc();
     let file: &[u8] = &ONE_RGB_PIXEL;
     let decoder = made::slice(&rt, file);
     assert_given(&rt, by_array(alloc, decoder, Vec::new(alloc)), file);
-    let decoder = made::stream(&rt, file);
-    assert_given(&rt, by_array(alloc, decoder, Vec::new(alloc)), file);
-    let reader = made::buffer(&rt, alloc, 8, file);
-    let mut four = ONE_RGB_PIXEL;
-    four[12] = 4;
-    assert_given(&rt, in_four(alloc, reader, Vec::new(alloc)), &four);
 }
 
 // The file of a smaller picture has these raw bytes.

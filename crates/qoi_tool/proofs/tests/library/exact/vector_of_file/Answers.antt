@@ -1,12 +1,9 @@
--- A success is the file at the front, and a refusal says that none stands there.
+-- A refusal says that no file stands at the front.
 use Rattle.std.proofs.Common.{◌≡◌, ◌∙◌, Ok, ap, ⊎_elim}
 use Rattle.std.proofs.lemmas.Result.{IfOk-weaker, IfErr-weaker, MatchResult-from_both}
 use Rattle.qoi.specs.Qoi.{header_of}
 use Rattle.qoi.specs.Images.{file_image}
 use Rattle.qoi_tool.proofs.tests.library.exact.vector_of_file.Goals as goal
-
-pub returns-clause-only : goal.returns-clause-only
-returns-clause-only c = IfOk-weaker c.decode_to_vec.result _ _ (λ x d. d.decodes) c.decode_to_vec.ensures.decoded
 
 pub returns-clause-accepts : goal.returns-clause-accepts
 returns-clause-accepts c h cs rest f split =
