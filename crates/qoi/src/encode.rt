@@ -7,7 +7,6 @@ ghost use Rattle.qoi.specs.Encoded.{max_len, max_file_len, image_header, measure
 ghost use Rattle.qoi.specs.Errors.{IsIoError};
 ghost use Rattle.qoi.specs.Sent.{IsFileFor, MakesFile, PutsFile, SendsFile, SendsPart};
 ghost use Rattle.qoi.specs.EncoderState.{EncoderState, free_encoder};
-ghost use Rattle.qoi.specs.inner.Sending.{WritesImage};
 
 mod block;
 mod blocks;
@@ -23,8 +22,8 @@ mod sparse;
 mod table;
 
 use crate::consts::{QOI_HEADER_SIZE, QOI_PADDING_SIZE};
-use crate::encode::image::{LEAST_BLOCK, encode_file, encode_in_one_piece};
-use crate::encode::piece::{LARGE_BATCH, LARGE_ROOM, LEAST_ROOM, SMALL_ROOM, TINY_FILE, TINY_ROOM};
+use crate::encode::image::{LEAST_BLOCK, encode_in_one_piece, write_image};
+use crate::encode::piece::{LEAST_ROOM, TINY_FILE, TINY_ROOM};
 pub use crate::encode::pixel_writer::PixelWriter;
 pub(crate) use crate::encode::pixel_writer::send_bytes;
 use crate::error::{Error, Result};
@@ -241,31 +240,6 @@ impl<'a> Encoder<'a> {
         self.header.encode_max_len()
     }
 
-    // Writes the file of the image to memory, and returns how many bytes it has.
-    #[inline(always)]
-    fn write_to_memory<W: Writer>(&self, writer: &mut W) -> Result<usize>
-        requires room { max_file_len self.now.header ≤ W.room writer.old }
-        ensures { WritesImage W.wrote W.IsFault self.now writer.old writer.new result }
-    {
-        if self.data.len() < LEAST_BLOCK {
-            return encode_in_one_piece::<W, LEAST_ROOM>(writer, self);
-        }
-        self.encode_file_to_memory(writer)
-    }
-
-    // `write_to_memory` of an image that isn't below `LEAST_BLOCK`: in `SMALL_ROOM`, if there are fewer
-    // raw bytes than a piece in `LARGE_ROOM` sends at once.
-    #[inline(always)]
-    fn encode_file_to_memory<W: Writer>(&self, writer: &mut W) -> Result<usize>
-        requires room { max_file_len self.now.header ≤ W.room writer.old }
-        ensures { WritesImage W.wrote W.IsFault self.now writer.old writer.new result }
-    {
-        if self.data.len() < LARGE_BATCH {
-            return encode_file::<W, SMALL_ROOM>(writer, self);
-        }
-        encode_file::<W, LARGE_ROOM>(writer, self)
-    }
-
     /// Encodes the image into the front of the buffer, and returns how many bytes the file has;
     /// later bytes stay as they are.
     ///
@@ -291,8 +265,8 @@ impl<'a> Encoder<'a> {
             });
         }
         let mut writer = BytesMut::new(buf);
-        // Asked here, not by `write_to_memory`: each call that passes a `Result` on copies the room
-        // of an error.
+        // Asked here, and not by `write_image` alone: for one pixel its answer, passed on, takes 5
+        // percent more instructions.
         if self.data.len() < LEAST_BLOCK {
             return encode_in_one_piece::<_, LEAST_ROOM>(&mut writer, self);
         }
@@ -302,7 +276,7 @@ impl<'a> Encoder<'a> {
         if required <= TINY_FILE {
             return encode_in_one_piece::<_, TINY_ROOM>(&mut writer, self);
         }
-        self.encode_file_to_memory(&mut writer)
+        write_image::<_, true>(&mut writer, self)
     }
 
     /// Encodes the image into a new vector, which holds only the file.
@@ -318,7 +292,7 @@ impl<'a> Encoder<'a> {
     {
         let mut file = Vec::with_capacity(alloc, self.required_buf_len())?;
         let mut writer = VecMut::new(&mut file);
-        self.write_to_memory(&mut writer)?;
+        write_image::<_, true>(&mut writer, self)?;
         file.shrink_to_fit();
         Ok(file)
     }
@@ -339,9 +313,6 @@ impl<'a> Encoder<'a> {
             × SendsPart self.now (W.contents writer.old) (W.contents writer.new)) }
     {
         let mut writer = GenericWriter::new(writer);
-        if self.data.len() < LEAST_BLOCK {
-            return encode_in_one_piece::<_, LEAST_ROOM>(&mut writer, self);
-        }
-        encode_file::<_, LARGE_ROOM>(&mut writer, self)
+        write_image::<_, false>(&mut writer, self)
     }
 }

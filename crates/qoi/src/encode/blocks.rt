@@ -5,12 +5,14 @@ ghost use Rattle.qoi.specs.Qoi.{RgbaPixel};
 ghost use Rattle.qoi.specs.Styles.{Style, style_in};
 ghost use Rattle.qoi.specs.inner.BlockLoop.{GoesByBlocks, WritesBlocks};
 ghost use Rattle.qoi.specs.inner.block.Planes.{last_pixel};
-ghost use Rattle.qoi.specs.inner.Coder.{pixels_in, WritesSome};
+ghost use Rattle.qoi.specs.inner.Coder.{pixels_in};
+ghost use Rattle.qoi.specs.inner.Sending.{EndsOpaque, FillsPiece, pixel_size};
 
 use crate::consts::QOI_RUN_MAX;
 use crate::encode::block::{Block, write_in_lanes};
 use crate::encode::carry::{Carry, FRONT_CARRIED};
 use crate::encode::coder::{Coder, LastPixel};
+use crate::encode::image::ImageState;
 use crate::encode::piece::{OpenPiece, Piece, REPEATS_AT_ONCE};
 use crate::encode::pixels::{LoopPixels, Pixels, style_in};
 use crate::encode::repeats::repeats_of;
@@ -147,13 +149,16 @@ fn write_front_block<
     (pixels.rest.skip(16), next_carry, piece)
 }
 
-/// Writes by blocks until the piece is full or fewer pixels than a block has are left, whatever
-/// pixels come meanwhile: afterwards one of the two is so. Returns the piece, and the rest.
+/// Writes these pixels, which go by blocks in this style (`style_in`), until the piece is full or fewer
+/// than a block has are left, whatever pixels come meanwhile: afterwards one of the two is so.
+/// Returns the piece, and the rest.
 ///
 /// `Reference` has a loop of its own, and another if `ALL_RGBA`: where an RGBA chunk is expected to
-/// give each pixel (`begin_with_rgba`). The other styles share one, which is told the style. The
-/// piece is a value, so that the compiler keeps its fields in registers.
-#[inline(always)]
+/// give each pixel (`begin_with_rgba`). The other styles share one, which is told the style. It isn't
+/// inlined: where the loops are one function, they are slower. Nor is it passed a `LoopPixels`, which
+/// would be stored for the call: a small image takes longer for it. The piece is a value, so that the
+/// compiler keeps its fields in registers.
+#[inline(never)]
 pub(super) fn write_blocks<
     'a,
     'p,
@@ -162,50 +167,52 @@ pub(super) fn write_blocks<
     const ROOM: usize,
     const ALL_RGBA: bool,
 >(
-    last: &mut LastPixel,
-    table: &mut PixelTable,
+    state: &mut ImageState,
     piece: OpenPiece<'p, ROOM>,
-    pixels: LoopPixels<'a, N>,
+    raw: Pixels<'a, N>,
 ) -> (Piece<'p, ROOM>, &'a [u8])
-    requires opaque { N ≡ 3 → last.old.px.a ≡ 255 }
-    requires goes { GoesByBlocks (style_in STYLE pixels.style) last.old
-        (length (pixels_in pixels.rest)) (pixels_in pixels.rest) }
-    ensures { WritesSome (style_in STYLE pixels.entry.style) pixels.entry.rest
-        table.old last.old piece.entry.piece result.1.now table.new last.new result.0 }
+    requires channels { pixel_size state.old ≡ N }
+    requires opaque { EndsOpaque state.old }
+    requires style { state.old.style ≡ style_in STYLE state.old.style }
+    requires block { 16 ≤ length (pixels_in raw) }
+    requires goes { GoesByBlocks (style_in STYLE state.old.style) state.old.last
+        (length (pixels_in raw)) (pixels_in raw) }
+    ensures { FillsPiece state.old piece.entry raw.entry.bytes.now state.new result }
 {
-    let whole = pixels.rest;
-    let mut carry = Carry::<N>::of(*last);
+    let style = state.style;
+    let mut carry = Carry::<N>::of(state.last);
     let mut piece = piece.piece;
-    let mut rest = whole;
+    let mut rest = raw;
     while !piece.is_full() && rest.has_block() {
         (rest, carry, piece) = write_front_block::<N, STYLE, ROOM, ALL_RGBA>(
-            table,
+            &mut state.table,
             piece.open(),
-            rest.in_loop(whole, pixels.style),
+            rest.in_loop(raw, style),
             carry,
         );
     }
-    *last = carry.last_pixel();
+    state.last = carry.last_pixel();
     // With the rest first, as `write_front_block` has it, a register less is left for the loop.
     (piece, rest.bytes)
 }
 
-/// Writes the repeats that wait, those at the front and the fresh pixel after them, by
-/// `write_next_group`. Returns the piece, and the rest.
-#[inline(always)]
+/// Writes the opening of these pixels, a block or more: the repeats that wait, those at the front and
+/// the fresh pixel after them. Returns the piece, and the rest. It isn't inlined: in one function
+/// with it the loop over blocks would be slower.
+#[inline(never)]
 pub(super) fn write_opening<'a, 'p, const N: usize, const ROOM: usize>(
-    last: &mut LastPixel,
-    table: &mut PixelTable,
+    state: &mut ImageState,
     piece: OpenPiece<'p, ROOM>,
-    pixels: LoopPixels<'a, N>,
+    raw: Pixels<'a, N>,
 ) -> (Piece<'p, ROOM>, &'a [u8])
-    requires { N ≡ 3 → last.old.px.a ≡ 255 }
-    ensures { WritesSome pixels.entry.style pixels.entry.rest
-        table.old last.old piece.entry.piece result.1.now table.new last.new result.0 }
+    requires channels { pixel_size state.old ≡ N }
+    requires opaque { EndsOpaque state.old }
+    requires block { 16 ≤ length (pixels_in raw) }
+    ensures { FillsPiece state.old piece.entry raw.entry.bytes.now state.new result }
 {
     let mut piece = piece.piece;
-    let mut coder = Coder::<N>::new(pixels.style, *last);
-    let rest = coder.write_next_group(table, &mut piece, pixels.rest);
-    *last = coder.last;
+    let mut coder = Coder::<N>::new(state.style, state.last);
+    let rest = coder.write_next_group(&mut state.table, &mut piece, raw);
+    state.last = coder.last;
     (piece, rest.bytes)
 }

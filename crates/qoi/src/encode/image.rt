@@ -3,15 +3,15 @@
 ghost use Rattle.std.specs.Prelude.{◌≡◌, ℕ, ◌-◌, ◌*◌, ◌%◌, ◌<◌, ◌≤◌, List, length};
 ghost use Rattle.qoi.specs.Encoded.{max_file_len};
 ghost use Rattle.qoi.specs.inner.Sending.{IsNew, EndsOpaque, pixel_size, StaysIn, Between, GoesByPixels, FillsPiece, IsReady, WritesWhole, WritesImage};
-ghost use Rattle.qoi.specs.inner.BlockLoop.{GoesByBlocks};
-ghost use Rattle.qoi.specs.Styles.{style_in};
 ghost use Rattle.qoi.specs.inner.Coder.{kept_bytes, pixels_in, CoderEnds, SPARE, LARGE_ROOM};
 ghost use Rattle.qoi.specs.Raw.{pixels_of};
 
 use crate::encode::Encoder;
 use crate::encode::blocks::{begin_with_rgba, goes_by_blocks, write_blocks, write_opening};
 use crate::encode::coder::{Coder, LastPixel};
-use crate::encode::piece::{LEAST_ROOM, OpenPiece, Piece, TINY_ROOM};
+use crate::encode::piece::{
+    LARGE_BATCH, LARGE_ROOM, LEAST_ROOM, OpenPiece, Piece, SMALL_ROOM, TINY_ROOM,
+};
 use crate::encode::pixels::{AS_REFERENCE, AS_TOLD, Pixels};
 use crate::encode::table::PixelTable;
 use crate::error::Result;
@@ -54,83 +54,35 @@ impl ImageState {
     }
 }
 
-// Writes the opening of these pixels, a block or more, into a piece: the repeats that wait, those at
-// the front and the fresh pixel after them. It isn't inlined: in one function with it the loop over
-// blocks would be slower.
-#[inline(never)]
-fn fill_with_opening<'a, 'p, const N: usize, const ROOM: usize>(
-    state: &mut ImageState,
-    piece: OpenPiece<'p, ROOM>,
-    raw: Pixels<'a, N>,
-) -> (Piece<'p, ROOM>, &'a [u8])
-    requires channels { pixel_size state.old ≡ N }
-    requires opaque { EndsOpaque state.old }
-    requires block { 16 ≤ length (pixels_in raw) }
-    ensures { FillsPiece state.old piece.entry raw.entry.bytes.now state.new result }
-{
-    let pixels = raw.start_loop(state.style);
-    write_opening(&mut state.last, &mut state.table, piece, pixels)
-}
-
-// Writes these pixels, which go by blocks in this style (`style_in`), into a piece. It isn't inlined:
-// where the loops, with `ALL_RGBA` and without, are one function, they are slower. Nor is it passed
-// a `LoopPixels`, which would be stored for the call: a small image takes longer for it.
-#[inline(never)]
-fn fill_with_blocks<
-    'a,
-    'p,
-    const N: usize,
-    const STYLE: u8,
-    const ROOM: usize,
-    const ALL_RGBA: bool,
->(
-    state: &mut ImageState,
-    piece: OpenPiece<'p, ROOM>,
-    raw: Pixels<'a, N>,
-) -> (Piece<'p, ROOM>, &'a [u8])
-    requires channels { pixel_size state.old ≡ N }
-    requires opaque { EndsOpaque state.old }
-    requires style { state.old.style ≡ style_in STYLE state.old.style }
-    requires block { 16 ≤ length (pixels_in raw) }
-    requires goes { GoesByBlocks (style_in STYLE state.old.style) state.old.last
-        (length (pixels_in raw)) (pixels_in raw) }
-    ensures { FillsPiece state.old piece.entry raw.entry.bytes.now state.new result }
-{
-    let pixels = raw.start_loop(state.style);
-    write_blocks::<N, STYLE, ROOM, ALL_RGBA>(&mut state.last, &mut state.table, piece, pixels)
-}
-
-// `fill_piece` in `N` channels. `write_blocks` is lent the last pixel: by value it would wait until
-// its parts, just stored, are in the cache.
+// `fill_piece` in `N` channels.
 #[inline(always)]
 fn fill_in_channels<'a, 'p, const N: usize, const ROOM: usize>(
     state: &mut ImageState,
     piece: OpenPiece<'p, ROOM>,
-    data: &'a [u8],
+    raw: Pixels<'a, N>,
 ) -> (Piece<'p, ROOM>, &'a [u8])
     requires channels { pixel_size state.old ≡ N }
-    requires whole { GoesByPixels state.old «data».now }
-    requires block { 16 * N ≤ length «data».now }
-    ensures { FillsPiece state.old piece.entry «data».entry.now state.new result }
+    requires opaque { EndsOpaque state.old }
+    requires block { 16 ≤ length (pixels_in raw) }
+    ensures { FillsPiece state.old piece.entry raw.entry.bytes.now state.new result }
 {
-    let raw = Pixels::<N>::new(data);
     if !goes_by_blocks(state.style, state.last, raw) {
-        return fill_with_opening(state, piece, raw);
+        return write_opening(state, piece, raw);
     }
     match state.style {
         Reference => {}
-        Places | Tight => return fill_with_blocks::<N, AS_TOLD, ROOM, false>(state, piece, raw),
+        Places | Tight => return write_blocks::<N, AS_TOLD, ROOM, false>(state, piece, raw),
     }
     // A file in `TINY_ROOM` has too few pixels.
     if ROOM != TINY_ROOM && begin_with_rgba(&state.table, state.last.px, raw) {
-        return fill_with_blocks::<N, AS_REFERENCE, ROOM, true>(state, piece, raw);
+        return write_blocks::<N, AS_REFERENCE, ROOM, true>(state, piece, raw);
     }
-    fill_with_blocks::<N, AS_REFERENCE, ROOM, false>(state, piece, raw)
+    write_blocks::<N, AS_REFERENCE, ROOM, false>(state, piece, raw)
 }
 
 // Writes the front of whole pixels, which are a block or more, into the piece: by blocks, until it
-// is full or no block is left (`fill_with_blocks`); or only the repeats and the fresh pixel at the
-// front (`fill_with_opening`), after which neither need be so. Returns the piece, and the rest.
+// is full or no block is left (`write_blocks`); or only the repeats and the fresh pixel at the
+// front (`write_opening`), after which neither need be so. Returns the piece, and the rest.
 // Which of the two ways it goes is asked mostly once a piece (`fill_in_channels`).
 #[inline(always)]
 fn fill_piece<'a, 'p, const ROOM: usize>(
@@ -143,8 +95,8 @@ fn fill_piece<'a, 'p, const ROOM: usize>(
     ensures { FillsPiece state.old piece.entry «data».entry.now state.new result }
 {
     match state.channels {
-        Rgb => fill_in_channels::<3, ROOM>(state, piece, data),
-        Rgba => fill_in_channels::<4, ROOM>(state, piece, data),
+        Rgb => fill_in_channels::<3, ROOM>(state, piece, Pixels::new(data)),
+        Rgba => fill_in_channels::<4, ROOM>(state, piece, Pixels::new(data)),
     }
 }
 
@@ -219,12 +171,9 @@ pub(super) fn write_last_pixels<const ROOM: usize>(
     }
 }
 
-/// Writes the file of an image, and returns how many bytes it has. These go through a piece in a
-/// room of `ROOM` bytes, which sends to the writer each time it is full, and at last.
-pub(super) fn encode_file<W: Writer, const ROOM: usize>(
-    writer: &mut W,
-    encoder: &Encoder,
-) -> Result<usize>
+// Writes the file of an image, and returns how many bytes it has. These go through a piece in a
+// room of `ROOM` bytes, which sends to the writer each time it is full, and at last.
+fn encode_file<W: Writer, const ROOM: usize>(writer: &mut W, encoder: &Encoder) -> Result<usize>
     requires piece { (2 * SPARE ≤ ROOM) × (ROOM ≤ LARGE_ROOM) }
     requires room { max_file_len encoder.now.header ≤ W.room writer.old }
     ensures { WritesImage W.wrote W.IsFault encoder.now writer.old writer.new result }
@@ -277,4 +226,25 @@ pub(super) fn encode_in_one_piece<W: Writer, const ROOM: usize>(
     let end = last_piece.store_marker();
     writer.write_many(last_piece.front(end))?;
     Ok(end)
+}
+
+/// Writes the file of an image, and returns how many bytes it has: through one piece if the image has
+/// no block, in `SMALL_ROOM` if it goes to memory and has fewer raw bytes than a piece in
+/// `LARGE_ROOM` sends at once, else in that.
+#[inline(always)]
+pub(super) fn write_image<W: Writer, const IN_MEMORY: bool>(
+    writer: &mut W,
+    encoder: &Encoder,
+) -> Result<usize>
+    requires room { max_file_len encoder.now.header ≤ W.room writer.old }
+    ensures { WritesImage W.wrote W.IsFault encoder.now writer.old writer.new result }
+{
+    let size = encoder.data.len();
+    if size < LEAST_BLOCK {
+        return encode_in_one_piece::<W, LEAST_ROOM>(writer, encoder);
+    }
+    if IN_MEMORY && size < LARGE_BATCH {
+        return encode_file::<W, SMALL_ROOM>(writer, encoder);
+    }
+    encode_file::<W, LARGE_ROOM>(writer, encoder)
 }

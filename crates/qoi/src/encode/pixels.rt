@@ -23,9 +23,8 @@ pub(super) struct PixelOf<const N: usize> {
     ghost opaque: { N ≡ 3 → px.a ≡ 255 },
 }
 
-/// The pixels of a loop over blocks, or of an opening: `rest`, those that are left, sixteen or more;
-/// `whole`, all of them, by which `goes_by_marks` knows the loop's first block; and the style that
-/// the loop is told.
+/// The pixels of a loop over blocks: `rest`, those that are left, sixteen or more; `whole`, all of
+/// them, by which `goes_by_marks` knows the loop's first block; and the style that the loop is told.
 #[derive(Clone, Copy)]
 pub(super) struct LoopPixels<'a, const N: usize> {
     pub(super) rest: Pixels<'a, N>,
@@ -85,16 +84,6 @@ impl<'a, const N: usize> Pixels<'a, N> {
         ensures long { IsTrue result → N * 16 ≤ length self.entry.bytes.now }
     {
         self.bytes.len() >= 16 * N
-    }
-
-    /// These pixels, a block or more, as all of a loop, which is told this style.
-    #[inline(always)]
-    pub(super) fn start_loop(self, style: Style) -> LoopPixels<'a, N>
-        requires { 16 ≤ length (pixels_in self) }
-        ensures rest { result.rest ≡ self.entry }
-        ensures style { result.style ≡ style }
-    {
-        self.in_loop(self, style)
     }
 
     /// These pixels, a block or more, as those left of a loop's `whole`, which is told this style.

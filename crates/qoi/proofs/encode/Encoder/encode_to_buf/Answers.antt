@@ -6,10 +6,10 @@ use Rattle.qoi.proofs.encoding.piece.BufferFilled.{buffer_filled}
 use Rattle.qoi.proofs.encode.Encoder.encode_to_buf.Goals as goal
 
 pub returns-clause-encoded : goal.returns-clause-encoded
-returns-clause-encoded c = let w = c.encode_file_to_memory.ensures in MatchResult-weaker c.encode_file_to_memory.result w.2 (λ n r.
+returns-clause-encoded c = let w = c.write_image.ensures in MatchResult-weaker c.write_image.result w.2 (λ n r.
     let old = c.args.buf.now in
     let new = c.new-writer.ensures in
-    let filled = buffer_filled c.new-writer.result c.encode_file_to_memory.new.writer old w.0 n new.written new.left r.1 r.0 in
+    let filled = buffer_filled c.new-writer.result c.write_image.new.writer old w.0 n new.written new.left r.1 r.0 in
     let named = r.1.same_writer in
     let file = w.1 in
     puts_file _ w.0 old _ n file r.0 (search rules)

@@ -7,7 +7,7 @@ use Rattle.qoi.proofs.encode.Encoder.encode_to_vec.Goals as goal
 pub returns-clause-encoded : goal.returns-clause-encoded
 returns-clause-encoded c =
     let e = c.args.self.now in
-    let w = c.in_ok-write_to_memory.ensures in
+    let w = c.in_ok-write_image.ensures in
     let named = w.2.1.same_writer in
     let empty = c.new-writer.ensures.bytes ∙ c.in_ok-file.ensures.items in
     let appended = w.2.1.appended ∙ ap (λ z. z ++ w.0) empty in

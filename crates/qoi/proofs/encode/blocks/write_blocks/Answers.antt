@@ -4,15 +4,18 @@ use Rattle.std.proofs.lemmas.Bool.{true≢false}
 use Rattle.qoi.specs.inner.BlockLoop.{InBlocks}
 use Rattle.qoi.specs.Styles.{Style, style_in}
 use Rattle.qoi.specs.inner.Coder.{Pixels, pixels_in, kept_bytes}
+use Rattle.qoi.specs.inner.Sending.{FillsPiece, ImageState}
 use Rattle.qoi.proofs.encoding.coder.CoderLink.{still_between}
+use Rattle.qoi.proofs.encoding.piece.ImagePieces.{fills}
 use Rattle.qoi.proofs.encode.blocks.write_blocks.Goals.{then-loop-rest-test+else-has_block, else-loop-rest-test}
 use Rattle.qoi.proofs.encode.blocks.write_blocks.Goals as goal
 
 pub loop-rest-init : goal.loop-rest-init
 loop-rest-init g c = record {
+  same = refl;
   less = inr (refl, c.args.piece.not_full);
   written = λ ahead more b. record {
-    last = c.args.last.now;
+    last = c.args.state.now.last;
     is = c.of-carry.ensures;
     between = b;
     goes = c.requires.goes;
@@ -25,13 +28,14 @@ loop-rest-preserved g c =
     let step = c.write_front_block.ensures in
     let front = c.in_loop.ensures.rest in
     let size = ap (λ r. length (pixels_in r)) front in
-    let style = style_in g.row.STYLE c.args.pixels.style in
+    let style = style_in g.row.STYLE c.args.state.now.style in
     let same : style_in g.row.STYLE c.in_loop.result.style ≡ style = ap (style_in g.row.STYLE) c.in_loop.ensures.style in
     record {
+      same = ap (λ (s : ImageState). record s { table = c.write_front_block.new.table }) i.same;
       less = inl (elim i.less [ inl less ↦ omega (arith, step.less, size, less) | inr same ↦ omega (arith, step.less, size, same.0) ]);
       written = λ ahead more b.
-          let n = length (pixels_in c.args.pixels.rest) in
-          let In = λ (s : Style) (r : Pixels g.row.N) (kept : List ℕ). InBlocks s ahead n (pixels_in r) more c.loop-rest.table c.loop-rest.carry kept in
+          let n = length (pixels_in c.args.raw) in
+          let In = λ (s : Style) (r : Pixels g.row.N) (kept : List ℕ). InBlocks s ahead n (pixels_in r) more c.loop-rest.state.table c.loop-rest.carry kept in
           let was : In style c.in_loop.result.rest (kept_bytes c.open.result.piece) =
           subst (λ r. In style r (kept_bytes c.open.result.piece)) (sym front) (subst (In style c.loop-rest.rest) (sym c.open.ensures) (i.written ahead more b)) in
           subst (λ s. InBlocks s ahead n (pixels_in c.write_front_block.result.0) more c.write_front_block.new.table c.write_front_block.result.1 (kept_bytes c.write_front_block.result.2)) same
@@ -41,17 +45,18 @@ loop-rest-preserved g c =
 pub returns : goal.returns
 returns g c =
     let i = c.loop-rest.invariant in
-    let after = c.last_pixel.ensures in
-    let less : length (pixels_in c.loop-rest.rest) < length (pixels_in c.args.pixels.rest) = elim i.less [
+    let after = c.last_pixel-state.ensures in
+    let less : length (pixels_in c.loop-rest.rest) < length (pixels_in c.args.raw) = elim i.less [
       | inl less ↦ less
       | inr same ↦ absurd (elim c.loop-rest-test.branch [
-        | then-loop-rest-test+else-has_block w ↦ true≢false (sym (w.has_block.ensures.block.1 (omega (arith, same.0, c.args.pixels.enough))) ∙ w.if-has_block.false)
+        | then-loop-rest-test+else-has_block w ↦ true≢false (sym (w.has_block.ensures.block.1 (omega (arith, same.0, c.requires.block))) ∙ w.if-has_block.false)
         | else-loop-rest-test w ↦ omega (arith, same.1, c.is_full.ensures.full w.loop-rest-test.false)
       ])
     ] in
-    record {
+    subst (λ (s : ImageState). FillsPiece c.args.state.now c.args.piece c.args.raw.bytes.now (record s { last = c.last_pixel-state.result }) (c.loop-rest.piece, c.loop-rest.rest.bytes)) (sym i.same)
+    (fills c.args.state.now c.args.piece c.args.raw.bytes.now c.args.raw (c.loop-rest.piece, c.loop-rest.rest.bytes) c.requires.channels c.requires.style refl (record {
       opaque = after.opaque;
       whole = c.loop-rest.rest.whole;
       less = less;
       on = λ ahead more b. still_between after.carried after.begun (inr less) (i.written ahead more b);
-    }
+    }))
