@@ -220,8 +220,8 @@ impl RowIndex {
             → IsErrOf result Error.UnexpectedBufferEnd }
         ensures header { (e : Error) → header_of file.entry.now ≡ Err e → result ≡ Err e }
     {
-        let decoder = Decoder::new(file)?;
-        self.rows_of(file, decoder, first)
+        let channels = Header::decode(file)?.channels;
+        self.rows_in(file, channels, first)
     }
 
     /// `rows` into any channels.
@@ -243,29 +243,8 @@ impl RowIndex {
             → IsErrOf result Error.UnexpectedBufferEnd }
         ensures header { (e : Error) → header_of file.entry.now ≡ Err e → result ≡ Err e }
     {
-        let decoder = Decoder::new(file)?;
-        self.rows_of(file, decoder.with_channels(channels), first)
-    }
-
-    // `rows` into the channels of this decoder of the file.
-    fn rows_of<'a>(
-        &self,
-        file: &'a [u8],
-        decoder: Decoder<Bytes<'a>>,
-        first: u32,
-    ) -> Result<PixelReader<Bytes<'a>>>
-        requires { IsFileDecoder file.now decoder }
-        ensures rows { IsRowIndex file.entry.now self.now → IfOk result (λ p. HasRows
-            (file_decoder decoder.entry.channels decoder.entry.header file.entry.now)
-            (Some (drop header_size file.entry.now)) (Some p.reader)
-            (row_size decoder.entry.channels decoder.entry.header) first p) }
-        // The refusals.
-        ensures accepts { IsRowIndex file.entry.now self.now
-            → first ≤ decoder.entry.header.height → IsOk result }
-        ensures high { decoder.entry.header.height < first
-            → IsErrOf result Error.UnexpectedBufferEnd }
-    {
-        let (header, channels) = (*decoder.header(), decoder.channels());
+        let decoder = Decoder::new(file)?.with_channels(channels);
+        let header = *decoder.header();
         if first > header.height {
             return Err(Error::UnexpectedBufferEnd);
         }

@@ -1,7 +1,7 @@
 -- The image is that of the file, of so many bytes, in the file's own channels.
 use Rattle.std.proofs.Common.{◌≡◌, Some, IfOk, sym, ap, subst, drop}
 use Rattle.qoi.specs.Images.{file_image, front_image, behind_header}
-use Rattle.qoi.specs.Qoi.{Header, Channels, header_size}
+use Rattle.qoi.specs.Qoi.{Header, header_size}
 use Rattle.qoi.specs.pieces.PixelReader.{HasRows}
 use Rattle.qoi.specs.pieces.RowIndex.{file_decoder, row_size}
 use Rattle.qoi.proofs.decoding.RowIndexes.{image_size}
@@ -11,14 +11,9 @@ use Rattle.qoi.proofs.decode.pixel_reader.row_index.RowIndex.rows.Goals as goal
 pub returns-clause-rows : goal.returns-clause-rows
 returns-clause-rows c h is index =
     let file = c.args.file.now in
-    let start = Some (drop header_size file) in
-    let k = c.args.first in
-    let d = c.in_ok-decoder.decoder in
-    let made = c.in_ok-decoder.ensures.accepted in
-    let same : d.header ≡ h = cc (made.header, is) in
-    subst (λ (z : Header). IfOk c.rows_of.result (λ p. HasRows (file_decoder z.channels z file) start (Some p.reader) (row_size z.channels z) k p)) same
-    (subst (λ (n : Channels). IfOk c.rows_of.result (λ p. HasRows (file_decoder n d.header file) start (Some p.reader) (row_size n d.header) k p)) made.channels
-    (c.rows_of.ensures.rows index))
+    let own : c.in_ok-channels.field-0 ≡ h = cc (c.in_ok-channels.ensures.read, is) in
+    subst (λ (z : Header). IfOk c.rows_in.result (λ p. HasRows (file_decoder z.channels h file) (Some (drop header_size file)) (Some p.reader) (row_size z.channels h) c.args.first p)) own
+    (c.rows_in.ensures.rows h is index)
 
 pub returns-clause-image : goal.returns-clause-image
 unfolding file_image
