@@ -1,7 +1,7 @@
 //! Blocks of which few pixels are fresh, from one fresh pixel to the next (QOI specification 1.0,
 //! "Chunks"). The fresh ones are marked by bits.
 ghost use Rattle.std.specs.Prelude.{◌≡◌, ◌-◌, ◌%◌, ◌<◌, ◌≤◌, true, Some, length, take, drop, slice_get, IsTrue};
-ghost use Rattle.qoi.specs.declared.encode.carry.TheConstants.{FRONT_CARRIED};
+ghost use Rattle.qoi.specs.inner.BlockLoop.{FRONT_CARRIED};
 ghost use Rattle.qoi.specs.inner.Coder.{pixels_in, CoderPasses, SPARE};
 ghost use Rattle.qoi.specs.inner.block.Lanes.{fresh_marks};
 

@@ -2,7 +2,7 @@
 //! caller asks for it is kept.
 ghost use Rattle.std.specs.Prelude.{◌≡◌, ℕ, ◌+◌, ◌-◌, ◌*◌, ◌%◌, ◌^◌, ◌<◌, ◌≤◌, List, [], length, min, Option, Some, IfOk, OnOk, IfSome, None};
 ghost use Rattle.qoi.specs.Raw.{IsChannels};
-ghost use Rattle.qoi.specs.declared.decode.output.TheConstants.{RUN_ROOM};
+ghost use Rattle.qoi.specs.inner.Filling.{RUN_ROOM};
 ghost use Rattle.qoi.specs.declared.decode.pixel_reader.room.TheConstants.{DECODED_AHEAD, IN_PLACE};
 
 use crate::decode::chunks::Chunks;

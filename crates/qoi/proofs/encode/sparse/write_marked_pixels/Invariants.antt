@@ -1,7 +1,7 @@
 -- The pixels up to here are written, each as at most six bytes; those left of the block have these
 -- bits. Once a fresh pixel is written, no repeats are carried.
 use Rattle.std.proofs.Common.{◌≡◌, ◌⊎◌, ◌+◌, ◌-◌, ◌*◌, ◌<◌, ◌≤◌, true, Some, length, take, drop, slice_get}
-use Rattle.qoi.specs.declared.encode.carry.TheConstants.{FRONT_CARRIED}
+use Rattle.qoi.specs.inner.BlockLoop.{FRONT_CARRIED}
 use Rattle.qoi.specs.inner.Coder.{pixels_in, CoderPasses}
 use Rattle.qoi.specs.inner.block.Lanes.{fresh_marks}
 use Rattle.qoi.proofs.encode.sparse.write_marked_pixels.Given as goal
