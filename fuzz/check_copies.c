@@ -67,17 +67,25 @@ static int may_refuse(const struct session *it, size_t i, size_t at, size_t size
     return at + size + AHEAD + 62 * it->channels >= walked.pixels * it->channels;
 }
 
-size_t check_gave(struct session *it, size_t i, size_t count, size_t gave, size_t piece) {
+/* How many bytes a call asks for at once that was given so many of `count`. */
+static size_t next_step(struct steps steps, size_t gave, size_t count) {
+    size_t end = count, in = steps.row ? gave % steps.row : 0;
+    if (steps.row) end = gave - in + (in < steps.left ? steps.left : steps.row);
+    if (steps.row && in == steps.left && steps.part > 0) return steps.part;
+    return end - gave < steps.piece ? end - gave : steps.piece;
+}
+
+size_t check_gave(struct session *it, size_t i, size_t count, size_t gave, struct steps steps) {
     const struct answer *answer = &it->answers[i + 1];
-    size_t least = 0;
-    while (least < count && !may_refuse(it, i, it->given + least, count - least < piece ? count - least : piece)) least += piece;
-    if (least > count) least = count;
-    if (gave > count || gave < least || (gave < count && gave % piece > 0) || !can_give(it, it->given + gave)) {
+    size_t least = 0, end;
+    while (least < count && !may_refuse(it, i, it->given + least, next_step(steps, least, count))) least += next_step(steps, least, count);
+    for (end = least; end < gave && end < count;) end += next_step(steps, end, count);
+    if (gave > count || gave < least || end != gave || !can_give(it, it->given + gave)) {
         differ("raw bytes read", least, gave);
         return 0;
     }
     it->given += gave;
-    size_t next = count - gave < piece ? count - gave : piece;
+    size_t next = gave < count ? next_step(steps, gave, count) : 0;
     if (is_hit(it, i + 1)) {
         refused_as(fault(&it->plan, EARLY_END), answer);
         it->has_fault = it->is_refused = 1, it->asked = next;
@@ -125,7 +133,7 @@ static void check_copy(struct session *it, size_t i) {
     else {
         /* What `left` says, which is compared with a loop, if it isn't all (`check_loops`). */
         size_t from = it->given, gave = left - it->answers[i + 1].left;
-        gave = breaks(it, i) ? check_gave_broken(it, count, gave) : check_gave(it, i, count, gave, PIECE);
+        gave = breaks(it, i) ? check_gave_broken(it, count, gave) : check_gave(it, i, count, gave, (struct steps){.piece = PIECE});
         if (gave < count || it->is_refused) it->wants_loops = 1;
         check_took(it, i, raw_of(it->file, it->image, it->channels) + from, gave, last_piece(gave));
     }
@@ -190,7 +198,7 @@ static void check_to_raw(struct session *it, size_t i) {
         it->is_refused = 1, it->refused_act = ACTS;
         same("left", it->total - it->given, answer->left);
     } else {
-        size_t gave = check_gave(it, i, left, sent, PIECE);
+        size_t gave = check_gave(it, i, left, sent, (struct steps){.piece = PIECE});
         struct passed some = model_to_raw(&it->target.raw, gave, act->size);
         same("a fault of the raw bytes' writer", 0, some.why.error);
         same("calls of the raw bytes' writer", some.all.calls, answer->raw.calls);
@@ -337,7 +345,7 @@ struct sides { size_t left, row, missing; };
 /* Adds a call that copies, or one before it of reader or writer. */
 static void plan_copy(struct random *random, struct session *it, struct sides *sides, size_t *at) {
     size_t len = it->file->len, left = sides->left, missing = sides->missing, size;
-    switch (below(random, 7)) {
+    switch (below(random, 8)) {
     case 0:
         /* As many bytes left as missing. */
         size = left > missing ? left - missing : missing - left < len ? missing - left : len;
@@ -370,6 +378,12 @@ static void plan_copy(struct random *random, struct session *it, struct sides *s
         size = skipped_rows(random, left / sides->row);
         add_count(it, SKIP, size, at);
         size *= sides->row;
+        if (size <= left) sides->left -= size;
+        return;
+    case 6:
+        add_rectangle(random, it, sides->row, left / sides->row, at);
+        if (it->count && it->acts[it->count - 1].kind == RECTANGLE) size = sides->row * it->acts[it->count - 1].row;
+        else size = 0;
         if (size <= left) sides->left -= size;
         return;
     default:

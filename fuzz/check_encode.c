@@ -225,7 +225,7 @@ static size_t piece_size(struct random *random, size_t scheme, size_t total, siz
 }
 
 static void add_piece(struct pieces *it, size_t at, size_t size) {
-    it->acts[it->count++] = (struct act){READ, 0, at, size};
+    it->acts[it->count++] = (struct act){.kind = READ, .at = at, .size = size};
 }
 
 /* Plans the pieces: the image's raw bytes, perhaps some too many or too few. */
@@ -246,7 +246,7 @@ static void plan_pieces(struct random *random, struct pieces *it, size_t row) {
         add_piece(it, at, it->total - at);
         if (chance(random, 100)) add_piece(it, 0, between(random, 1, it->total));
     }
-    it->acts[it->count++] = (struct act){chance(random, 200) ? INTO : FINISH, 0, 0, 0};
+    it->acts[it->count++] = (struct act){.kind = chance(random, 200) ? INTO : FINISH};
 }
 
 static int is_hit_now(const struct pieces *it, size_t i) {

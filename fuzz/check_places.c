@@ -22,9 +22,12 @@ static size_t plan_rows(struct random *random, struct header header, struct act 
     size_t total = pixel_count(header) * 4, row = (size_t)header.width * 4, at = 0;
     for (int i = 0; i < ROW_ACTS; i++) {
         size_t size = chance(random, 700) ? below(random, 2 * row + 4) : below(random, total + 4);
-        acts[i] = (struct act){READ, 0, at, size};
-        if (i % 2 == 0) acts[i] = (struct act){ONE_OF(random, ROWS, IN_RGB, IN_RGBA), below(random, header.height + 2), at, 0};
-        if (chance(random, 150)) acts[i] = (struct act){SKIP, skipped_rows(random, header.height), at, 0};
+        acts[i] = (struct act){.kind = READ, .size = size};
+        if (i % 2 == 0)
+            acts[i] = (struct act){.kind = ONE_OF(random, ROWS, IN_RGB, IN_RGBA), .row = below(random, header.height + 2)};
+        if (chance(random, 100)) acts[i] = (struct act){.kind = SKIP, .row = skipped_rows(random, header.height)};
+        if (chance(random, 100)) acts[i] = some_rectangle(random, (size_t)header.width * header.channels, header.height);
+        acts[i].at = at;
         at += acts[i].size + GUARD;
     }
     return at;
@@ -44,9 +47,15 @@ static void check_known_rows(struct subject_file *file, const struct act *acts, 
             continue;
         }
         struct refusal high = {BUFFER_END, 0, 0, 0};
-        if (acts[i].kind == SKIP) {
-            size_t size = (size_t)acts[i].row * header.width * channels;
-            if (!refused_as(size > total - where ? high : (struct refusal){0}, &answers[i])) where += size;
+        if (acts[i].kind == SKIP || acts[i].kind == RECTANGLE) {
+            size_t row = (size_t)header.width * channels, size = acts[i].row * row, needed = (size_t)acts[i].part * acts[i].row;
+            struct refusal why = {0};
+            if (size > total - where || (size_t)acts[i].left + acts[i].part > row) why = high;
+            else if (needed > acts[i].size) why = (struct refusal){TOO_SMALL, acts[i].size, needed, 0};
+            if (!refused_as(why, &answers[i])) {
+                if (acts[i].kind == RECTANGLE) same_rectangle(&acts[i], raw_of(file, it, channels) + where, row, out + acts[i].at);
+                where += size;
+            }
             same("left", total - where, answers[i].left);
             continue;
         }
@@ -103,7 +112,7 @@ static void check_points(struct random *random, struct subject_file *file) {
     memcpy(other.at, file->bytes, file->len);
     /* The last chunk before the point's row may be a run that goes on into it: it stays. */
     for (size_t i = 14; i + 5 < 14 + front.at; i++) other.at[i] = next(random);
-    struct act acts[2] = {{ROWS, first, 0, 0}, {READ, 0, 0, below(random, 3 * row + 2)}};
+    struct act acts[2] = {{.kind = ROWS, .row = first}, {.kind = READ, .size = below(random, 3 * row + 2)}};
     struct answer answers[2], made = {0};
     memset(answers, 0, sizeof answers);
     uint8_t *out = fresh(acts[1].size);
@@ -125,7 +134,7 @@ static void check_marks(struct random *random, struct subject_file *file, const 
     struct answer answers[4], made = {0};
     memset(answers, 0, sizeof answers);
     for (int i = 0; i < 4; i++) {
-        acts[i] = (struct act){READ, 0, at, below(random, i < 2 ? total / 2 + 2 : total + 2)};
+        acts[i] = (struct act){.kind = READ, .at = at, .size = below(random, i < 2 ? total / 2 + 2 : total + 2)};
         at += acts[i].size + GUARD;
     }
     uint8_t *out = fresh(at);

@@ -149,14 +149,6 @@ static void check_piece(struct session *it, size_t i) {
     same("left", it->total - it->given, answer->left);
 }
 
-/* Rows that are read and not handed out, by pieces. What `left` says is compared with a loop, in a session that copies, if it
-   isn't all (`check_loops`). */
-static void check_skip(struct session *it, size_t i) {
-    size_t left = it->total - it->given, count = (size_t)it->file->header.width * it->channels * it->acts[i].row;
-    if (count > left || (count > 0 && it->is_refused)) check_unchanged(it, i, spent);
-    else if (check_gave(it, i, count, left - it->answers[i + 1].left, SKIPPED) < count) it->wants_loops = 1;
-}
-
 /* How many bytes stood ahead before an act: by a session that ends there. */
 static size_t ahead_before(const struct session *it, size_t i) {
     static struct act acts[ACTS];
@@ -221,6 +213,7 @@ static void check_act(struct session *it, size_t i) {
         else if (act->kind == INTO) check_into(it, i);
         else if (act->kind == FINISH) check_finish(it, i);
         else if (act->kind == SKIP) check_skip(it, i);
+        else if (act->kind == RECTANGLE) check_rectangle(it, i);
         else check_beside(it, i);
         if (it->is_pieces) check_reader(it, &it->answers[i + 1]);
     } else if (act->kind == TO_BUF || act->kind == TO_VEC) {
@@ -303,11 +296,6 @@ void add_count(struct session *it, uint32_t kind, uint32_t count, size_t *at) {
     if (it->count > i) it->acts[i].row = count;
 }
 
-uint32_t skipped_rows(struct random *random, uint32_t height) {
-    if (chance(random, 20)) return ONE_OF(random, height + 1, 0x7fffffff, 0xffffffff);
-    return below(random, chance(random, 500) ? 4 : height + 2);
-}
-
 void plan_reader(struct random *random, struct session *it) {
     it->plan.most = ONE_OF(random, 1, 2, 3, 5, 14, 100, 100000, 100000);
     it->plan.capacity = ONE_OF(random, 1, 2, 3, 7, 16, 64, 100, 1000, 8192);
@@ -333,7 +321,8 @@ static size_t plan_session(struct random *random, struct session *it) {
             size_t scheme = below(random, 6);
             add_act(it, PIXELS, 0, &at);
             for (size_t n = between(random, 1, 14); n > 0; n--) {
-                if (chance(random, 200)) add_count(it, SKIP, skipped_rows(random, header.height), &at);
+                if (chance(random, 150)) add_count(it, SKIP, skipped_rows(random, header.height), &at);
+                else if (chance(random, 150)) add_rectangle(random, it, row, header.height, &at);
                 else add_act(it, READ, piece_size(random, scheme, small, row < small ? row : small), &at);
             }
             if (chance(random, 500)) add_act(it, READ, small + small / 3 + 1, &at);

@@ -12,14 +12,14 @@ struct answer {
     size_t pixels, row, flushes, kept, missing;
     struct count sent, raw;
 };
-struct act { uint32_t kind, row; size_t at, size; };
+struct act { uint32_t kind, row; size_t at, size; uint32_t left, part; };
 struct plan { size_t most, bad; uint32_t end; size_t capacity; };
 struct picture { uint32_t width, height, channels, colorspace, style; };
 struct front { uint32_t channels, every, rows; size_t bytes; };
 struct target { struct picture image; struct plan plan, raw; size_t at; uint32_t sink, by_loops; struct front front; };
 
 enum act_kind { TO_BUF, TO_VEC, IN_RGB, IN_RGBA, PIXELS, READ, INTO, FINISH, ROWS, COPY, COPY_ROWS, TO_RAW, FROM_RAW, WRITE,
-                CLOSE, UNWRAP, SKIP };
+                CLOSE, UNWRAP, SKIP, RECTANGLE };
 enum error { NONE, MAGIC, CHANNELS, COLORSPACE, DIMENSIONS, LENGTH, TOO_SMALL, BUFFER_END, PADDING, IO, MEMORY };
 enum io_kind { BROKEN = 1, INTERRUPTED, LATE, EARLY_END, NO_BYTE_TAKEN, NO_MEMORY, OTHER };
 /* Ways to make a decoder: of a slice; of a stream: a slice, a source, a source behind a buffer; of a reader with a buffer:

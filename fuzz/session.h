@@ -11,6 +11,9 @@
 #define PIECE 4096
 /* So many are skipped at once. */
 #define SKIPPED 16384
+/* How a call reads raw bytes: by pieces of so many; or, if `row` isn't 0, rows of so many, of each the first `left` by such
+   pieces, `part` at once, and the rest by such pieces. */
+struct steps { size_t piece, row, left, part; };
 
 /* What the model reads at one place of a file: pixels, and their raw bytes in three and in four channels. */
 struct image_at {
@@ -80,16 +83,25 @@ int can_give(const struct session *it, size_t count);
 size_t known_bytes(const struct session *it);
 /* A piece was refused, by what is wrong in the file. */
 void check_refused_piece(struct session *it, size_t act, size_t size);
-/* The reader gave so many raw bytes of those that a call wanted by pieces, and nothing but the reader could fail: they are
-   all, or whole pieces before one that it may refuse. Returns how many. */
-size_t check_gave(struct session *it, size_t act, size_t count, size_t gave, size_t piece);
+/* The reader gave so many raw bytes of those that a call wanted by steps, and nothing but the reader could fail: they are
+   all, or whole steps before one that it may refuse. Returns how many. */
+size_t check_gave(struct session *it, size_t act, size_t count, size_t gave, struct steps steps);
 /* A refusal that changes nothing. */
 void check_unchanged(const struct session *it, size_t act, struct refusal why);
 void add_act(struct session *it, uint32_t kind, size_t size, size_t *at);
 /* Acts without a part of the buffer: rows, or bytes of the file. */
 void add_count(struct session *it, uint32_t kind, uint32_t count, size_t *at);
+
+/* Rows that are skipped, and parts of rows; their planning, of rows with so many bytes. */
+void check_skip(struct session *it, size_t act);
+void check_rectangle(struct session *it, size_t act);
 /* How many rows are skipped: few, any, or too many. */
 uint32_t skipped_rows(struct random *random, uint32_t height);
+/* A part of so many rows, and a buffer for it, mostly long enough. */
+struct act some_rectangle(struct random *random, size_t row, uint32_t height);
+void add_rectangle(struct random *random, struct session *it, size_t row, uint32_t height, size_t *at);
+/* The part of rows of raw bytes stands in a buffer. */
+void same_rectangle(const struct act *act, const uint8_t *raw, size_t row, const uint8_t *out);
 void plan_reader(struct random *random, struct session *it);
 void check_session(struct session *it);
 extern const char *const way_names[];

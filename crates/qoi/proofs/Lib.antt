@@ -4,4 +4,5 @@ pub mod encoding
 pub mod shortness
 pub mod FileOf
 pub mod Copied
+pub mod Skipped
 pub mod Results

@@ -11,6 +11,7 @@ ghost use Rattle.qoi.specs.Reading.{StandsAhead, IsCutAhead, IsWrongAhead, SaysW
 ghost use Rattle.qoi.specs.Rectangles.{row_bytes, rectangle, row_size};
 
 pub(super) mod mark;
+mod rectangles;
 mod room;
 pub(super) mod row_index;
 mod seek_point;

@@ -14,6 +14,7 @@ use crate::decode::Decoder;
 use crate::decode::pixel_reader::PixelReader;
 use crate::decode::pixel_reader::room::DECODED_AHEAD;
 use crate::decode::pixel_reader::seek_point::{SeekPoint, size_in};
+use crate::decode::pixel_reader::skipping::SKIPPED;
 use crate::decode::reader::Bytes;
 use crate::error::{Error, Result};
 use crate::header::Header;
@@ -83,7 +84,7 @@ fn skip_to(reader: &mut PixelReader<Bytes<'_>>, bytes_left: usize) -> Result<()>
         → IsOk result }
 {
     let count = reader.left().saturating_sub(bytes_left);
-    reader.skip_bytes(count)
+    reader.skip_bytes(count, &mut [0; SKIPPED])
 }
 
 // Keeps the point behind what a reader decoded, for the row at which the reader stands.

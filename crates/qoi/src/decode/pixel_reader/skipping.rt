@@ -13,7 +13,7 @@ use crate::error::{Error, Result};
 
 // How many raw bytes are skipped at once. By 4096 the index of a picture of long runs took a fifth
 // longer.
-const SKIPPED: usize = 16384;
+pub(super) const SKIPPED: usize = 16384;
 
 impl<R: Reader> PixelReader<R> {
     /// Reads the next rows of the image, so many, in the channels of the output, and hands none of
@@ -63,11 +63,11 @@ impl<R: Reader> PixelReader<R> {
         if count > self.left() {
             return Err(Error::UnexpectedBufferEnd);
         }
-        self.skip_bytes(count)
+        self.skip_bytes(count, &mut [0; SKIPPED])
     }
 
-    // Reads the next raw bytes, so many.
-    pub(super) fn skip_bytes(&mut self, count: usize) -> Result<()>
+    // Reads the next raw bytes, so many, by an array of its caller's.
+    pub(super) fn skip_bytes(&mut self, count: usize, buf: &mut [u8; SKIPPED]) -> Result<()>
         requires { count ≤ unread_bytes self.old }
         ensures skipped { OnOk result ((more : List ℕ) × Gives R.ahead more self.old self.new
             × (length more ≡ count)) }
@@ -82,7 +82,6 @@ impl<R: Reader> PixelReader<R> {
         ensures unchanged { (self.new.header ≡ self.old.header)
             × (self.new.channels ≡ self.old.channels) }
     {
-        let mut buf = [0; SKIPPED];
         let mut rest = count;
         while rest > 0 {
             let size = rest.min(SKIPPED);

@@ -93,6 +93,19 @@ fn assert_skips<R: Reader + Drop>(rt: &impl Abort, decoder: Decoder<R>, raw: &[u
     assert_number(rt, pixels.left(), 0);
 }
 
+// Reads three bytes of the second row and of the third, behind 4000, and keeps what follows them.
+fn assert_cuts<R: Reader + Drop>(rt: &impl Abort, decoder: Decoder<R>, raw: &[u8]) {
+    let (mut pixels, mut parts) = (decoder.into_pixels(), [7; 8]);
+    pixels.skip_rows(1).expect(rt, "refused");
+    pixels
+        .read_rectangle(4000, 2, 3, &mut parts)
+        .expect(rt, "refused");
+    assert_bytes(rt, &parts[..3], front(after(raw, 12_000), 3));
+    assert_bytes(rt, &parts[3..6], front(after(raw, 20_000), 3));
+    assert_bytes(rt, &parts[6..], &[7, 7]);
+    assert_number(rt, pixels.left(), 16_000);
+}
+
 #[test]
 fn rows_that_are_skipped(rt: HostRuntime) {
     let alloc = rt.alloc();
@@ -102,6 +115,9 @@ fn rows_that_are_skipped(rt: HostRuntime) {
     };
     let Image { raw, file, .. } = Image::drawn(&rt, alloc, 0x5c1b5, header, Style::Reference);
     assert_skips(&rt, made::slice(&rt, &file), &raw);
+    assert_cuts(&rt, made::slice(&rt, &file), &raw);
     assert_skips(&rt, made::stream(&rt, file.as_slice()), &raw);
+    assert_cuts(&rt, made::stream(&rt, file.as_slice()), &raw);
     assert_skips(&rt, made::buffered(&rt, file.as_slice()), &raw);
+    assert_cuts(&rt, made::buffered(&rt, file.as_slice()), &raw);
 }
