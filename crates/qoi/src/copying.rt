@@ -1,13 +1,14 @@
 //! The raw bytes of an image, from a reader of pieces to a writer of pieces.
-ghost use Rattle.std.specs.Prelude.{◌≡◌, ℕ, ◌+◌, ◌*◌, ◌<◌, ◌≤◌, List, ◌++◌, length, Option, Some, IfErr, OnOk, IsErrOf};
+ghost use Rattle.std.specs.Prelude.{◌≡◌, ℕ, ◌+◌, ◌*◌, ◌<◌, ◌≤◌, List, [], ◌++◌, length, Option, Some, IfErr, OnOk, IsErrOf};
 ghost use Rattle.qoi.specs.Decoded.{HasDecoded};
 ghost use Rattle.qoi.specs.DecoderState.{DecoderState};
+ghost use Rattle.qoi.specs.EncoderState.{EncoderState};
 ghost use Rattle.qoi.specs.Images.{front_image};
 ghost use Rattle.qoi.specs.Qoi.{Error, pixels_max};
 ghost use Rattle.qoi.specs.Rectangles.{rectangle, row_size};
 ghost use Rattle.qoi.specs.pieces.Copying.{rows_size, Gives, Takes, BreaksCopy, Copies};
-ghost use Rattle.qoi.specs.pieces.PixelReader.{unread_bytes, IfGiven, HasRows, IsSpent};
-ghost use Rattle.qoi.specs.pieces.PixelWriter.{missing_bytes, IfTaken};
+ghost use Rattle.qoi.specs.pieces.PixelReader.{unread_bytes, HasGiven, IfGiven, HasRows, IsSpent};
+ghost use Rattle.qoi.specs.pieces.PixelWriter.{missing_bytes, and_raw, HasTaken, IfTaken};
 ghost use Rattle.qoi.specs.pieces.Sizes.{copied_at_once};
 
 mod raw;
@@ -46,7 +47,19 @@ impl<R: Reader> PixelReader<R> {
         // All that is left goes to the writer, or it is refused.
         ensures copies { Copies R.in_memory R.ahead W.contents (unread_bytes self.old) self.old
             self.new writer.old writer.new result }
-        // A success: what was read before and the bytes that were copied, `more`, are the image.
+        // A success: if no byte was read before, the bytes that were copied are the image. It
+        // follows, and so does the next; a caller's search needs both.
+        ensures copied { OnOk result ((rest : List ℕ) × Takes W.contents rest writer.old writer.new
+            × ((d : DecoderState R) (start : Option (List ℕ)) (bytes : List ℕ)
+            → HasGiven d start (R.ahead self.old.reader) [] self.old → start ≡ Some bytes
+            → rest ≡ front_image d.channels d.header bytes)
+            × Gives R.ahead rest self.old self.new) }
+        ensures image { (d : DecoderState R) (start : Option (List ℕ)) (bytes : List ℕ)
+            (e : EncoderState) (before : Option (List ℕ))
+            → HasGiven d start (R.ahead self.old.reader) [] self.old → start ≡ Some bytes
+            → HasTaken W.contents e before writer.old → OnOk result (HasTaken W.contents
+            (and_raw e (front_image d.channels d.header bytes)) before writer.new) }
+        // Else what was read before and they, `more`, are the image.
         ensures rest { IfGiven R.ahead self.old (λ d start given. (bytes more : List ℕ)
             → start ≡ Some bytes → given ++ more ≡ front_image d.channels d.header bytes
             → OnOk result (Takes W.contents more writer.old writer.new)) }
@@ -82,11 +95,18 @@ impl<R: Reader> PixelReader<R> {
             → HasRows d start (R.ahead self.old.reader) stride k self.old
             → stride ≡ row_size d.channels d.header
             → OnOk result (HasRows d start (R.ahead self.new.reader) stride (k + rows) self.new) }
-        ensures strip { (d : DecoderState R) (bytes more : List ℕ) (stride k : ℕ)
+        ensures copied { OnOk result ((more : List ℕ) × Takes W.contents more writer.old writer.new
+            × ((d : DecoderState R) (bytes : List ℕ) (stride k : ℕ)
             → HasRows d (Some bytes) (R.ahead self.old.reader) stride k self.old
             → stride ≡ row_size d.channels d.header
-            → more ≡ rectangle stride k 0 rows stride (front_image d.channels d.header bytes)
-            → OnOk result (Takes W.contents more writer.old writer.new) }
+            → more ≡ rectangle stride k 0 rows stride (front_image d.channels d.header bytes))
+            × Gives R.ahead more self.old self.new × (length more ≡ rows_size self.old rows)) }
+        ensures strip { (d : DecoderState R) (bytes : List ℕ) (stride k : ℕ)
+            (e : EncoderState) (before : Option (List ℕ))
+            → HasRows d (Some bytes) (R.ahead self.old.reader) stride k self.old
+            → stride ≡ row_size d.channels d.header → HasTaken W.contents e before writer.old
+            → OnOk result (HasTaken W.contents (and_raw e (rectangle stride k 0 rows stride
+            (front_image d.channels d.header bytes))) before writer.new) }
     {
         let count = self.bytes_per_row() * rows as usize;
         if count > self.left() {

@@ -1,9 +1,10 @@
 -- The bytes of these rows are the next ones.
-use Rattle.std.proofs.Common.{◌*◌, Some, arith, sym, ap, ◌∙◌, subst}
+use Rattle.std.proofs.Common.{◌≡◌, ◌*◌, length, Some, arith, sym, ap, ◌∙◌, subst}
 use Rattle.std.proofs.lemmas.Result.{on_ok_weaker}
 use Rattle.std.proofs.Math.Nat.{mul-le-mul_right}
 use Rattle.qoi.specs.pieces.PixelReader.{HasRows}
-use Rattle.qoi.specs.pieces.Copying.{Copies, Takes}
+use Rattle.qoi.specs.pieces.PixelWriter.{and_raw, HasTaken}
+use Rattle.qoi.specs.pieces.Copying.{rows_size, Copies}
 use Rattle.qoi.proofs.Copied.{rows_after, rows_are, rows_same}
 use Rattle.qoi.proofs.decode.pixel_reader.PixelReader.copy_rows_to.Goals as goal
 
@@ -23,12 +24,22 @@ returns-clause-rows g c d start stride k (given, behind, h) is =
     (x.size ∙ ap (λ n. n * c.args.rows) c.bytes_per_row.ensures.size ∙ rows_same d start _ given c.args.self.now c.args.rows h ∙ ap (λ n. n * c.args.rows) (sym is)))
     c.copy_bytes.ensures.copied
 
-pub returns-clause-strip : goal.returns-clause-strip
+pub returns-clause-copied : goal.returns-clause-copied
 unfolding HasRows
-returns-clause-strip g c d bytes more stride k r is image =
+returns-clause-copied g c =
     on_ok_weaker c.copy_bytes.result
-    (λ x. subst (λ z. Takes g.W.Write.contents z c.args.writer.now c.copy_bytes.new.writer)
-    (rows_are d _ bytes stride k c.args.rows r.0 x.more c.copy_bytes.new.self (x.given d (Some bytes) r.0 r.2) r.1
-    (x.size ∙ ap (λ n. n * c.args.rows) c.bytes_per_row.ensures.size ∙ rows_same d (Some bytes) _ r.0 c.args.self.now c.args.rows r.2 ∙ ap (λ n. n * c.args.rows) (sym is))
-    ∙ sym image) x.taken)
+    (λ x. let many : length x.more ≡ rows_size c.args.self.now c.args.rows = x.size ∙ ap (λ n. n * c.args.rows) c.bytes_per_row.ensures.size in (
+      x.more,
+      x.taken,
+      (λ d bytes stride k r is. rows_are d _ bytes stride k c.args.rows r.0 x.more c.copy_bytes.new.self (x.given d (Some bytes) r.0 r.2) r.1
+          (many ∙ rows_same d (Some bytes) _ r.0 c.args.self.now c.args.rows r.2 ∙ ap (λ n. n * c.args.rows) (sym is))),
+      x.given,
+      many,
+    ))
     c.copy_bytes.ensures.copied
+
+pub returns-clause-strip : goal.returns-clause-strip
+returns-clause-strip g c d bytes stride k e before r is t =
+    on_ok_weaker c.copy_bytes.result
+    (λ x. subst (λ z. HasTaken g.W.Write.contents (and_raw e z) before c.copy_bytes.new.writer) (x.2 d bytes stride k r is) (x.1 e before t))
+    (returns-clause-copied g c)

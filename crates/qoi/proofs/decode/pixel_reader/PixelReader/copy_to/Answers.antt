@@ -1,6 +1,7 @@
 -- All bytes that are left are the rest of the image.
-use Rattle.std.proofs.Common.{◌≡◌, ◌++◌, arith, subst}
+use Rattle.std.proofs.Common.{◌≡◌, [], ◌++◌, arith, refl, subst}
 use Rattle.std.proofs.lemmas.Result.{on_ok_weaker}
+use Rattle.qoi.specs.Images.{front_image}
 use Rattle.qoi.specs.pieces.Copying.{Copies, Takes}
 use Rattle.qoi.specs.pieces.PixelReader.{unread_bytes}
 use Rattle.qoi.proofs.Copied.{decoded_all, rest_is}
@@ -24,4 +25,19 @@ returns-clause-rest g c d start given h bytes more is image =
     (λ x. let none : unread_bytes c.copy_bytes.new.self ≡ 0 = omega (arith, x.left, c.left-left.ensures.left) in
     subst (λ z. Takes g.W.Write.contents z c.args.writer.now c.copy_bytes.new.writer)
     (rest_is d start _ bytes given x.more more c.copy_bytes.new.self (x.given d start given h) none is image) x.taken)
+    c.copy_bytes.ensures.copied
+
+pub returns-clause-image : goal.returns-clause-image
+returns-clause-image g c d start bytes e before h is t =
+    on_ok_weaker c.copy_bytes.result (λ k. k e before t) (returns-clause-rest g c d start [] h bytes (front_image d.channels d.header bytes) is refl)
+
+pub returns-clause-copied : goal.returns-clause-copied
+returns-clause-copied g c =
+    on_ok_weaker c.copy_bytes.result
+    (λ x. let none : unread_bytes c.copy_bytes.new.self ≡ 0 = omega (arith, x.left, c.left-left.ensures.left) in (
+      x.more,
+      x.taken,
+      (λ d start bytes h is. rest_is d start _ bytes [] x.more (front_image d.channels d.header bytes) c.copy_bytes.new.self (x.given d start [] h) none is refl),
+      x.given,
+    ))
     c.copy_bytes.ensures.copied
