@@ -3,6 +3,7 @@ pub mod AddedTerms
 pub mod ChunkPixels
 pub mod ChunkSteps
 pub mod Entries
+pub mod FourTimes
 pub mod HashedPixels
 pub mod HeaderBytes
 pub mod LaneRuns

@@ -17,6 +17,10 @@ const LANES_FACTOR: u64 = 0x0c00_1400_1c00_2c00;
 // 1 + 4 * 11 * 2^8: its product with alpha alone is alpha and its share of the index position.
 const ALPHA_FACTOR: u64 = 0x2c01;
 
+// Whether the machine has vectors of bytes. In the page's copy `bindings/build` writes `false`: the
+// compiler for WebAssembly, which has none here, would store their bytes one by one.
+const HAS_VECTORS: bool = true;
+
 /// A pixel and its index position in 64 bits: red, green, blue and alpha from bits 0, 16, 32 and 48
 /// on, and four times the position in the eight highest ones. Above red, green and blue stand eight
 /// bits each that count for nothing, so that sums need not be cut; what the position carries is
@@ -127,12 +131,26 @@ impl Hashed {
         } else {
             self.0 % 0x1_0000_0000_0000 + 0xff_0000_0000_0000
         };
+        if N == 4 && !HAS_VECTORS {
+            return four_times(lanes);
+        }
         let bytes = u64x2::from_array([lanes, 0]).to_le_bytes();
         if N == 4 {
             return bytes.swizzle([0, 2, 4, 6, 0, 2, 4, 6, 0, 2, 4, 6, 0, 2, 4, 6]);
         }
         bytes.swizzle([0, 2, 4, 0, 2, 4, 0, 2, 4, 0, 2, 4, 0, 2, 4, 0])
     }
+}
+
+// The four channels of lanes of 16 bits, four times, by a number.
+#[inline(always)]
+fn four_times(lanes: u64) -> u8x16
+    ensures { result ≡ take 16 (output 4 4 (replicate 6 (pixel_of_lanes lanes))) }
+{
+    let (r, g) = (lanes % 256, (lanes >> 16) % 256);
+    let (b, a) = ((lanes >> 32) % 256, (lanes >> 48) % 256);
+    let pixel = r + g * 0x100 + b * 0x1_0000 + a * 0x100_0000;
+    u64x2::splat(pixel * 0x1_0000_0001).to_le_bytes()
 }
 
 // The first four bytes in lanes of 16 bits. `READS` bytes are read at once: for eight one instruction
