@@ -101,35 +101,44 @@ pub fn keep(tile: &mut Vec<u8>, row: &[u8], area: Area) -> Result<(), Error>
     Ok(())
 }
 
-/// A tile cut out of an image, into a buffer of its size.
-pub fn cut_rows(decoder: Decoder<Bytes<'_>>, area: Area, tile: &mut [u8]) -> Result<(), Error>
-    requires top { area.top < 2 ^ 32 }
-    requires rows { area.rows < 2 ^ 32 }
-    ensures { length tile.old ≡ area.size * area.rows → OnOk result (tile.new ≡ rectangle
-        (row_size decoder.entry.channels decoder.entry.header) area.top area.left area.rows
-        area.size (front_image decoder.entry.channels decoder.entry.header decoder.entry.reader)) }
+/// A tile cut out of an image while its rows, as long as `row`, are decoded.
+pub fn cut_rows(
+    alloc: Global,
+    decoder: Decoder<Bytes<'_>>,
+    row: &mut [u8],
+    area: Area,
+) -> Result<Vec<u8>, Error>
+    requires row { length row.old ≡ row_size decoder.channels decoder.header }
+    requires below { area.top < 2 ^ 32 }
+    requires within { area.left + area.size ≤ length row.old }
+    ensures { IfOk result (λ tile. tile.items ≡ rectangle (length row.old) area.top area.left
+        area.rows area.size
+        (front_image decoder.entry.channels decoder.entry.header decoder.entry.reader)) }
 {
     let mut pixels = decoder.into_pixels();
     pixels.skip_rows(area.top as u32)?;
-    pixels.read_rectangle(area.left, area.rows as u32, area.size, tile)?;
-    Ok(())
+    let mut tile = Vec::new(alloc);
+    for k in 0..area.rows {
+        next_row(&mut pixels, row)?;
+        keep(&mut tile, row, area)?;
+    }
+    Ok(tile)
 }
 
-/// A tile cut out of the image of a file, in the memory of the tile alone.
-pub fn cut_file(file: &[u8], area: Area, tile: &mut [u8]) -> Result<(), Error>
-    ensures { (h : Header) → header_of file.now ≡ Ok h → length tile.old ≡ area.size * area.rows
-        → OnOk result (tile.new ≡ rectangle (h.width * channels_number h.channels)
+/// A tile cut out of the image of a file, in the memory of one row and the tile.
+pub fn cut_file(alloc: Global, file: &[u8], area: Area) -> Result<Vec<u8>, Error>
+    ensures { (h : Header) → header_of file.now ≡ Ok h
+        → IfOk result (λ tile. tile.items ≡ rectangle (h.width * channels_number h.channels)
         area.top area.left area.rows area.size (file_image file.now)) }
 {
     let decoder = Decoder::new(file)?;
-    if !area.lies_within(
-        decoder.header().height as usize,
-        decoder.header().bytes_per_row(),
-    ) {
+    let stride = decoder.header().bytes_per_row();
+    if !area.lies_within(decoder.header().height as usize, stride) {
         return Err(Error::UnexpectedBufferEnd);
     }
-    cut_rows(decoder, area, tile)?;
-    Ok(())
+    let mut row = vec![in alloc; 0u8; stride]?;
+    let tile = cut_rows(alloc, decoder, &mut row, area)?;
+    Ok(tile)
 }
 
 /// Puts a tile into a picture, which has `height` rows of `stride` bytes.
@@ -176,9 +185,8 @@ fn a_tile_of_a_picture(rt: HostRuntime) {
 fn a_tile_of_a_file(rt: HostRuntime) {
     // One pixel of four channels in a row.
     let file = made::encoded(&rt, rt.alloc(), &PICTURE, 1, 3);
-    let mut tile = [0; 4];
-    cut_file(&file, MIDDLE, &mut tile).expect(&rt, "refused");
-    assert_bytes(&rt, &tile, &[22, 23, 32, 33]);
+    assert_given(&rt, cut_file(rt.alloc(), &file, MIDDLE), &[22, 23, 32, 33]);
     let wide = Area { size: 4, ..MIDDLE };
-    assert_cut(&rt, cut_file(&file, wide, &mut tile));
+    let refused = cut_file(rt.alloc(), &file, wide);
+    assert_cut(&rt, refused);
 }
