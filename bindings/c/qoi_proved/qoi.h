@@ -3,8 +3,12 @@
    As there, one source file of a program defines QOI_IMPLEMENTATION before it includes this, and the functions are there;
    QOI_NO_STDIO leaves out those on files, and QOI_MALLOC and QOI_FREE take the place of malloc and free.
 
-   Unlike there, a cut file and one without its end marker are refused, alpha that a file lacks is 255 also if four channels
-   are asked for, up to 400,000,000 pixels are taken, and there are no macros of chunks (QOI_OP_..). */
+   Unlike there, a cut file and one without its end marker are refused; if the header says 3 channels, alpha is 255 whatever the
+   chunks say; up to 400,000,000 pixels are accepted; and other names than these (QOI_OP_.., qoi_rgba_t, QOI_PIXELS_MAX) are
+   missing. A QOI_MALLOC that returns a null pointer for large sizes sets a limit. A file of 2 GB or more isn't encoded, but
+   refused. The C of this header is tested, not proved.
+
+   `#include "qoi.h"` takes a qoi.h beside the source before this one: remove it. `cc -M` names the file that was taken. */
 #ifndef QOI_H
 #define QOI_H
 

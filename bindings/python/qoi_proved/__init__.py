@@ -9,14 +9,16 @@
     [11, 121, 231, 11, 121, 231]
 
 Raw bytes are R, G, B and perhaps A of each pixel, row by row. Files and raw bytes go in as any contiguous buffer of bytes (`bytes`,
-`bytearray`, `memoryview`, `mmap`, arrays of numpy), without a copy; other threads run meanwhile, and must not change it. An array of
-numpy knows its size, and a decoded picture becomes one:
+`bytearray`, `memoryview`, `mmap`, arrays of numpy), without a copy. Other threads run meanwhile: if one of them changes the buffer, or
+another process a mapped file, nothing is proved, not even that memory is safe, so pass `bytes(..)` of it. An array of numpy knows its
+size, and a decoded picture becomes one:
 
     encode(array)  # of shape (height, width, 3 or 4) and type uint8
     numpy.frombuffer(pixels, numpy.uint8).reshape(header.height, header.width, -1)
 
-A refusal is an exception below `Error`, of the Rust crate's name and words. What isn't a buffer is a `TypeError`, and a number that
-no picture could have a `ValueError`. `import qoi_proved.pillow` teaches Pillow the format.
+A refusal is an exception below `Error`, of the Rust crate's name and words. Not below it are an `IndexError` for rows that a picture
+doesn't have, a `TypeError` for what isn't a buffer, and a `ValueError` for a number that no picture could have. For untrusted files
+pass `max_pixels`: 6.5 MB may be a picture of 400,000,000 pixels, 1.6 GB. `import qoi_proved.pillow` teaches Pillow the format.
 """
 
 from __future__ import annotations
@@ -89,7 +91,7 @@ class Style(enum.IntEnum):
     REFERENCE = 0
     """The files of the C library."""
     PLACES = 1
-    """Some runs of one pixel as index positions, as the Rust crate's default build writes them."""
+    """Some runs of one pixel as index positions, nearly as the Rust crate's default build writes them; no shorter."""
     TIGHT = 2
     """The shortest files, for decoders that follow QOI 1.0; the Rust crate may decode them wrongly."""
 
@@ -104,10 +106,10 @@ class Header(NamedTuple):
 
 
 def read_header(file: ReadableBuffer) -> Header:
-    """The header of the file in front, of which the first fourteen bytes suffice.
+    """The header of the file at the start of the bytes, of which the first fourteen suffice.
 
     Raises `UnexpectedBufferEnd`, `InvalidChannels`, `InvalidColorSpace`, `InvalidMagic` or `InvalidImageDimensions`, the first that
-    applies.
+    applies. So what isn't QOI is mostly `InvalidChannels`: compare the first four bytes with `b"qoif"`.
     """
     header, error = CHeader(), CError()
     with held(file, "file") as given:
@@ -119,12 +121,14 @@ def read_header(file: ReadableBuffer) -> Header:
 def decode(
     file: ReadableBuffer, channels: Optional[int] = None, *, max_pixels: int = MAX_PIXELS
 ) -> Tuple[Header, bytes]:
-    """The header and the raw bytes of the file in front, in its channels or in those that are named (3 or 4).
+    """The header and the raw bytes of the file at the start of the bytes, in its channels or in those that are named (3 or 4).
 
-    In three channels alpha is left out, and in four an added one is 255. What follows the file doesn't matter.
+    In three channels alpha is left out. If the header says three, it is 255 in four, whatever the chunks say. What follows the file
+    doesn't matter.
 
-    Raises what `read_header` raises, `InvalidChannels` for other channels, `TooManyPixels` if the picture has more than `max_pixels`,
-    `UnexpectedBufferEnd`, `InvalidPadding`, `OutOfMemory`. No memory is asked for if the bytes can't hold so many pixels.
+    Raises what `read_header` raises, `InvalidChannels` for other channels, `TooManyPixels` if the picture has more than `max_pixels`
+    (400,000,000 unless named, the most that any has), `UnexpectedBufferEnd`, `InvalidPadding`, `OutOfMemory`. No memory is asked for
+    if the bytes can't hold so many pixels.
     """
     wanted = _channels(channels)
     header, left, error = CHeader(), size(), CError()
@@ -138,11 +142,12 @@ def decode(
 def decode_rows(
     file: ReadableBuffer, first: int, count: int, channels: Optional[int] = None, *, max_pixels: int = MAX_PIXELS
 ) -> Tuple[Header, bytes]:
-    """The header of the file in front, and the raw bytes of `count` rows from row `first` on.
+    """The header of the file at the start of the bytes, and the raw bytes of `count` rows from row `first` on, counted from 0.
 
-    All rows above are decoded, too, but only these take memory. What is broken below them may go unnoticed.
+    All rows above are decoded, too, but only these take memory. What is broken below them may go unnoticed. No rows are `b""`.
 
-    Raises what `decode` raises, and `IndexError` if the picture doesn't have these rows. `max_pixels` bounds the whole picture.
+    Raises what `decode` raises, and `IndexError`, which is no `Error`, if the picture doesn't have these rows. `max_pixels` bounds the
+    whole picture.
     """
     wanted = _channels(channels)
     first, count = _number(first, "first"), _number(count, "count")
@@ -187,7 +192,7 @@ def encode(
 def read(
     path: _Path, channels: Optional[int] = None, *, max_pixels: int = MAX_PIXELS
 ) -> Tuple[Header, bytes]:
-    """Reads a file, and decodes it as `decode` does. Also raises an `OSError`, if it can't be read."""
+    """Reads a file, the whole of it, and decodes it as `decode` does. Also raises an `OSError`, if it can't be read."""
     with open(path, "rb") as source:
         return decode(source.read(), channels, max_pixels=max_pixels)
 

@@ -1,4 +1,4 @@
-"""Why a picture is refused: names, fields and words are those of the Rust crate `qoi`."""
+"""Why a picture is refused: names, fields and words are those of the Rust crate `qoi`, but for `OutOfMemory` and `TooManyPixels`."""
 
 from __future__ import annotations
 
@@ -21,7 +21,7 @@ class InvalidMagic(Error):
 
 
 class InvalidChannels(Error):
-    """A number of channels other than 3 and 4, of a header or of raw bytes."""
+    """A number of channels other than 3 and 4, of a header, of raw bytes or of a call. So are most files that aren't QOI."""
 
     def __init__(self, channels: int) -> None:
         super().__init__(channels)

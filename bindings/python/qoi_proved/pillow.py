@@ -6,8 +6,9 @@
     >>> Image.open("picture.qoi").info
     {'colorspace': 'srgb'}
 
-`save` takes `colorspace="linear"` (else that of `info`, or "srgb") and `style="places"` or `"tight"`. A broken picture is an `OSError`,
-as Pillow's own are. Pillow has a plugin of its own from version 9.5 on; this one takes its place, for reading and for writing.
+`save` takes `colorspace="linear"` (else that of `info`, or "srgb") and `style="places"` or `"tight"`, and only pictures of mode RGB or
+RGBA. A broken picture is an `OSError`, as Pillow's own are, and Pillow's limit of pixels holds. Pillow has a plugin of its own from
+version 9.5 on; this one takes its place, for reading and for writing.
 """
 
 from __future__ import annotations
