@@ -15,7 +15,7 @@ abbrev pub RefusesChunks : Bool → ℕ → Option (List ℕ) → Option (List �
 RefusesChunks true n start new e = IfSome start (λ bytes. RefusesBytes n bytes e)
 RefusesChunks false n start new e = TakesBytes start new (λ taken. RefusesTaken n taken e)
 
--- chunks were taken from the bytes ahead, after those before them; if `runs_fit`, they don't fill the output
+-- chunks were taken from the bytes ahead, after those before them; if `runs_fit`, they don't fill an output that wasn't full
 pub record TakesMore (file_channels channels : ℕ) (runs_fit : Bool) (ahead rest : Option (List ℕ)) (old new : Filling) : Type 0 where
   pub between : FromAny file_channels channels ahead old (λ gone n start. DecoderBetween file_channels channels gone n start rest new)
   pub fillable : IsFillable channels new.out new.at

@@ -132,7 +132,7 @@ abbrev pub KeepsAlpha : ℕ → ℕ → ℕ → Type 0
 KeepsAlpha tag before now = tag ≡ rgb_tag → (pixel_of_lanes now).a ≡ (pixel_of_lanes before).a
 
 -- A step of the fast loop, from its state, table and output to others: how many bytes it takes, at
--- least and at most, and how many it writes at most.
+-- least and at most, and how far it goes in the output at most (vectors may reach further).
 pub record FastStep {N F : ℕ} (least most room : ℕ) (bytes : List ℕ) (old : Progress N F) (table out : List ℕ) (new : Progress N F) (table' out' : List ℕ) : Type 0 where
   pub between : (gone : Past) (n : ℕ) (start : Option (List ℕ)) → FastBetween gone n start bytes old table out → FastBetween gone n start bytes new table' out'
   pub taken : (old.taken + least ≤ new.taken) × (new.taken ≤ old.taken + most)

@@ -10,8 +10,8 @@ use crate::decode::hashed::Hashed;
 use crate::decode::output::{VECTOR, store_four, store_vector};
 use crate::decode::table::TermTable;
 
-// Bytes of room for the vectors of two short chunks and of two full ones: little, so that few bytes
-// of a row are left for other loops.
+// Bytes of room for the vectors of two short chunks, one full pixel and another's vector (16, 16, 4
+// and 16): little, so that few bytes of a row are left for other loops.
 const DENSE_ROOM: usize = 52;
 
 // A series of chunks with the first byte `TAG`: how far it came, and the pixel before it, whose
@@ -50,8 +50,8 @@ impl<const N: usize, const F: usize, const TAG: u8> Series<N, F, TAG> {
     }
 }
 
-// Stores the pixel of the chunk that the bytes begin with, whose first byte is `TAG`: by the chunk's
-// own bytes, if those are the output's. With it comes the pixel before it.
+// Stores the pixel of the chunk that the bytes begin with, whose first byte is `TAG`, by the chunk's
+// own bytes, if those are the output's. The pixel before the series is for the contract alone.
 #[inline(always)]
 fn store_full<const N: usize, const F: usize, const TAG: u8>(
     out: &mut [u8],

@@ -195,7 +195,7 @@ impl<R: Reader> PixelReader<R> {
     ///
     /// Refusals are those of `Decoder::decode_to_buf`, but for `OutputBufferTooSmall`. They come at
     /// the latest with the last bytes, and earlier if what is decoded ahead is broken, or the reader
-    /// fails there: what came well before that isn't given either. A slice that is cut is refused
+    /// fails there: sound bytes before that aren't given either. A slice that is cut is refused
     /// once fewer than eight bytes are left: up to seven runs, of 1,736 raw bytes in all, aren't read
     /// then. After a refusal the bytes of `buf` may be overwritten, as many as would
     /// have been read; a slice's tail is as before the call, and a stream stands after the bytes that

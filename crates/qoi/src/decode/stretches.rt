@@ -75,9 +75,9 @@ fn chunks_by_stretches<const N: usize, const F: usize, const AT_ONCE: usize>(
     let input_end = bytes.len() - INPUT_ROOM;
     let mut size = FIRST_STRETCH;
     while now.taken <= input_end {
-        let is_short = table.is_dense();
+        let noise = table.is_dense();
         let dense = take_dense(table, now, bytes, out);
-        let stretch_end = input_end.min(dense.taken + if is_short { SHORT_STRETCH } else { size });
+        let stretch_end = input_end.min(dense.taken + if noise { SHORT_STRETCH } else { size });
         // For this call the input ends behind the stretch.
         let stretch = dense.fast_loop::<8>(table, &bytes[..stretch_end + INPUT_ROOM], out);
         // Within the stretch the output has no room for what comes; or the input ends.

@@ -210,7 +210,7 @@ impl<W: Write + Drop> PixelWriter<W> {
         Ok(())
     }
 
-    // The refusal of so many raw bytes more than came.
+    // The refusal whose `size` is what came before and these bytes; none are more at the end.
     fn wrong_length(&self, more: usize) -> Error
         requires { image_byte_count self.now.header - self.now.left + more < 2 ^ 64 }
         ensures { result ≡ Error.InvalidImageLength

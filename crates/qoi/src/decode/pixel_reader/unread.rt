@@ -110,8 +110,8 @@ impl Unread {
         Refused
     }
 
-    /// Takes the error of a refusal out of `fault`, and drops what is kept: no more of the image is
-    /// given, and as many bytes are left of it as before the piece that was refused.
+    /// Takes the error of a refusal out of `fault`, and drops what is kept: as many bytes count as
+    /// left as before the piece that was refused.
     #[cold]
     #[inline(never)]
     pub(super) fn take_fault(&mut self, left: usize) -> Error
