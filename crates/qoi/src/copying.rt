@@ -18,15 +18,16 @@ use crate::encode::PixelWriter;
 use crate::error::{Error, Result};
 use std::io::Write;
 
-// How many raw bytes go at once: no more than `copied_at_once`, by `early` of `StopsBehind`. By
-// hand have to follow PIECE of fuzz/session.h, the numbers in comments and on the pages, and the
-// tests of readers and writers that fail.
+// How many raw bytes go at once: no more than `copied_at_once`, by `early` of `StopsBehind`,
+// `short` of `FailsBehind` and `BreaksCopy`. By hand have to follow PIECE of fuzz/session.h, the
+// numbers in comments and on the pages, and the tests of readers and writers that fail.
 const PIECE: usize = 4096;
 
 impl<R: Reader> PixelReader<R> {
     /// Copies all that is left of the image to a writer of pieces, by an array of 4,096 bytes: it
-    /// allocates nothing. It doesn't finish the writer, which may take further images. Raw bytes
-    /// are copied as they come: whether both sides have the same channels isn't asked.
+    /// allocates nothing. It doesn't finish the writer, which may take the bytes of further images,
+    /// too. Raw bytes are copied as they come: whether both sides have the same channels isn't
+    /// asked.
     ///
     /// Refusals, in this order: `IoError` of kind `BrokenPipe` if the writer reported a fault
     /// before; `InvalidImageLength` if more bytes are left than the writer takes; and then nothing
@@ -47,8 +48,8 @@ impl<R: Reader> PixelReader<R> {
         // All that is left goes to the writer, or it is refused.
         ensures copies { Copies R.in_memory R.ahead W.contents (unread_bytes self.old) self.old
             self.new writer.old writer.new result }
-        // A success: if no byte was read before, the bytes that were copied are the image. It
-        // follows, and so does the next; a caller's search needs both.
+        // A success: if no byte was read before, the bytes that were copied are the image. This
+        // and the next clause follow from `copies`; a caller's search needs both.
         ensures copied { OnOk result ((rest : List ℕ) × Takes W.contents rest writer.old writer.new
             × ((d : DecoderState R) (start : Option (List ℕ)) (bytes : List ℕ)
             → HasGiven d start (R.ahead self.old.reader) [] self.old → start ≡ Some bytes
@@ -59,7 +60,7 @@ impl<R: Reader> PixelReader<R> {
             → HasGiven d start (R.ahead self.old.reader) [] self.old → start ≡ Some bytes
             → HasTaken W.contents e before writer.old → OnOk result (HasTaken W.contents
             (and_raw e (front_image d.channels d.header bytes)) before writer.new) }
-        // Else what was read before and they, `more`, are the image.
+        // In any case what was read before and the bytes that were copied, `more`, are the image.
         ensures rest { IfGiven R.ahead self.old (λ d start given. (bytes more : List ℕ)
             → start ≡ Some bytes → given ++ more ≡ front_image d.channels d.header bytes
             → OnOk result (Takes W.contents more writer.old writer.new)) }

@@ -56,9 +56,9 @@ IfTaken contents p F = (e : EncoderState) (before : Option (List ℕ)) → HasTa
 abbrev pub SendsSome : EncoderState → Option (List ℕ) → Option (List ℕ) → Type 0
 SendsSome e before now = (more : List ℕ) → length (e.raw ++ more) ≡ image_byte_count e.header → AreBytes more → SendsPart (and_raw e more) before now
 
--- The pixel writer was made with the style and header of e, over such a writer, and failed after it was
--- given the raw bytes of e, no more than the image has and none besides: those of the call that failed were the
--- last ones, and count as missing.
+-- The pixel writer was made with the style and header of e, over a writer that had `before`, and failed after
+-- it was given the raw bytes of e, no more than the image has: those of the call that failed were the last ones,
+-- and count as missing.
 pub record HasFailed {W : Type 0} (contents : W → Option (List ℕ)) (e : EncoderState) (before : Option (List ℕ)) (p : WriterState W) : Type 0 where
   pub header_is : p.header ≡ e.header
   pub style_is : p.style ≡ e.style

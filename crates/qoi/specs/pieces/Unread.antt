@@ -10,7 +10,7 @@ use Rattle.qoi.specs.inner.Chunks.{RefusesChunks}
 use Rattle.qoi.specs.inner.Filling.{Reached, Filling, DecoderAfter, FromAny}
 use Rattle.qoi.specs.inner.Hashed.{pixel_of_lanes}
 
--- how many raw bytes are decoded and aren't given yet
+-- how many raw bytes are stored and aren't given yet
 abbrev pub kept_count : Unread → ℕ
 kept_count p = p.to - p.from
 
@@ -18,7 +18,7 @@ kept_count p = p.to - p.from
 abbrev pub kept_raw : Unread → List ℕ
 kept_raw p = take (kept_count p) (drop p.from p.bytes)
 
--- how many bytes of the image aren't given yet
+-- how many bytes of the image aren't given yet: `undecoded` counts the rest of a run, too
 abbrev pub bytes_left : Unread → ℕ
 bytes_left p = kept_count p + p.undecoded
 

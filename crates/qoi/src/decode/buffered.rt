@@ -20,7 +20,7 @@ use std::io::BufRead;
 
 // Decodes chunks from what the reader's buffer shows, after what others reached, while there is room
 // ahead, and takes just those. The reader is asked for its buffer only while pixels are missing, so
-// a fault leaves the image cut, and so does its end: it isn't asked again behind one.
+// a fault leaves the image cut, and so does the reader's end: behind either it isn't asked again.
 #[inline(always)]
 fn chunks_in_buffer<R: BufRead, const N: usize, const F: usize>(
     reader: &mut R,

@@ -27,8 +27,8 @@ pub(super) trait Chunks<const N: usize, const F: usize>: Sized {
     ghost in_memory: { Bool };
 
     /// Decodes chunks, after what others reached, at least as long as any run's vectors have room
-    /// in `out` (`RUN_ROOM`); from memory chunks are taken nearer to its end. Returns what it
-    /// reached.
+    /// in `out` (`RUN_ROOM`); those that a slice or a reader's buffer shows are taken nearer to its
+    /// end. Returns what it reached.
     ///
     /// Chunks that are refused are refused for any image of more pixels than fit, too.
     fn some_chunks(
@@ -52,9 +52,9 @@ pub(super) trait Chunks<const N: usize, const F: usize>: Sized {
         ensures refused { IfErr result (RefusesRest F N in_memory
             (ahead self.old) (ahead self.new) (filling table.old from out.old)) };
 
-    /// Decodes chunks that stand in memory into a piece of an image, `out`, as `take_in_place` (of
-    /// `in_place`) does. Returns what was reached, and how many bytes of a run come behind it. By
-    /// default, and so from a stream, no chunk is decoded.
+    /// Decodes chunks that a slice or a reader's buffer shows into a piece of an image, `out`, as
+    /// `take_in_place` (of `in_place`) does. Returns what was reached, and how many bytes of a run
+    /// come behind it. By default, and so from other readers, no chunk is decoded.
     fn chunks_in_place(
         &mut self,
         table: &mut TermTable,

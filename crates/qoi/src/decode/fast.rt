@@ -1,6 +1,7 @@
-//! The loops over chunks in memory while `INPUT_ROOM` is ahead and the output has room for eight
-//! short ones and a full one, which is tested once for all nine or, near the end of an output that
-//! goes on elsewhere, for one of each. `fast_chunks` and `chunks_ahead` of `stretches` enter them.
+//! The loops over chunks of a slice or a reader's buffer while `INPUT_ROOM` is ahead and the output
+//! has room for eight short ones and a full one, which is tested once for all nine or, near the end
+//! of a piece behind which the image goes on, for one of each. `fast_chunks` and `chunks_ahead` of
+//! `stretches` enter them.
 ghost use Rattle.std.specs.Prelude.{◌≡◌, ◌⊎◌, ◌↔◌, IsTrue, ◌+◌, ◌-◌, ◌*◌, ◌/◌, ◌<◌, ◌≤◌, ◌^◌, length};
 ghost use Rattle.qoi.specs.Qoi.{run_tag, rgb_tag};
 ghost use Rattle.qoi.specs.Raw.{IsChannels};
@@ -19,9 +20,9 @@ pub(super) const INPUT_ROOM: usize = 22;
 /// Bytes of room for the vectors of eight short chunks and of a full one.
 pub(super) const OUTPUT_ROOM: usize = 144;
 
-/// An output of fewer bytes that isn't the end of an image is short for `fast_chunks`: in memory,
-/// to enter `fast_loop` for its chunks would take longer than to decode them with every test. A
-/// piece that is decoded in place (`IN_PLACE`) isn't compared with it.
+/// An output of fewer bytes that isn't the end of an image is short for `fast_chunks` over a slice
+/// (`LEAVES_SHORT`): to enter `fast_loop` for its chunks would take longer than to decode them with
+/// every test. A piece that is decoded in place (`IN_PLACE`) isn't compared with it.
 pub(super) const SHORT_OUTPUT: usize = 528;
 
 /// What `fast_loop` has between two chunks, in `N` channels of output, of a file of `F` channels:

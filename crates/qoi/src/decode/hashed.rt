@@ -87,9 +87,9 @@ impl Hashed {
         Hashed::of_lanes(r + (g << 16) + (b << 32) + (a << 48))
     }
 
-    /// The pixel after an index position, a difference, a luma or a run: `b1` is its first byte,
-    /// `b2` the byte after that, which counts only for a luma (QOI specification 1.0, "Chunks").
-    /// One sum, without a jump. What the table holds is known last, so it is added last.
+    /// The pixel after an index position, a difference, a luma or a run of any length: `b1` is its
+    /// first byte, `b2` the byte after that, which counts only for a luma (QOI specification 1.0,
+    /// "Chunks"). One sum, without a jump. What the table holds is known last, so it is added last.
     #[inline(always)]
     pub(super) fn after_short<const SIZE: usize>(
         self,

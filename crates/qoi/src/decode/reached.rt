@@ -9,7 +9,7 @@ pub(super) struct Reached {
     pub(super) at: usize,
 }
 
-/// What chunks in memory reached, and how many bytes they have.
+/// What chunks of a slice or a buffer reached, and how many bytes they have.
 #[derive(Clone, Copy)]
 pub(super) struct Decoded {
     pub(super) taken: usize,

@@ -86,7 +86,7 @@ fn slice_chunks<'a, const N: usize, const F: usize, const WHILE_RUNS_FIT: bool>(
         (Some «data».entry.now) (Some «data».entry.now)
         (filling table.old from out.old) Error.UnexpectedBufferEnd) }
 {
-    // Where the image goes on behind `out`, it leaves a short output whole (`SHORT_OUTPUT`).
+    // Where the image goes on behind `out`, this leaves a short output as it was (`SHORT_OUTPUT`).
     let now = fast_chunks::<N, F, WHILE_RUNS_FIT>(table, from, data, out);
     let (_, rest) = data.split_at(now.taken);
     careful_chunks::<N, F, WHILE_RUNS_FIT, _>(table, now.reached, rest, out)

@@ -1,6 +1,6 @@
-//! Chunks in memory while input and output have room ahead, from any pixel on: in stretches, behind
-//! each of which, if it was noise, comes a loop for that. So noise costs other chunks no test.
-//! `AT_ONCE` is for how many short chunks room is tested at once.
+//! Chunks of a slice or a reader's buffer while input and output have room ahead, from any pixel
+//! on: in stretches, behind each of which, if it was noise, comes a loop for that. So noise costs
+//! other chunks no test. `AT_ONCE` is for how many short chunks room is tested at once.
 ghost use Rattle.std.specs.Prelude.{◌≡◌, ◌⊎◌, ◌+◌, ◌*◌, ◌<◌, ◌≤◌, length, drop, Some, true};
 ghost use Rattle.qoi.specs.Raw.{IsChannels};
 ghost use Rattle.qoi.specs.inner.Filling.{INPUT_ROOM, IsFillable, filling, CanLoop, FastChunks};

@@ -31,8 +31,8 @@ pub(super) fn goes_by_blocks<const N: usize>(style: Style, last: LastPixel, raw:
     ensures { IsTrue result
         → GoesByBlocks style last (length (pixels_in raw.entry)) (pixels_in raw.entry) }
 {
-    // Not in `Tight`: there `write_front_block` may make a coder even before the first block, which
-    // claims that a fresh pixel came (`begun` of `Carry::last_pixel`).
+    // Not in `Tight`: there `write_front_block` may make a coder even for the first block, and a
+    // coder claims that a fresh pixel came (`begun` of `Carry::last_pixel`).
     let may_open = match style {
         Reference | Places => last.repeats == 0,
         Tight => false,
@@ -154,10 +154,10 @@ fn write_front_block<
 /// Returns the piece, and the rest.
 ///
 /// `Reference` has a loop of its own, and another if `ALL_RGBA`: where an RGBA chunk is expected to
-/// give each pixel (`begin_with_rgba`). The other styles share one, which is told the style. It isn't
-/// inlined: where the loops are one function, they are slower. Nor is it passed a `LoopPixels`, which
-/// would be stored for the call: a small image takes longer for it. The piece is a value, so that the
-/// compiler keeps its fields in registers.
+/// give each pixel (`begin_with_rgba`). The other styles share one, which is told the style. This
+/// function isn't inlined: where the loops are one function, they are slower. Nor is it passed a
+/// `LoopPixels`, which would be stored for the call: a small image takes longer for it. The piece
+/// is a value, so that the compiler keeps its fields in registers.
 #[inline(never)]
 pub(super) fn write_blocks<
     'a,
@@ -196,9 +196,9 @@ pub(super) fn write_blocks<
     (piece, rest.bytes)
 }
 
-/// Writes the opening of these pixels, a block or more: the repeats that wait, those at the front and
-/// the fresh pixel after them. Returns the piece, and the rest. It isn't inlined: in one function
-/// with it the loop over blocks would be slower.
+/// Writes the opening of these pixels, a block or more that don't go by blocks (`goes_by_blocks`):
+/// the repeats that wait, those at the front and the fresh pixel after them. Returns the piece, and
+/// the rest. It isn't inlined: in one function with it the loop over blocks would be slower.
 #[inline(never)]
 pub(super) fn write_opening<'a, 'p, const N: usize, const ROOM: usize>(
     state: &mut ImageState,

@@ -261,7 +261,8 @@ impl<const N: usize> Coder<N> {
     }
 
     /// Writes the repeats that came before these pixels, those at their front, and the fresh pixel
-    /// after them; but if none is left or over 992 repeat, only full runs. Returns the rest.
+    /// after them; but if no pixel is left behind the repeats, or over 992 repeat, only full runs.
+    /// Returns the rest.
     #[inline(always)]
     pub(super) fn write_next_group<'a, const ROOM: usize>(
         &mut self,

@@ -112,7 +112,7 @@ fn same_in_block<const N: usize>(raw: Pixels<N>, px: Packed) -> u64
     three + (same_in_part::<N, 3>(raw, px) << 48)
 }
 
-// Which of the `PART`th sixteen bytes are so: a bit for each.
+// The bits of `same_in_block` for the `PART`th sixteen bytes, from 0.
 #[inline(always)]
 fn same_in_part<const N: usize, const PART: usize>(raw: Pixels<N>, px: Packed) -> u64
     requires part { PART < N }

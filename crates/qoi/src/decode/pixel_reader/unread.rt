@@ -15,10 +15,10 @@ use crate::decode::reached::Reached;
 use crate::decode::table::TermTable;
 use crate::error::Error;
 
-/// What is unread of an image: the decoded `bytes` from `from` to `to`, and `undecoded` raw bytes,
-/// of which the first `run` are copies of the last pixel, the rest of its run; both are whole
-/// pixels. While some are undecoded, table and last pixel are those behind all chunks so far. After
-/// a refusal its error stands in `fault`, until it is returned.
+/// What is unread of an image: the stored `bytes` from `from` to `to`, and `undecoded` raw bytes,
+/// of which the first `run` are copies of the last pixel, the rest of its run; `run` and
+/// `undecoded` are whole pixels. While some are undecoded, table and last pixel are those behind
+/// all chunks so far. After a refusal its error stands in `fault`, until it is returned.
 #[derive(Drop)]
 pub struct Unread {
     pub(super) table: TermTable,
@@ -187,9 +187,9 @@ impl Unread {
     }
 
     // Gives the rest of a run and, if `out` isn't short and `RUN_ROOM` of the image follows it (so
-    // that any run ends in the image), the chunks behind the run that stand in memory (else
-    // `decode_while_runs_fit` may). Returns how many bytes, and keeps what has no room of a run; a
-    // run may go on past the piece.
+    // that any run ends in the image), the chunks behind the run that a slice or a reader's buffer
+    // shows (of others `decode_while_runs_fit` may). Returns how many bytes, and keeps what has no
+    // room of that run; the last one that is decoded may go on past the piece (`run`).
     #[inline(always)]
     fn piece_front<R: Chunks<N, F>, const N: usize, const F: usize>(
         &mut self,
@@ -317,7 +317,8 @@ impl Unread {
     /// Decodes an image's next bytes, while none are kept, and with the last ones takes the end
     /// marker. Returns how many are in `out`, maybe none; what `out` lacks, and more, is kept. They
     /// come in three ways, one after the other:
-    /// - the rest of a run, and behind it chunks in memory, in place (`piece_front`);
+    /// - the rest of a run, and behind it what a slice or a reader's buffer shows, in place
+    ///   (`piece_front`);
     /// - chunks of any reader, as long as any run has room in `out` (`decode_while_runs_fit`);
     /// - chunks that are decoded ahead, and kept (`decode_ahead`).
     pub(in crate::decode) fn decode_more<R: Chunks<N, F>, const N: usize, const F: usize>(
