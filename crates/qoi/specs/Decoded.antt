@@ -31,7 +31,7 @@ pub record HasHeader {R : Type 0} (d : DecoderState R) (old new : Option (List �
   -- the image ahead, and what follows it, are those of the file at the front of the bytes
   pub image : IfSome old (λ bytes. IfSome new (λ ahead. (front_image d.channels d.header ahead ≡ file_image bytes)
       × (front_rest d.header ahead ≡ file_rest bytes)))
-  -- so it is in other channels
+  -- the same in other channels
   pub image_in : IfSome old (λ bytes. IfSome new (λ ahead. (channels : Channels) → front_image channels d.header ahead ≡ file_image_in channels bytes))
   -- the decoder is that of the bytes: for the field `file` of `HasDecoded`
   pub made : IfSome old (λ bytes. IsDecoderOf d bytes (drop header_size bytes))

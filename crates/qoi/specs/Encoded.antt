@@ -34,7 +34,8 @@ measured_channels raw width height =
     if length raw % (width * height) == 0 then channels_of (min (length raw / (width * height)) 255)
     else Err (InvalidImageLength (length raw) width height)
 
--- the header of an image of raw bytes; or the first refusal, of the dimensions or of the channels
+-- the header of an image of raw bytes; or the first refusal: of the dimensions, of the number of
+-- bytes, or of the channels
 abbrev pub image_header : List ℕ → ℕ → ℕ → Result Header Error
 image_header raw width height =
     let found : Channels → Header = (λ channels. record { width = width; height = height; channels = channels; colorspace = Srgb }) in

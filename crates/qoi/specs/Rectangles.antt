@@ -27,7 +27,7 @@ pub record KeepsOutside (stride top left rows size : ℕ) (old new : List ℕ) :
   pub length_is : length new ≡ length old
   pub same : (i j : ℕ) → j < stride → IsOutside top left rows size i j → slice_index new (stride * i + j) ≡ slice_index old (stride * i + j)
 
--- the raw bytes with the rows of `tile` put into this rectangle, as many as it has
+-- the raw bytes with the rows of the raw bytes `tile` put into this rectangle, as many as it has
 unfoldable pub with_tile : ℕ → ℕ → ℕ → ℕ → ℕ → List ℕ → List ℕ → List ℕ
 with_tile stride top left zero size tile raw = raw
 with_tile stride top left (suc rows) size tile raw =

@@ -7,7 +7,7 @@ use Rattle.qoi.specs.Qoi.{Chunk, Place, Run, RgbaPixel, Past, previous, hash, th
 use Rattle.qoi.specs.Written.{fresh, IsChoice, WrittenBy}
 use Rattle.qoi.specs.Tight.{IsTightChoice}
 
--- the style of a coder's loop, by its number: Reference, or the one that it is told
+-- the style of a loop over blocks, by its number: Reference, or the one that it is told
 abbrev pub style_in : ℕ → Style → Style
 style_in n told = if n == 0 then Reference else told
 

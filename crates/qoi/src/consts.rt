@@ -1,12 +1,12 @@
 //! The numbers of the format (QOI specification 1.0).
 
-/// First byte of the chunk that names an index position: `00` in the two high bits.
+/// Tag of the chunk that names an index position: `00` in the two high bits of its first byte.
 pub const QOI_OP_INDEX: u8 = 0x00;
-/// First byte of a difference chunk: `01` in the two high bits.
+/// Tag of a difference chunk: `01` there.
 pub const QOI_OP_DIFF: u8 = 0x40;
-/// First byte of a luma chunk: `10` in the two high bits.
+/// Tag of a luma chunk: `10` there.
 pub const QOI_OP_LUMA: u8 = 0x80;
-/// First byte of a run chunk: `11` in the two high bits, for runs of 1 to 62.
+/// Tag of a run chunk, for runs of 1 to 62: `11` there.
 pub const QOI_OP_RUN: u8 = 0xc0;
 /// The byte that an RGB chunk begins with.
 pub const QOI_OP_RGB: u8 = 0xfe;

@@ -151,8 +151,8 @@ impl<R> Model for Decoder<R> {
 impl<'a> Decoder<Bytes<'a>> {
     /// A decoder of the file at the front of the bytes, whose header is decoded at once.
     ///
-    /// The refusals are those of `decode_header`. After a success `data` is what follows the
-    /// header, and the channels are the header's.
+    /// The refusals are those of `decode_header`. After a success the method `data` gives what
+    /// follows the header, and the channels are the header's.
     pub fn new(data: &'a [u8]) -> Result<Decoder<Bytes<'a>>>
         // A success: the header at the front of the bytes was read.
         ensures accepted { IfOk result (λ d. HasHeader d (Some «data».entry.now) (Some d.reader)) }

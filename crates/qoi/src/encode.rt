@@ -265,7 +265,7 @@ impl<'a> Encoder<'a> {
             });
         }
         let mut writer = BytesMut::new(buf);
-        // Asked here, and not by `write_image` alone: for one pixel its answer, passed on, takes 5
+        // Asked here, and not by `write_image` alone: for one pixel its result, passed on, takes 5
         // percent more instructions.
         if self.data.len() < LEAST_BLOCK {
             return encode_in_one_piece::<_, LEAST_ROOM>(&mut writer, self);

@@ -48,9 +48,9 @@ pub record SpellsOut (q p : RgbaPixel) (number size : ℕ) (c : Chunk) : Type 0 
   pub bytes : chunk_of size number p.a ≡ bytes_of c
   pub first : (past : Past) → previous past ≡ q → IsFirst past p c
 
--- What hasn't gone to a writer yet, `ahead`, is the bytes that are kept, and those that are written
--- in the style for n repeats of the last of the pixels `past`, and for the pixels `rest`. `before`
--- is the chunk before those, if there is one.
+-- What hasn't gone to a writer yet, but for the end marker, `ahead`, is the bytes that are kept,
+-- and those that are written in the style for n repeats of the last of the pixels `past`, and for
+-- the pixels `rest`. `before` is the chunk before those, if there is one.
 pub record Ahead (style : Style) (ahead : List ℕ) (past : Past) (before : Option Chunk) (n : ℕ) (rest : List RgbaPixel) (kept : List ℕ) : Type 0 where
   pub are : AllByRecursion IsPixel rest
   pub before_is : IsPixel (previous past)
@@ -83,7 +83,8 @@ pub record CoderPasses {N size : ℕ} (c : Coder N) (table : List RgbaPixel) (pi
 pub record CoderEnds {N size : ℕ} (c : Coder N) (table : List RgbaPixel) (piece : Piece size) (pixels : List RgbaPixel) (piece' : Piece size) : Type 0 where
   pub all : (ahead : List ℕ) → CoderBetween c.style ahead pixels table c.last (kept_bytes piece) → ahead ≡ kept_bytes piece'
 
--- From the pixels, table, last pixel and piece to these some pixels are written, whatever others follow.
+-- Some pixels are written, which leads from the first pixels, table, last pixel and piece to the second,
+-- whatever others follow.
 pub record WritesSome {N ROOM : ℕ} (style : Style) (raw : Pixels N) (table : List RgbaPixel) (last : LastPixel) (piece : Piece ROOM)
     (rest : List ℕ) (table' : List RgbaPixel) (last' : LastPixel) (piece' : Piece ROOM) : Type 0 where
   pub opaque : N ≡ 3 → last'.px.a ≡ 255

@@ -110,7 +110,7 @@ pub record HasAhead {N F : ℕ} (input room : ℕ) (bytes out : List ℕ) (now :
   pub input_is : now.taken + input ≤ length bytes
   pub room_is : now.at + room ≤ length out
 
--- a loop that tests room for so many short chunks and a full one at once may begin, and so many bytes stand ahead
+-- a loop that tests room for so many short chunks and a full one at once may begin, and `input` bytes stand ahead
 pub record CanLoop {N F : ℕ} (at_once input : ℕ) (bytes out : List ℕ) (now : Progress N F) : Type 0 where
   pub at_once_is : (at_once ≡ 1) ⊎ (at_once ≡ 8)
   pub input_is : INPUT_ROOM ≤ length bytes

@@ -1,5 +1,5 @@
--- How the bytes of a file that haven't gone to a writer yet (`ahead`) go there through a piece. `wrote a
--- bytes b` says that the writer a became b by writing the bytes.
+-- How the bytes of a file that haven't gone to a writer yet, but for the end marker (`ahead`), go there
+-- through a piece. `wrote a bytes b` says that the writer a became b by writing the bytes.
 use Rattle.std.specs.Prelude.{◌≡◌, ⊤, ℕ, ◌+◌, ◌*◌, ◌%◌, ◌<◌, ◌≤◌, ◌⊎◌, List, [], ◌++◌, length, Option, None, Result, MatchResult, IfOk}
 use Rattle.std.specs.Borrow.{Bor}
 pub use Rattle.qoi.specs.declared.encode.piece.OpenPiece.{OpenPiece}

@@ -36,7 +36,7 @@ pub record StopsBehind {R : Type 0} (in_memory : Bool) (ahead : R → Option (Li
   pub left : unread_bytes p ≡ unread_bytes was
   pub kept : IsTrue in_memory → Keeps (ahead was.reader) (ahead p.reader)
   -- In memory no more counts than one more piece and what may be decoded ahead of it: the bytes are
-  -- refused as an image of n pixels, too, if these go so far or are all.
+  -- refused as an image of n pixels, too, if n pixels have that many bytes, or are all.
   pub early : IsTrue in_memory → (bytes : List ℕ) (n : ℕ) → start ≡ Some bytes → n ≤ pixel_count d.header
       → min (length given + length more + copied_at_once + decoded_ahead) (output_byte_count d) ≤ n * channels_number d.channels
       → RefusesBytes n bytes error

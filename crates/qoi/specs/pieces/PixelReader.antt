@@ -47,7 +47,7 @@ pub record GivesSoFar {R : Type 0} (d : DecoderState R) (start now : Option (Lis
   pub front : IfSome start (λ bytes. given ≡ take (length given) (front_image d.channels d.header bytes))
   -- for n pixels at most 5n + 8 bytes were taken
   pub within : TakesAtMost (chunk_max * pixel_count d.header + marker_size) start now
-  -- if none are left, the decoder's image was decoded, and they are its bytes
+  -- if none are left, the decoder's image was decoded, and `given` are its bytes
   pub whole : unread_bytes p ≡ 0 → HasDecoded d start now given
 
 -- The same. It is no abbreviation, so that the prover passes it on whole; nor is HasRows.
@@ -81,7 +81,7 @@ pub record ReadsUpTo {R : Type 0} (n : ℕ) (p q : PixelsState R) (count : ℕ) 
 pub record RefusesPiece {R : Type 0} (in_memory : Bool) (d : DecoderState R) (start : Option (List ℕ)) (given : List ℕ) (n : ℕ) (new : Option (List ℕ)) (e : Error) : Type 0 where
   pub why : RefusesPixels in_memory d start new e
   -- In memory no more than what may be decoded ahead counts: the bytes are refused as an image of k pixels, too,
-  -- if these go so far or are all.
+  -- if k pixels have that many bytes, or are all.
   pub early : IsTrue in_memory → (bytes : List ℕ) (k : ℕ) → start ≡ Some bytes → k ≤ pixel_count d.header
       → min (length given + n + decoded_ahead) (output_byte_count d) ≤ k * channels_number d.channels → RefusesBytes k bytes e
   -- In memory an image that stands whole isn't refused.

@@ -102,8 +102,8 @@ IsRowIndex file points = IndexesFile file points
 unfoldable pub ReadsFile : Channels → Header → List ℕ → PixelsState (List ℕ) → Type 0
 ReadsFile channels h file p = (header_of file ≡ Ok h) × (given : List ℕ) × HasGiven (file_decoder channels h file) (Some (drop header_size file)) (Some p.reader) given p
 
--- A reader of the image in these channels goes on above no point whose pixels to come begin above row
--- `first`, or with it.
+-- A reader of the image in these channels goes on above the row of no point whose pixels to come
+-- begin above row `first`, or with it.
 abbrev pub IsNearest : Channels → Header → ℕ → List PointState → PixelsState (List ℕ) → Type 0
 IsNearest channels h first points p = (k : ℕ) (m : PointState) → k < length points
     → h.width * (h.height - first) ≤ undecoded_pixels (slice_index_or points k m)

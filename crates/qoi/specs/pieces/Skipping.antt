@@ -25,7 +25,7 @@ pub record BreaksWithin {R : Type 0} (in_memory : Bool) (ahead : R → Option (L
   pub within : StopsWithin in_memory ahead n p q
   pub refused : IfGiven ahead p (λ d start given. RefusesPiece in_memory d start given n (ahead q.reader) error)
 
--- Of each of so many rows the `size` bytes from byte `left` on can be read into so many bytes: they lie within
+-- Of each of so many rows the `size` bytes from byte `left` on can be read into `room` bytes: they lie within
 -- a row, the rows are left, and the bytes have room.
 abbrev pub HasRectangle : {R : Type 0} → PixelsState R → ℕ → ℕ → ℕ → ℕ → Type 0
 HasRectangle p left rows size room = (left + size ≤ row_size p.channels p.header) × (rows_size p rows ≤ unread_bytes p) × (size * rows ≤ room)

@@ -172,7 +172,7 @@ impl<R: Reader> PixelReader<R> {
         ensures left { result ≡ unread_bytes self.now }
         ensures most { result ≤ 4 * pixels_max }
         ensures within { result ≤ output_byte_count (as_decoder self.now) }
-        // If none are left, the decoder's image was decoded, and these are its bytes.
+        // If none are left, the decoder's image was decoded, and what was read are its bytes.
         ensures all { IfGiven R.ahead self.now (λ d start given. result ≡ 0
             → HasDecoded d start (R.ahead self.now.reader) given) }
         ensures image { IfGiven R.ahead self.now (λ d start given. (bytes : List ℕ)
@@ -211,8 +211,8 @@ impl<R: Reader> PixelReader<R> {
             → HasGiven d (Some bytes) (R.ahead self.old.reader) given self.old
             → IfOk result (λ size. take size buf.new
             ≡ take size (drop (length given) (front_image d.channels d.header bytes))) }
-        // A buffer of a row that is filled: behind k rows of the image it is row k. It follows from
-        // the next two, for one row.
+        // A buffer of a row that is filled: behind k rows of the image it is row k. These two
+        // follow from `strip` and `strip_rows`, for one row.
         ensures rows { (d : DecoderState R) (start : Option (List ℕ)) (stride k : ℕ)
             → HasRows d start (R.ahead self.old.reader) stride k self.old
             → length buf.old ≡ stride → IfOk result (λ size. stride ≤ size

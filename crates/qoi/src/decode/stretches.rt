@@ -129,7 +129,7 @@ pub(super) fn chunks_ahead<const N: usize, const F: usize, const AT_ONCE: usize>
 }
 
 /// Decodes chunks from the front of the bytes, after what others reached, while there is room
-/// ahead, and returns where it stopped; none if `LEAVES_SHORT` and the output is short
+/// ahead, and returns where it stopped; it decodes none if `LEAVES_SHORT` and the output is short
 /// (`SHORT_OUTPUT`). The caller goes on chunk by chunk.
 #[inline(always)]
 pub(super) fn fast_chunks<const N: usize, const F: usize, const LEAVES_SHORT: bool>(

@@ -165,9 +165,9 @@ impl Block {
     }
 }
 
-/// Appends the chunks of a block that doesn't repeat whole, but for the repeats at its end. Returns
-/// what is carried then. Each loop that calls it has a function of its own, which the compiler
-/// inlines there.
+/// Appends the run of the carried repeats, if the block's first pixel is fresh, and the chunks of a
+/// block that doesn't repeat whole, but for the repeats at its end. Returns what is carried then.
+/// Each loop that calls it has a function of its own, which the compiler inlines there.
 ///
 /// If `ALL_RGBA`, an RGBA chunk is expected to give each pixel, and index positions are taken from
 /// the vector one by one. That takes longer than to read them back from memory, but then the

@@ -63,9 +63,10 @@ impl<const N: usize> Carry<N> {
         }
     }
 
-    /// Stores at `at` the byte of the run that ends where the block begins, if it does. In style
-    /// `Places` a single repeat has the byte of its index position, if the chunk before it isn't
-    /// that position. It is stored in any case; whether it is kept is known later (`run_end`).
+    /// Stores at `at` the byte of the run that ends where the block begins. In style `Places` a
+    /// single repeat has the byte of its index position, if the chunk before it isn't that
+    /// position. A byte is stored even if there is no such run; whether it is kept is known later
+    /// (`run_end`).
     #[inline(always)]
     pub(super) fn store_run(self, style: Style, out: &mut [u8], at: usize)
         requires { at < length out.old }

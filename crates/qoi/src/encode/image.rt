@@ -199,8 +199,9 @@ fn encode_file<W: Writer, const ROOM: usize>(writer: &mut W, encoder: &Encoder) 
 pub(super) const LEAST_BLOCK: usize = 48;
 
 /// Writes the file of an image through one piece, which can hold all of it, and returns how many
-/// bytes it has. In `LEAST_ROOM` images are below `LEAST_BLOCK`. It isn't in `encode_file`, which
-/// would clear its room too, and has no `Result` but the one returned: each takes a dozen stores.
+/// bytes it has. In `LEAST_ROOM` images are below `LEAST_BLOCK`. It is kept out of `encode_file`,
+/// which would else clear this room, too, and has no `Result` but the one that it returns: each
+/// takes a dozen stores.
 pub(super) fn encode_in_one_piece<W: Writer, const ROOM: usize>(
     writer: &mut W,
     encoder: &Encoder,
@@ -228,9 +229,9 @@ pub(super) fn encode_in_one_piece<W: Writer, const ROOM: usize>(
     Ok(end)
 }
 
-/// Writes the file of an image, and returns how many bytes it has: through one piece if the image has
-/// no block, in `SMALL_ROOM` if it goes to memory and has fewer raw bytes than a piece in
-/// `LARGE_ROOM` sends at once, else in that.
+/// Writes the file of an image, and returns how many bytes it has: through one piece if the image
+/// is below `LEAST_BLOCK`, in `SMALL_ROOM` if it goes to memory and has fewer raw bytes than a
+/// piece in `LARGE_ROOM` sends at once, else in that.
 #[inline(always)]
 pub(super) fn write_image<W: Writer, const IN_MEMORY: bool>(
     writer: &mut W,

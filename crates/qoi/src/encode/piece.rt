@@ -24,15 +24,15 @@ pub(super) const SPARE: usize = 128;
 /// How many bytes a piece in `LARGE_ROOM` sends at once.
 pub(super) const LARGE_BATCH: usize = 4096;
 
-/// The room of a piece for large images to memory, for images to a stream that have a block, and
-/// for images in parts.
+/// The room of a piece for large images to memory, for images to a stream from `LEAST_BLOCK` raw
+/// bytes on, and for images in parts.
 pub(super) const LARGE_ROOM: usize = LARGE_BATCH + SPARE;
 
 /// The room of a piece that sends 512 bytes at once, for a small image that goes to memory: zeroing
 /// more takes a good part of the time.
 pub(super) const SMALL_ROOM: usize = 512 + SPARE;
 
-/// The most bytes of a tiny file, all of which a piece keeps.
+/// A file is tiny if its `encode_max_len` is at most this; a piece keeps all of it.
 pub(super) const TINY_FILE: usize = 128;
 
 /// The room of a piece for a tiny file.

@@ -140,8 +140,9 @@ impl<W: Write + Drop> PixelWriter<W> {
 
     /// Takes the next raw bytes, any number of them. Up to 8,256 are held, so that several short
     /// rows are encoded at once. If there is no room for a call's bytes, those that are held are
-    /// encoded and sent. A call of more than 4,128 keeps back some 4,200 of its own at most.
-    /// Repeats whose run may go on aren't sent yet. It doesn't flush.
+    /// encoded and sent, but for fewer pixels than a block has. A call of more than 4,128 keeps
+    /// back some 4,200 of its own at most. Repeats whose run may go on aren't sent yet. It doesn't
+    /// flush.
     ///
     /// `InvalidImageLength`, with the number of all bytes that came, if there are more than the
     /// image has; then none of them is taken, and nothing is sent. `IoError` if the writer reports

@@ -14,15 +14,15 @@ use crate::decode::reader::Reader;
 use crate::error::{Error, Result};
 
 impl<R: Reader> PixelReader<R> {
-    /// Reads the next rows of the image, so many, in the channels of the output, and of each keeps
-    /// the `size` bytes from byte `left` on. They fill the front of `buf`, part behind part; bytes
-    /// behind them stay. It counts from where the reader stands, which should be a row's start. The
-    /// rest of each row is decoded into an array of 16,384 bytes: nothing is allocated.
+    /// Reads the next rows of the image, so many, in the channels of the output, and of each hands
+    /// out the `size` bytes from byte `left` on. They fill the front of `buf`, part behind part;
+    /// bytes behind them stay. It counts from where the reader stands, which should be a row's
+    /// start. The rest of each row is decoded into an array of 16,384 bytes: nothing is allocated.
     ///
     /// Refusals, in this order: `UnexpectedBufferEnd` if no row has such a part, or fewer rows are
     /// left; `OutputBufferTooSmall` if `buf` has less than `size * rows` bytes; and then nothing is
-    /// read. Else those of `read`, and no more of the image can be read then: `left` is as after a
-    /// refusal of `skip_rows`, and those bytes of `buf` may be overwritten.
+    /// read. Else those of `read`, and no more of the image can be read then: `PixelReader::left`
+    /// is as after a refusal of `skip_rows`, and those bytes of `buf` may be overwritten.
     ///
     /// ```
     /// let mut pixels = Decoder::new(file)?.into_pixels();

@@ -17,13 +17,14 @@ use crate::error::Result;
 /// of fuzz/session.h, and the numbers in comments and on the pages.
 pub(super) const DECODED_AHEAD: usize = 3072;
 
-/// A piece of at least so many bytes is decoded in place: what a slice or a reader's buffer shows
-/// by `take_in_place`, which doesn't ask for `SHORT_OUTPUT`, else by `some_chunks`.
+/// A piece with at least so many bytes open behind kept ones is decoded in place, if `RUN_ROOM` of
+/// the image follows it: what a slice or a reader's buffer shows by `take_in_place`, which doesn't
+/// ask for `SHORT_OUTPUT`, else by `some_chunks`.
 pub(super) const IN_PLACE: usize = 512;
 
 /// The room to decode ahead into, if as much is left of the image, for so many bytes that a piece
 /// has open behind kept ones, of which the first `filled` are decoded: all that can be kept if none
-/// are, else what the piece lacks, little behind `Unread::decode_while_runs_fit`, and room for a
+/// are, else what the piece lacks (little, behind `Unread::decode_while_runs_fit`) and room for a
 /// run, in whole pixels.
 #[inline]
 pub(super) fn kept_room(piece: usize, filled: usize) -> usize

@@ -157,7 +157,8 @@ impl RowIndex {
         })
     }
 
-    // A reader from the last point above row `first` of the file's image, or from the image's top.
+    // A reader from the last point above row `first` of the file's image or at its start, or from
+    // the image's top.
     fn above<'a>(
         &self,
         file: &'a [u8],
@@ -171,7 +172,7 @@ impl RowIndex {
         ensures left { IfOk result (λ p. decoder.entry.header.width
             * (decoder.entry.header.height - first) * channels_number decoder.entry.channels
             ≤ unread_bytes p) }
-        // No point that serves stands for a row further below.
+        // No point that serves was noted for a row below where the reader goes on.
         ensures nearest { IsRowIndex file.entry.now self.now → IfOk result (IsNearest
             decoder.entry.channels decoder.entry.header first self.now) }
     {
@@ -197,7 +198,7 @@ impl RowIndex {
     /// `UnexpectedBufferEnd` if `first` is greater. With another file's index it reads wrong rows, or
     /// is refused too.
     pub fn rows<'a>(&self, file: &'a [u8], first: u32) -> Result<PixelReader<Bytes<'a>>>
-        // The reader has read `first` rows of the file's image.
+        // The reader stands as if it had read `first` rows of the file's image.
         ensures rows { (h : Header) → header_of file.entry.now ≡ Ok h
             → IsRowIndex file.entry.now self.now → IfOk result (λ p. HasRows
             (file_decoder h.channels h file.entry.now) (Some (drop header_size file.entry.now))
@@ -232,7 +233,7 @@ impl RowIndex {
         channels: Channels,
         first: u32,
     ) -> Result<PixelReader<Bytes<'a>>>
-        // The reader has read `first` rows of the file's image in these channels.
+        // The reader stands as if it had read `first` rows of the file's image in these channels.
         ensures rows { (h : Header) → header_of file.entry.now ≡ Ok h
             → IsRowIndex file.entry.now self.now → IfOk result (λ p. HasRows
             (file_decoder channels h file.entry.now) (Some (drop header_size file.entry.now))

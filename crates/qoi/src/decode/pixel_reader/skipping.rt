@@ -31,8 +31,8 @@ impl<R: Reader> PixelReader<R> {
     /// let count = pixels.read(&mut row)?; // the row behind them
     /// ```
     pub fn skip_rows(&mut self, rows: u32) -> Result<()>
-        // A success: the bytes of so many rows were read. Behind k rows of the image it stands
-        // behind those that follow.
+        // A success: the bytes of so many rows were read. If the reader stood behind k rows of the
+        // image, it stands behind k + `rows`.
         ensures skipped { OnOk result ((more : List ℕ) × Gives R.ahead more self.old self.new
             × (length more ≡ rows_size self.old rows)) }
         ensures rows { (d : DecoderState R) (start : Option (List ℕ)) (stride k : ℕ)

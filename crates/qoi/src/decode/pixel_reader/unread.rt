@@ -186,10 +186,10 @@ impl Unread {
         self.give(out)
     }
 
-    // Gives the rest of a run and, if `out` isn't short and `RUN_ROOM` of the image follows it (so
-    // that any run ends in the image), the chunks behind the run that a slice or a reader's buffer
-    // shows (of others `decode_while_runs_fit` may). Returns how many bytes, and keeps what has no
-    // room of that run; the last one that is decoded may go on past the piece (`run`).
+    // Gives the rest of a run and, if `out` isn't short and `RUN_ROOM` of the image follows `out`
+    // (so that any run ends in the image), the chunks behind the run that a slice or a reader's
+    // buffer shows (of others `decode_while_runs_fit` may). Returns how many bytes, and keeps what
+    // has no room of that run; the last one that is decoded may go on past the piece (`run`).
     #[inline(always)]
     fn piece_front<R: Chunks<N, F>, const N: usize, const F: usize>(
         &mut self,
@@ -227,7 +227,7 @@ impl Unread {
     }
 
     // Decodes chunks into `out`, a piece without its first `done` bytes, as long as any run has
-    // room, and returns how many bytes: 0 below `RUN_ROOM` (from a slice mostly), or below
+    // room, and returns how many bytes: 0 below `RUN_ROOM` (as mostly from a slice), or below
     // `IN_PLACE` if nothing was decoded yet, since a short piece is given from kept bytes.
     #[inline]
     fn decode_while_runs_fit<R: Chunks<N, F>, const N: usize, const F: usize>(

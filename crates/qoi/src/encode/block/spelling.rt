@@ -1,6 +1,5 @@
 //! The chunks of sixteen pixels, a lane for each: first and second bytes, and sizes (QOI
-//! specification 1.0, "Chunks"). A repeat has a run's byte, and size 0 unless a fresh pixel
-//! follows.
+//! specification 1.0, "Chunks"). A repeat has a run's byte, and size 0 unless a fresh lane follows.
 ghost use Rattle.std.specs.Prelude.{◌≡◌, ◌<◌, ◌%◌, ℕ, slice_index, Bool, List, map, IsTrue};
 ghost use Rattle.qoi.specs.Qoi.{RgbaPixel, IsPixel, run_max, hash, bytes_of};
 ghost use Rattle.qoi.specs.WrittenList.{diff_of};
@@ -173,8 +172,8 @@ fn with_zeros(size: u8x16, rep: u8x16) -> u8x16
     lesser(size, !lesser(rep, next))
 }
 
-/// Spells out sixteen pixels, where `stands` says which stand at their index positions, and `carried`
-/// repeats came before that aren't written yet.
+/// The chunks of sixteen pixels, index positions and runs too, where `stands` says which stand at
+/// their index positions, and `carried` repeats came before that aren't written yet.
 #[inline(always)]
 pub(in crate::encode) fn spell_block(
     changes: Changes,
@@ -215,7 +214,7 @@ pub(in crate::encode) fn are_all_rgba(alpha: u8x16, stands: u8x16) -> bool
     all_set(!(where_is(alpha, 0) | stands))
 }
 
-/// Spells out sixteen such pixels. They are constants but for the red that is passed, and for
+/// The chunks of sixteen such pixels. They are constants but for the red that is passed, and for
 /// `rep`, of which no lane is set.
 #[inline(always)]
 pub(in crate::encode) fn spell_rgba(rep: u8x16, red: u8x16) -> Spelled

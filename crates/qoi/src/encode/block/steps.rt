@@ -1,4 +1,5 @@
-//! From each of sixteen pixels to the next: the steps of all channels, and which pixels repeat.
+//! To each of sixteen pixels from the one before it: the steps of all channels, and which pixels
+//! repeat.
 ghost use Rattle.std.specs.Prelude.{◌≡◌, ◌<◌, ◌+◌, ◌-◌, ◌%◌, ℕ, List, ◌∷◌, take, slice_index};
 ghost use Rattle.qoi.specs.Qoi.{RgbaPixel};
 ghost use Rattle.qoi.specs.inner.block.Vectors.{AreBy, ChangesFrom};
