@@ -9,7 +9,7 @@ use Rattle.qoi.specs.Qoi.{Error}
 use Rattle.qoi.specs.DecoderState.{DecoderState}
 use Rattle.qoi.specs.Images.{front_image}
 use Rattle.qoi.specs.Rectangles.{row_bytes, rectangle, row_size}
-use Rattle.qoi.specs.pieces.PixelReader.{PixelsState, unread_bytes, HasGiven, IfGiven, RefusesPiece, StopsAt, IsSpent}
+use Rattle.qoi.specs.pieces.PixelReader.{PixelsState, unread_bytes, HasGiven, IfGiven, RefusesPiece, StopsAt}
 use Rattle.qoi.specs.pieces.Copying.{Gives}
 use Rattle.qoi.specs.pieces.Skipping.{StopsWithin, BreaksWithin}
 use Rattle.qoi.proofs.format.RectangleLaws.{row_more, of_first_rows, rectangle_of_rectangle}

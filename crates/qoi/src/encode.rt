@@ -245,7 +245,6 @@ impl<'a> Encoder<'a> {
     ///
     /// `OutputBufferTooSmall` exactly if the buffer is shorter than `required_buf_len`, even if the
     /// file would fit; then the buffer is untouched.
-    #[tactic(auto, using(crate::proofs::encoding::piece::BufferFilled::buffer_filled))]
     pub fn encode_to_buf(&self, buf: &mut [u8]) -> Result<usize>
         // A success: the file stands in the front of the buffer, and later bytes stay.
         ensures encoded { IfOk result (PutsFile self.now buf.old buf.new) }

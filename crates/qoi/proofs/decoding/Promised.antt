@@ -14,13 +14,13 @@ use Rattle.qoi.specs.Qoi.{Error, UnexpectedBufferEnd, InvalidPadding, IoError, C
 use Rattle.qoi.specs.Raw.{HasImageLength, capped_byte_count, image_byte_count, byte_count}
 use Rattle.qoi.specs.DecoderState.{DecoderState, output_byte_count}
 use Rattle.qoi.specs.inner.Chunks.{Conversion, conversion_of, ReadsIn}
-use Rattle.qoi.specs.Images.{front_image, front_rest, file_image, file_image_in, file_rest, BeginsWithFile}
+use Rattle.qoi.specs.Images.{front_image, front_rest, file_image, file_image_in, file_rest}
 use Rattle.qoi.specs.Reading.{IsImage, StandsAhead}
 use Rattle.qoi.specs.Decoded.{HasHeader, HasRefusedHeader, HasDecoded, HasRefused, HasDecodedFile, HasRefusedFile}
 use Rattle.qoi.specs.Encoded.{IsFileOf}
 use Rattle.qoi.proofs.decoding.Ahead.{decoder_of, fault_ahead, file_ahead, header_front, header_read_from, file_from_image, fourth_of_image, image_not_cut, image_not_wrong, image_read_from}
 use Rattle.qoi.proofs.decoding.TakenBytes.{nine_taken, whole_holds, read_within, refused_within}
-use Rattle.qoi.proofs.decoding.FrontImage.{file_image_is, file_rest_is, file_rest_then, image_after, image_in_after, image_is, rest_is, some_pixels, three_of_front, decodes_after, decodes_more, file_has_header, file_is_whole, header_is_one}
+use Rattle.qoi.proofs.decoding.FrontImage.{file_image_is, file_rest_then, image_after, image_in_after, image_is, rest_is, some_pixels, three_of_front, decodes_after, decodes_more, file_has_header, file_is_whole, header_is_one}
 use Rattle.qoi.proofs.decoding.ImageSize.{bounded_by, channels_are, image_length, pixels_of_size}
 use Rattle.qoi.proofs.format.HeaderBytes.{header_front as header_at_front}
 use Rattle.qoi.proofs.decoding.Refusals.{whole_not_refused, whole_not_refused_in}

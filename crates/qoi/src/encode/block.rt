@@ -2,13 +2,12 @@
 //! through the files below in this order: `reading`, `planes`, `steps`, `positions`, `spelling`
 //! (with `counting` and `single_repeats`), `storing`. `lanes` has what they do with vectors.
 ghost use Rattle.std.specs.Prelude.{◌≡◌, ℕ, Bool, false, ◌+◌, ◌-◌, ◌<◌, List, ◌++◌, map, take, slice_index, slice_index_or, ◌%◌, IsTrue, IsFalse};
-ghost use Rattle.qoi.specs.Qoi.{RgbaPixel, Past};
+ghost use Rattle.qoi.specs.Qoi.{RgbaPixel};
 ghost use Rattle.qoi.specs.Raw.{IsChannels, AreOpaque};
-ghost use Rattle.qoi.specs.inner.block.Lanes.{fresh_marks, mask, State, lanes_of, NoneBlank};
+ghost use Rattle.qoi.specs.inner.block.Lanes.{fresh_marks, mask, State, lanes_of};
 ghost use Rattle.qoi.specs.Styles.{Places, Tight, style_in};
 ghost use Rattle.qoi.specs.inner.BlockLoop.{InBlocks};
 ghost use Rattle.qoi.specs.inner.Coder.{pixels_in, kept_bytes};
-ghost use Rattle.qoi.specs.inner.Table.{Holds};
 ghost use Rattle.qoi.specs.inner.block.Planes.{ArePacked, ArePlanes, block_pixels, last_pixel};
 ghost use Rattle.qoi.specs.inner.block.Vectors.{IsBlock, HasSpelled, AreChanges, ChangesFrom, FitsBlock, MissesNoBlank};
 
@@ -90,29 +89,23 @@ impl Block {
     {
         match style {
             Reference | Places => false,
-            Tight => !(self.has_no_fresh_blank() || self.blank_stays(table)),
+            Tight => !self.misses_no_blank(table),
         }
     }
 
-    // Whether no fresh pixel of the block is transparent black.
+    // Whether no fresh pixel of the block is transparent black, or that stands at its index
+    // position, where no other pixel of the block is put.
     #[inline(always)]
-    fn has_no_fresh_blank(self) -> bool
+    fn misses_no_blank(self, table: &PixelTable) -> bool
         ensures { (before : Planes) → ChangesFrom before (block_pixels self.words) self.changes
-            → IsTrue result → (held : Past)
-            → NoneBlank held (last_pixel before) (block_pixels self.words) }
+            → IsTrue result → MissesNoBlank table.now before (block_pixels self.words) }
     {
-        all_set(self.changes.rep | !blanks(self.planes))
-    }
-
-    // Whether transparent black stands at its index position, where no other pixel of the block is
-    // put.
-    #[inline(always)]
-    fn blank_stays(self, table: &PixelTable) -> bool
-        ensures { IsTrue result → (held : Past) (q : RgbaPixel) → Holds table.now held
-            → NoneBlank held q (block_pixels self.words) }
-    {
+        let black = blanks(self.planes);
+        if all_set(self.changes.rep | !black) {
+            return true;
+        }
         let elsewhere = !where_is(index_positions(self.planes), 0);
-        table.at(0).is_same(Packed::blank()) & all_set(blanks(self.planes) | elsewhere)
+        table.at(0).is_same(Packed::blank()) & all_set(black | elsewhere)
     }
 
     // The block's chunks. `stands` marks the pixels that stand at their index positions, `indices`.
@@ -210,7 +203,8 @@ pub(super) fn write_in_lanes<
         block.words,
     );
     let x = block.spell::<N, STYLE, ALL_RGBA>(stands, indices, carry);
-    let start = carry.run_end(end, x.rep.to_array()[0]);
+    // The run's byte is dropped if there are no repeats, or if the first pixel is one (255, not 0).
+    let start = end + usize::from(carry.count > x.rep.to_array()[0]);
     let end = store_sixteen::<N>(bytes, start, x, block);
     (block.carry(style, x, stands), Piece { bytes, end })
 }

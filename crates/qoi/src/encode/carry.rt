@@ -1,6 +1,6 @@
 //! What is carried from one block of sixteen pixels to the next, and the byte of a run that ends
 //! where a block begins. If it ends within the block, `block/spelling` gives the byte.
-ghost use Rattle.std.specs.Prelude.{◌≡◌, ◌+◌, ◌<◌, true, nat_lt, if◌then◌else◌, ◌++◌, length, take, drop, slice_index};
+ghost use Rattle.std.specs.Prelude.{◌≡◌, ◌+◌, ◌<◌, true, ◌++◌, length, take, drop, slice_index};
 ghost use Rattle.qoi.specs.Qoi.{run_max};
 ghost use Rattle.qoi.specs.Raw.{IsChannels, IsChannels-prop};
 ghost use Rattle.qoi.specs.inner.block.Lanes.{group_bytes};
@@ -65,8 +65,7 @@ impl<const N: usize> Carry<N> {
 
     /// Stores at `at` the byte of the run that ends where the block begins. In style `Places` a
     /// single repeat has the byte of its index position, if the chunk before it isn't that
-    /// position. A byte is stored even if there is no such run; whether it is kept is known later
-    /// (`run_end`).
+    /// position. A byte is stored even if there is no such run; `write_in_lanes` keeps it or not.
     #[inline(always)]
     pub(super) fn store_run(self, style: Style, out: &mut [u8], at: usize)
         requires { at < length out.old }
@@ -86,15 +85,5 @@ impl<const N: usize> Carry<N> {
                 run,
             ),
         };
-    }
-
-    /// Where the run's byte, which stands at `at`, ends. The byte is dropped if there are no
-    /// repeats, or if the next pixel repeats (`rep` is 255 if it does, else 0).
-    #[inline(always)]
-    pub(super) fn run_end(self, at: usize, rep: u8) -> usize
-        requires room { at < usize.MAX }
-        ensures { result ≡ at + (if nat_lt rep self.entry.count then 1 else 0) }
-    {
-        at + usize::from(self.count > rep)
     }
 }

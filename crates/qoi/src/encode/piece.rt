@@ -251,6 +251,7 @@ pub(crate) fn store_chunk<const N: usize>(
 }
 
 // Stores the bytes of a number, the lowest first.
+#[tactic(auto, using(crate::proofs::format::LaneBytes::four_stored))]
 #[inline(always)]
 fn store_number(out: &mut [u8], at: usize, number: u32)
     requires { at + 4 ≤ length out.old }

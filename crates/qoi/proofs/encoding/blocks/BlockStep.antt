@@ -1,5 +1,6 @@
 -- From one block of sixteen pixels to the next.
-use Rattle.std.proofs.Common.{◌≡◌, ◌⊎◌, inl, inr, ◌%◌, ◌≢◌, if◌then◌else◌, nat_lt, ℕ, zero, suc, ◌+◌, ◌-◌, ◌<◌, ◌≤◌, Bool, true, false, List, [], ◌∷◌, ◌++◌, length, map, get_or, take, slice_index, Some, refl, sym, ap, ◌∙◌, arith, subst, reverse, append_assoc}
+use Rattle.std.proofs.Common.{◌≡◌, ◌⊎◌, inl, inr, ◌%◌, ◌≢◌, nat_lt, ℕ, zero, suc, ◌+◌, ◌-◌, ◌<◌, ◌≤◌, Bool, true, false, List, [], ◌∷◌, ◌++◌, length, map, get_or, take, slice_index, Some, refl, sym, ap, ◌∙◌, arith, subst, reverse, append_assoc}
+use mir.Val.{bool_byte}
 use Rattle.std.proofs.lemmas.Bool.{true≢false, cases_eq, le-ltb, lt-ltb}
 use Rattle.std.proofs.lemmas.List.{length-map}
 use Rattle.std.specs.List.{slice_get}
@@ -77,13 +78,13 @@ same_group Tight a b q n e = refl
 pub ready : {begun : Bool} (style : Style) (ahead : List ℕ) (s : State) (ps rest : List RgbaPixel) (x : Spelled) (placed : Bool) (at end : ℕ) (kept next : List ℕ)
     → s.carry < 62 → (slice_get (ps ++ rest) 0 ≡ Some s.last → s.carry ≤ 45) → Carrying begun style ahead s (ps ++ rest) kept → HasSpelled style s ps x → AreSixteen ps
     → (style ≡ Places → s.placed ≡ placed) → take at next ≡ kept → (0 < s.carry → take (at + 1) next ≡ kept ++ group_bytes style placed s.last s.carry)
-    → end ≡ at + (if nat_lt (slice_index x.rep 0) s.carry then 1 else 0) → Ready style ahead s ps (ps ++ rest) x (take end next)
+    → end ≡ at + bool_byte (nat_lt (slice_index x.rep 0) s.carry) → Ready style ahead s ps (ps ++ rest) x (take end next)
 ready style ahead s [] rest x placed at end kept next small few c h sixteen placed_is front run end_is = absurd (let l = sixteen.long in omega arith)
 ready {begun} style ahead s (p ∷ ps) rest x placed at end kept next small few c h sixteen placed_is front run end_is = go (pixel_eq p s.last) refl
   where
-    ends : (b t : Bool) (k : ℕ) → pixel_eq p s.last ≡ b → s.carry ≡ k → nat_lt (mask b) k ≡ t → end ≡ at + (if t then 1 else 0)
+    ends : (b t : Bool) (k : ℕ) → pixel_eq p s.last ≡ b → s.carry ≡ k → nat_lt (mask b) k ≡ t → end ≡ at + bool_byte t
     ends b t k e count test =
-        end_is ∙ (λ i. at + (if nat_lt ((ap (λ z. slice_index z 0) h.rep_is ∙ ap mask e) i) (count i) then 1 else 0)) ∙ ap (λ t. at + (if t then 1 else 0)) test
+        end_is ∙ (λ i. at + bool_byte (nat_lt ((ap (λ z. slice_index z 0) h.rep_is ∙ ap mask e) i) (count i))) ∙ ap (λ t. at + bool_byte t) test
 
     stays : end ≡ at + 0 → CarryGoesOn s (p ∷ ps) → s.carry ≤ 45 → Ready style ahead s (p ∷ ps) (p ∷ (ps ++ rest)) x (take end next)
     stays is on fits = record {

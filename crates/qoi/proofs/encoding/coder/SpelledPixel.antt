@@ -10,11 +10,6 @@ use Rattle.qoi.specs.WrittenList.{steps, diff_steps, luma_steps, fits_in_diff, f
 use Rattle.qoi.proofs.encoding.coder.Spelled.{diff_small, luma_small, first_after}
 use Rattle.qoi.specs.inner.Packed.{word}
 
--- three tests of equal numbers
-pub three_tests : (t : Bool) (a b c x y z l m n : ℕ) → a ≡ x → b ≡ y → c ≡ z → ((nat_lt a l && nat_lt b m) && nat_lt c n) ≡ t
-    → ((nat_lt x l && nat_lt y m) && nat_lt z n) ≡ t
-three_tests t a b c x y z l m n ax by cz e = sym (λ i. (nat_lt (ax i) l && nat_lt (by i) m) && nat_lt (cz i) n) ∙ e
-
 -- the test of alphas fails: in three channels or in four, alpha's step is 0
 pub alpha_kept : (n a b : ℕ) (q p : RgbaPixel) → IsChannels n → (n ≡ 3 → p.a ≡ q.a) → IsPixel q → a ≡ p.a → b ≡ q.a → ((n == 4) && not (a == b)) ≡ false
     → (steps q p).a ≡ 0
@@ -73,31 +68,34 @@ module _ (q p : RgbaPixel) (iq : IsPixel q) (ip : IsPixel p) where
   spells_rgba n k e = spells n 5 false false false (and_right _ _ k) (and_right _ _ k) k (ap (λ bytes. bytes ++ p.a ∷ []) (after_pixel n 255 p ip (omega arith) e))
 
   -- the steps fit a Diff
-  pub spells_diff : (s : RgbaPixel) (n : ℕ) → s ≡ small → (steps q p).a ≡ 0
+  pub spells_diff : (r s : RgbaPixel) (n : ℕ) → r ≡ steps q p → s ≡ diff_steps r → (steps q p).a ≡ 0
       → ((nat_lt s.r 4 && nat_lt s.g 4) && nat_lt s.b 4) ≡ true → n ≡ 64 + s.r * 16 + (s.g * 4 + s.b) → (c : Chunk) × SpellsOut q p n 1 c
-  spells_diff s n is alpha t e =
+  spells_diff r s n r_is s_is alpha t e =
+      let is = s_is ∙ ap diff_steps r_is in
       let k = eq-eqb (steps q p).a 0 alpha in
       let fits = and_from _ _ (same_tests s small 4 4 4 true is t) k in
       let first : n % 256 ≡ 64 + small.r * 16 + small.g * 4 + small.b = omega (arith, diff_small small fits, e ∙ ap (λ (x : RgbaPixel). 64 + x.r * 16 + (x.g * 4 + x.b)) is) in
       spells n 1 true _ true fits refl k (λ i. first i ∷ [])
 
   -- they fit a Luma, but no Diff
-  pub spells_luma : (s u : RgbaPixel) (n : ℕ) → s ≡ small → u ≡ wide → (steps q p).a ≡ 0
+  pub spells_luma : (r s u : RgbaPixel) (n : ℕ) → r ≡ steps q p → s ≡ diff_steps r → u ≡ luma_steps r → (steps q p).a ≡ 0
       → ((nat_lt s.r 4 && nat_lt s.g 4) && nat_lt s.b 4) ≡ false → ((nat_lt u.r 16 && nat_lt u.g 64) && nat_lt u.b 16) ≡ true
       → n ≡ 128 + u.g + (u.r * 16 + u.b) * 256 → (c : Chunk) × SpellsOut q p n 2 c
-  spells_luma s u n s_is u_is alpha st t e =
+  spells_luma r s u n r_is s_is u_is alpha st t e =
       let k = eq-eqb (steps q p).a 0 alpha in
-      let fits = and_from _ _ (same_tests u wide 16 64 16 true u_is t) k in
+      let same = u_is ∙ ap luma_steps r_is in
+      let fits = and_from _ _ (same_tests u wide 16 64 16 true same t) k in
       let f = luma_small wide fits in
-      let is = e ∙ ap (λ (x : RgbaPixel). 128 + x.g + (x.r * 16 + x.b) * 256) u_is in
+      let is = e ∙ ap (λ (x : RgbaPixel). 128 + x.g + (x.r * 16 + x.b) * 256) same in
       let first : n % 256 ≡ 128 + wide.g = omega (arith, f, is) in
       let second : n / 256 % 256 ≡ wide.r * 16 + wide.b = omega (arith, f, is) in
-      spells n 2 false true true (and_left _ _ (same_tests s small 4 4 4 false s_is st)) fits k (λ i. first i ∷ second i ∷ [])
+      spells n 2 false true true (and_left _ _ (same_tests s small 4 4 4 false (s_is ∙ ap diff_steps r_is) st)) fits k (λ i. first i ∷ second i ∷ [])
 
   -- they fit neither, and alpha stays
-  pub spells_rgb : (s u : RgbaPixel) (n : ℕ) → s ≡ small → u ≡ wide → (steps q p).a ≡ 0
+  pub spells_rgb : (r s u : RgbaPixel) (n : ℕ) → r ≡ steps q p → s ≡ diff_steps r → u ≡ luma_steps r → (steps q p).a ≡ 0
       → ((nat_lt s.r 4 && nat_lt s.g 4) && nat_lt s.b 4) ≡ false → ((nat_lt u.r 16 && nat_lt u.g 64) && nat_lt u.b 16) ≡ false
       → n ≡ word p % 16777216 * 256 + 254 → (c : Chunk) × SpellsOut q p n 4 c
-  spells_rgb s u n s_is u_is alpha st ut e =
-      spells n 4 false false true (and_left _ _ (same_tests s small 4 4 4 false s_is st)) (and_left _ _ (same_tests u wide 16 64 16 false u_is ut)) (eq-eqb (steps q p).a 0 alpha)
+  spells_rgb r s u n r_is s_is u_is alpha st ut e =
+      spells n 4 false false true (and_left _ _ (same_tests s small 4 4 4 false (s_is ∙ ap diff_steps r_is) st))
+      (and_left _ _ (same_tests u wide 16 64 16 false (u_is ∙ ap luma_steps r_is) ut)) (eq-eqb (steps q p).a 0 alpha)
       (ap (λ bytes. take 4 (bytes ++ p.a ∷ [])) (after_pixel n 254 p ip (omega arith) e))

@@ -50,7 +50,7 @@ module _ (choose : Past → RgbaPixel → Chunk) where
       ∙ ap (λ m. list_after choose past m rest) (omega arith)
 
   -- before a fresh pixel their runs are next, and then its chunk
-  fresh_ahead : (past : Past) (n : ℕ) (p : RgbaPixel) (rest : List RgbaPixel) → p ≢ previous past
+  pub fresh_ahead : (past : Past) (n : ℕ) (p : RgbaPixel) (rest : List RgbaPixel) → p ≢ previous past
       → list_after choose past n (p ∷ rest)
       ≡ runs_by (Run 1) n ++ choose (replicate n (previous past) ++ past) p ∷ list_after choose (p ∷ replicate n (previous past) ++ past) 0 rest
   unfolding list_after

@@ -10,6 +10,7 @@ use Rattle.qoi.proofs.format.ChunkSteps.{all_append, previous_repeats, repeats_a
 use Rattle.std.proofs.lemmas.Bool.{cond-true, cond-false}
 use Rattle.std.specs.List.{AllByRecursion}
 use Rattle.qoi.proofs.format.SamePixels.{cases_pixel, hash_below, pixel_eq-from, pixel_eq-ne}
+use Rattle.qoi.proofs.encoding.lists.ListAhead.{repeat_ahead, fresh_ahead}
 use Rattle.qoi.proofs.encoding.lists.NotedPixels.{noted_seen}
 use Rattle.qoi.proofs.encoding.coder.Spelled.{first_is}
 use Rattle.qoi.specs.WrittenList.{first_chunk, chosen, list_after}
@@ -196,13 +197,11 @@ module _ (Choice : Past → RgbaPixel → Chunk → Type 0) (choose : Past → R
       rw (append-nil (reverse (replicate n (previous past) ++ past))) (written_runs Choice past n cs w may)
   written_after (p ∷ rest) past n cs w may before are =
       let group : Past = replicate n (previous past) ++ past in
-      let joins = list_after choose past (suc n) rest in
-      let follows = runs_by (Run 1) n ++ choose group p ∷ list_after choose (p ∷ group) 0 rest in
       let P : List Chunk → Type 0 = λ more. WrittenBy Choice (reverse group ++ p ∷ rest) (cs ++ more) in
       elim (cases_pixel p (previous past)) as (λ _. P (list_after choose past n (p ∷ rest))) [
         | inl again ↦
-            subst P (sym (cond-true (pixel_eq p (previous past)) joins follows (pixel_eq-from p (previous past) again)))
-            (subst (λ x. WrittenBy Choice x (cs ++ joins)) (joined p (previous past) n past rest again) (written_after rest past (suc n) cs w may before are.1))
+            subst P (sym (repeat_ahead choose past n p rest again))
+            (subst (λ x. WrittenBy Choice x (cs ++ list_after choose past (suc n) rest)) (joined p (previous past) n past rest again) (written_after rest past (suc n) cs w may before are.1))
         | inr fresh ↦
             let same : previous group ≡ previous past = previous_repeats n past in
             let differs : p ≢ previous group = λ e. fresh (e ∙ same) in
@@ -212,7 +211,7 @@ module _ (Choice : Past → RgbaPixel → Chunk → Type 0) (choose : Past → R
             let next = written_fresh Choice group (cs ++ runs_by (Run 1) n) p c (written_runs Choice past n cs w may) differs is.0 (no_run group p c given)
             (gives_pixel group p c given) is.1 in
             let all = written_after rest (p ∷ group) 0 ((cs ++ runs_by (Run 1) n) ++ c ∷ []) next.0 next.1 are.0 are.1 in
-            subst P (sym (cond-false (pixel_eq p (previous past)) joins follows (pixel_eq-ne p (previous past) fresh)))
+            subst P (sym (fresh_ahead choose past n p rest fresh))
             (fresh_joined p group rest cs (runs_by (Run 1) n) (list_after choose (p ∷ group) 0 rest) c all)
       ]
 

@@ -1,5 +1,5 @@
 -- Kept bytes that are sent to a writer: a full piece, and then those after it.
-use Rattle.std.proofs.Common.{◌≡◌, ℕ, ◌+◌, ◌-◌, ◌≤◌, List, ◌++◌, length, take, drop, sym, ap, ◌∙◌, subst, take-append-drop, arith}
+use Rattle.std.proofs.Common.{◌≡◌, ℕ, ◌+◌, ◌-◌, ◌≤◌, List, ◌++◌, length, take, drop, sym, ap, ◌∙◌, take-append-drop, arith}
 use Rattle.std.specs.List.{copy_within}
 use Rattle.std.proofs.lemmas.List.{drop-take, length-drop, length-take-le, take-append-le, take-take}
 use Rattle.std.proofs.lemmas.List.Edits.{paste_all}
@@ -22,12 +22,12 @@ moved_front xs piece room end size full within =
 
 module _ {W : Type 0} {wrote : W → List ℕ → W → Type 0} where
   -- the kept bytes were sent as far as a full piece
-  pub sent_but : {size : ℕ} (a b next : W) (old new now : Piece size) (piece : ℕ) → now ≡ new → next ≡ b
-      → wrote a (take piece (kept_bytes old)) b → kept_bytes new ≡ drop piece (kept_bytes old) → WroteBut wrote a (kept_bytes old) (kept_bytes now) next
-  sent_but a b next old new now piece is same went kept = record {
+  pub sent_but : {size : ℕ} (a b : W) (old new : Piece size) (piece : ℕ) → wrote a (take piece (kept_bytes old)) b → kept_bytes new ≡ drop piece (kept_bytes old)
+      → WroteBut wrote a (kept_bytes old) (kept_bytes new) b
+  sent_but a b old new piece went kept = record {
     front = take piece (kept_bytes old);
-    split = sym (take-append-drop piece (kept_bytes old)) ∙ ap (λ z. take piece (kept_bytes old) ++ z) (sym (ap kept_bytes is ∙ kept));
-    went = subst (wrote a (take piece (kept_bytes old))) (sym same) went;
+    split = sym (take-append-drop piece (kept_bytes old)) ∙ ap (λ z. take piece (kept_bytes old) ++ z) (sym kept);
+    went = went;
   }
 
   -- a beginning of the first ones is one of all

@@ -1,15 +1,34 @@
--- What a writer of the standard library was sent.
-use Rattle.std.proofs.Common.{◌≡◌, ℕ, List, Option, subst}
-use Rattle.qoi.specs.inner.Sending.{appended}
-use Rattle.qoi.specs.Writers.{GenericWriter, WroteBut, StreamWrote}
+-- What a writer of the standard library, which was a and is b, was sent by reference.
+use Rattle.std.proofs.Common.{◌≡◌, ℕ, List, Option, sym, subst}
+use Rattle.qoi.specs.inner.Sending.{appended, GoesOn, BreaksOff, Ends, ImageState}
+use Rattle.qoi.specs.Writers.{GenericWriter, WroteBut, WroteBeginning, StreamWrote, stream_name}
 use Rattle.std.specs.Io.KnownBytes.{Appends}
 
--- equal writers hold the same bytes
-pub appends_as : {W : Type 0} (contents : W → Option (List ℕ)) {a b : W} (after : Option (List ℕ)) (bytes : List ℕ) → a ≡ b → Appends (contents a) after bytes
-    → Appends (contents b) after bytes
-appends_as contents after bytes e h = subst (λ w. Appends (contents w) after bytes) e h
+module _ {W : Type 0} (contents : W → Option (List ℕ)) {s t : GenericWriter W} {a b : W} (value : s.writer.now ≡ a)
+    (same : stream_name t ≡ stream_name s → b ≡ t.writer.now) where
+  -- all that was written
+  pub all_sent_to : {bytes : List ℕ} → StreamWrote contents s bytes t → Appends (contents a) (contents b) bytes
+  all_sent_to {bytes} w = subst (λ z. Appends (contents z) (contents b) bytes) value
+      (subst (λ z. Appends (contents s.writer.now) (contents z) bytes) (sym (same w.same_writer)) w.appended)
 
--- what was written but for a rest was sent
-pub but_sent : {W : Type 0} (contents : W → Option (List ℕ)) {s t : GenericWriter W} {a : W} {bytes rest : List ℕ} → s.writer.now ≡ a
-    → WroteBut (StreamWrote contents) s bytes rest t → WroteBut appended (contents a) bytes rest (contents t.writer.now)
-but_sent contents {t = t} e w = record { front = w.front; split = w.split; went = appends_as contents (contents t.writer.now) w.front e w.went.appended }
+  -- all but a rest
+  pub but_sent_to : {bytes rest : List ℕ} → WroteBut (StreamWrote contents) s bytes rest t → WroteBut appended (contents a) bytes rest (contents b)
+  but_sent_to w = record { front = w.front; split = w.split; went = all_sent_to w.went }
+
+  module _ {p : ImageState} {kept raw : List ℕ} where
+    -- what was ahead, as far as it went on
+    pub on_sent_to : {q : ImageState} {kept' raw' : List ℕ} → GoesOn (StreamWrote contents) s p kept raw t q kept' raw'
+        → GoesOn appended (contents a) p kept raw (contents b) q kept' raw'
+    on_sent_to h = record { opaque = h.opaque; part = h.part; on = λ ahead more z. (let v = h.on ahead more z in (v.0, but_sent_to v.1, v.2)) }
+
+    -- or until it broke off
+    pub off_sent_to : BreaksOff (StreamWrote contents) s p kept raw t → BreaksOff appended (contents a) p kept raw (contents b)
+    off_sent_to h = record { off = λ ahead more z. (let v = h.off ahead more z in (v.0, but_sent_to v.1)) }
+
+    -- all of it, to the end
+    pub ends_sent_to : Ends (StreamWrote contents) s p kept raw t → Ends appended (contents a) p kept raw (contents b)
+    ends_sent_to h = record { all = λ ahead z. all_sent_to (h.all ahead z) }
+
+    -- or a beginning
+    pub early_sent_to : Ends (WroteBeginning (StreamWrote contents)) s p kept raw t → Ends (WroteBeginning appended) (contents a) p kept raw (contents b)
+    early_sent_to h = record { all = λ ahead z. (let v = h.all ahead z in (v.0, but_sent_to v.1)) }

@@ -40,6 +40,7 @@ pub(in crate::encode) fn halves(v: u8x16) -> [u64; 2]
 }
 
 /// The lanes, one further on; the first is the last one of `before`.
+#[tactic(auto, using(crate::proofs::encoding::lanes::LaneTests::one_later))]
 #[inline(always)]
 pub(in crate::encode) fn shift_in(before: u8x16, v: u8x16) -> u8x16
     ensures { result ≡ slice_index before 15 ∷ take 15 v }

@@ -70,6 +70,7 @@ pub(in crate::encode) fn blanks(p: Planes) -> u8x16
 
 // The channels of four pixels: four bytes of red, then green, blue and alpha, each four as a
 // number, since numbers take fewer instructions to shuffle.
+#[tactic(auto, using(crate::proofs::encoding::lanes::WordPlanes::channels_of))]
 #[inline(always)]
 fn by_channel(w: u32x4) -> u32x4
     ensures packed { AreFour w }

@@ -77,6 +77,7 @@ fn equal(found: u32x4, pixels: u32x4) -> u8x16
 }
 
 // One byte of each four.
+#[tactic(auto, using(crate::proofs::encoding::lanes::StandMasks::one_of_same))]
 #[inline(always)]
 fn one_of_four(a: u8x16, b: u8x16, c: u8x16, d: u8x16) -> u8x16
     ensures { (p q r s : List Bool) → length p ≡ 4 → length q ≡ 4 → length r ≡ 4 → length s ≡ 4

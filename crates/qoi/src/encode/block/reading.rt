@@ -43,7 +43,8 @@ fn read_four<const N: usize>(bytes: &[u8]) -> u32x4
     u32x4::from_le_bytes(opaque)
 }
 
-// The last four of the first sixteen pixels.
+// The last four of the first sixteen pixels. In three channels the sixteen bytes that are read
+// begin four bytes before them, since none may come behind the pixels.
 #[inline(always)]
 fn read_last_four<const N: usize>(bytes: &[u8]) -> u32x4
     requires channels { IsChannels N }
@@ -53,18 +54,8 @@ fn read_last_four<const N: usize>(bytes: &[u8]) -> u32x4
     if N == 4 {
         return read_four::<N>(skip(bytes, 12 * N));
     }
-    read_four_late::<N>(skip(bytes, 32))
-}
-
-// Four pixels after the first four bytes. These four bytes are read, too: the sixteen that are read
-// can't begin after them, since none may come behind the pixels.
-#[inline(always)]
-fn read_four_late<const N: usize>(bytes: &[u8]) -> u32x4
-    requires three { N ≡ 3 }
-    requires enough { 16 ≤ length bytes.now }
-    ensures lanes { result ≡ map word (take 4 (pixels_of N (drop 4 bytes.now))) }
-{
-    let v = u8x16::from_slice(bytes);
+    let late = skip(bytes, 32);
+    let v = u8x16::from_slice(late);
     let opaque: u8x16 = v.shuffle(
         u8x16::splat(255),
         [4, 5, 6, 16, 7, 8, 9, 16, 10, 11, 12, 16, 13, 14, 15, 16],

@@ -1,5 +1,5 @@
 //! Single repeats among sixteen pixels that are given by their index position, in style `Places`.
-ghost use Rattle.std.specs.Prelude.{◌≡◌, List, ◌∷◌, take, map};
+ghost use Rattle.std.specs.Prelude.{◌≡◌, List, map};
 ghost use Rattle.qoi.specs.Qoi.{RgbaPixel, hash};
 ghost use Rattle.qoi.specs.declared.types.Style.TheVariants.{Reference, Places};
 ghost use Rattle.qoi.specs.inner.block.Lanes.{mask, State};
@@ -11,15 +11,6 @@ use crate::encode::block::lanes::{lesser, shift_in, where_is};
 use crate::encode::block::spelling::Spelled;
 use crate::utils::pick;
 use std::simd::prelude::*;
-
-// Whether the pixel before each lane stood at its index position; before the first lane, whether
-// the chunk there names that position.
-#[inline(always)]
-fn stood(placed: bool, stands: u8x16) -> u8x16
-    ensures { result ≡ mask placed ∷ take 15 stands }
-{
-    shift_in(u8x16::splat(pick(placed, 255, 0)), stands)
-}
 
 /// Gives each single repeat before a fresh pixel by its index position, if the chunk before it
 /// isn't that position. `placed` says whether the chunk before the block names the position of the
@@ -35,7 +26,10 @@ pub(in crate::encode) fn name_single(
         → stands ≡ map mask (stand_tests s.held ps) → indices ≡ map hash ps
         → HasSpelled Reference s ps x → HasSpelled Places s ps result }
 {
-    let singles = x.rep & where_is(x.count, 1) & !stood(placed, stands);
+    // Whether the pixel before each lane stood at its index position; before the first lane,
+    // whether the chunk there names that position.
+    let stood = shift_in(u8x16::splat(pick(placed, 255, 0)), stands);
+    let singles = x.rep & where_is(x.count, 1) & !stood;
     Spelled {
         first: lesser(x.first, indices | !singles),
         ..x

@@ -104,9 +104,9 @@ returns g c = λ ahead n rest more fits b.
     let spelled = c.spell-x.ensures s (fits.changes s.held) refl placed
     (record { sixteen = sixteen; last_is = last; red_is = planes.r_is; stands_are = put.stands_are; indices_are = at }) in
     let x = c.spell-x.result in
-    let ready_now = ready style ahead s all later x carry.placed end c.run_end-start.result _ c.store_run.new.out c.args.carry.few
+    let ready_now = ready style ahead s all later x carry.placed end (end + c.from.result) _ c.store_run.new.out c.args.carry.few
     (λ e. omega (arith, b.is.count_is, b.goes.few (sym first ∙ e ∙ ap Some b.is.px_is))) start spelled sixteen placed (c.store_run.ensures.front ∙ front)
-    (λ some. run some ∙ ap (λ z. z ++ group_bytes style carry.placed q carry.count) front) c.run_end-start.ensures in
+    (λ some. run some ∙ ap (λ z. z ++ group_bytes style carry.placed q carry.count) front) (ap (λ n. end + n) c.from.ensures) in
     block_step style ahead n s rest more all x c.args.block.planes c.put_block-stands.new.table c.carry.result _ _ sixteen fits.mixed planes ready_now put.holds
     (λ tight. fits.no_blank tight s.held now.state.table_is)
     c.carry.ensures.before c.carry.ensures.count (λ is. c.carry.ensures.placed (stand_tests s.held all) (c.style_in-style.ensures ∙ is) put.stands_are)

@@ -17,19 +17,9 @@ pub write_full_runs-requires : goal.write_full_runs-requires
 write_full_runs-requires g c =
     let q = last_pixel c.args.carry.before in
     let block = c.first-block in
-    let none : 0 ≡ fresh_marks q (block_pixels block.result.words) = sym c.if-marks-eq0.true ∙ c.marks-marks.ensures c.args.carry.before block.ensures.changes in (
-      omega arith,
-      (
-        omega arith,
-        (
-          omega arith,
-          (
-            omega arith,
-            ap (λ ps. slice_get ps 0) (none_group q (pixels_in c.args.pixels.rest) 16 c.args.pixels.enough (none ∙ ap (fresh_marks q) block.ensures.pixels)),
-          ),
-        ),
-      ),
-    )
+    let none : 0 ≡ fresh_marks q (block_pixels block.result.words) = sym c.if-marks-eq0.true ∙ c.marks-marks.ensures c.args.carry.before block.ensures.changes in
+    let repeats = none_group q (pixels_in c.args.pixels.rest) 16 c.args.pixels.enough (none ∙ ap (fresh_marks q) block.ensures.pixels) in
+    (omega arith, (omega arith, (omega arith, (omega arith, ap (λ ps. slice_get ps 0) repeats))))
 
 pub returns-then-marks-eq0 : goal.returns-then-marks-eq0
 returns-then-marks-eq0 g c = c.write_full_runs.ensures (style_in g.row.STYLE c.args.pixels.style) _ c.args.table.now

@@ -31,11 +31,9 @@ loop-rest-preserved g c =
     let old = c.fill_piece-next_piece.result.0 in
     let filled = c.fill_piece-next_piece.ensures in
     let but : WroteBut wrote a (kept_bytes old) (kept_bytes c.if-is_full.next_piece) c.if-is_full.writer = elim c.if-is_full.branch [
-      | then-is_full+in_ok-send w ↦
-          sent_but a w.send.new.writer c.if-is_full.writer old w.send.new.self c.if-is_full.next_piece (g.row.ROOM - _) w.next_piece-is w.writer-is
-          w.in_ok-send.ensures.written w.in_ok-send.ensures.kept
-      | else-is_full w ↦ subst (λ s. WroteBut wrote a (kept_bytes old) (kept_bytes s) c.if-is_full.writer) (sym w.next_piece-is)
-          (subst (WroteBut wrote a (kept_bytes old) (kept_bytes old)) (sym w.writer-is) (none_but (laws.nothing a)))
+      | then-is_full+in_ok-send w ↦ rw (w.next_piece-is, w.writer-is)
+          (sent_but a w.send.new.writer old w.send.new.self (g.row.ROOM - _) w.in_ok-send.ensures.written w.in_ok-send.ensures.kept)
+      | else-is_full w ↦ rw (w.next_piece-is, w.writer-is) (none_but (laws.nothing a))
     ] in
     let now = subst (λ z. WroteBut wrote a (kept_bytes old) z c.if-is_full.writer) (sym c.open-piece.ensures) but in
     let fewer = filled.less in

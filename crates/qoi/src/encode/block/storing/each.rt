@@ -8,6 +8,7 @@ use crate::encode::block::planes::{Words, join_lanes};
 use std::simd::prelude::*;
 
 // Four numbers, each with an alpha above it.
+#[tactic(auto, using(crate::proofs::encoding::stores::EachChunk::chunks_held))]
 #[inline(always)]
 fn with_alphas(numbers: u32x4, alphas: u32x4) -> [u64; 4]
     ensures { HoldChunks result numbers alphas }
@@ -19,6 +20,7 @@ fn with_alphas(numbers: u32x4, alphas: u32x4) -> [u64; 4]
 }
 
 // Where each of eight chunks ends: a byte for each.
+#[tactic(auto, using(crate::proofs::encoding::stores::PrefixSums::prefix_sums))]
 #[inline(always)]
 fn ends(sizes: u64) -> u64
     ensures { (ss : List ℕ) → AreEight 5 ss sizes → (k : ℕ) → k < 8

@@ -74,15 +74,6 @@ fn order(codes: u8) -> u8x16
     bytes_of(ORDERS[codes as usize])
 }
 
-// The bytes of four numbers, moved together.
-#[inline(always)]
-fn together(numbers: u32x4, codes: u8) -> u8x16
-    ensures long { length result ≡ 16 }
-    ensures close { take (total codes) result ≡ close_bytes codes numbers }
-{
-    numbers.to_le_bytes().swizzle_dyn_within::<16>(order(codes))
-}
-
 // Stores the bytes of four numbers moved together, and returns where they end.
 #[inline(always)]
 fn store_four_shuffled(out: &mut [u8], at: usize, codes: u8, numbers: u32x4) -> usize
@@ -91,12 +82,16 @@ fn store_four_shuffled(out: &mut [u8], at: usize, codes: u8, numbers: u32x4) -> 
     ensures near { (at ≤ result) × (result ≤ at + 16) }
     ensures written { take result out.new ≡ take at out.old ++ close_bytes codes numbers }
 {
-    together(numbers, codes).copy_to_slice(&mut out[at..at + 16]);
+    numbers
+        .to_le_bytes()
+        .swizzle_dyn_within::<16>(order(codes))
+        .copy_to_slice(&mut out[at..at + 16]);
     at + usize::from(TOTALS[codes as usize])
 }
 
 // Eight codes, each the low bits of a byte, as two numbers of four. The factor's bits move the first
 // four side by side into the product's fourth byte, and the last four into its eighth.
+#[tactic(auto, using(crate::proofs::encoding::stores::FourChunks::codes_joined))]
 #[inline(always)]
 fn join(codes: u64) -> [u8; 2]
     ensures { (cs : List ℕ) → AreEight 3 cs codes

@@ -41,8 +41,8 @@ returns c = λ s ps sixteen placed stands indices h.
     let ls : List Lane = lanes_of s.held s.last ps in
     let at : c.args.indices ≡ map (λ l. hash l.px) ls = indices ∙ sym (themselves hash s.held s.last ps) in
     let ones : c.where_is.result ≡ map (λ n. mask (n == 1)) (counts s.carry (map is_rep ls)) = c.where_is.ensures ∙ ap (map (λ n. mask (n == 1))) h.count_is in
-    let before : c.stood.result ≡ stoods s.placed ls =
-    c.stood.ensures ∙ (λ i. mask (sym placed i) ∷ take 15 ((stands ∙ sym (stands_lanes s.held s.last ps)) i))
+    let before : c.shift_in-stood.result ≡ stoods s.placed ls =
+    c.shift_in-stood.ensures ∙ ap (λ m. m ∷ take 15 c.args.stands) c.pick.ensures ∙ (λ i. mask (sym placed i) ∷ take 15 ((stands ∙ sym (stands_lanes s.held s.last ps)) i))
     ∙ stoods_are 15 s.placed ls (lanes_long s.held s.last ps ∙ sixteen.long) in
     record {
       rep_is = h.rep_is;

@@ -1,5 +1,5 @@
 -- A full piece goes first, if there is one, and then the rest.
-use Rattle.std.proofs.Common.{ℕ, List, ◌-◌, ◌++◌, take, sym, ap, subst, arith}
+use Rattle.std.proofs.Common.{ℕ, List, ◌-◌, ◌++◌, take, sym, subst, arith}
 use Rattle.std.proofs.lemmas.List.{take-take}
 use Rattle.std.proofs.lemmas.Result.{err_from_is_err_and, IfErr-weaker, on_ok_weaker}
 use Rattle.qoi.specs.Qoi.{end_marker}
@@ -32,14 +32,10 @@ all_but_kept g c =
     let piece = g.row.ROOM - SPARE in
     subst (λ z. WroteBut wrote a z (take c.if-end.end c.if-end.self.bytes.now) c.if-end.writer) c.store_marker-end.ensures.stored
     (elim c.if-end.branch [
-      | then-end+in_ok-send_front w ↦
-          subst (λ z. WroteBut wrote a (take end bytes) z c.if-end.writer) (λ i. take (sym w.end-is i) (sym (ap (λ s. s.bytes.now) w.self-is) i))
-          (subst (WroteBut wrote a (take end bytes) (take (end - piece) w.send_front.new.bytes)) (sym w.writer-is)
+      | then-end+in_ok-send_front w ↦ rw (w.end-is, w.self-is, w.writer-is)
           (front_sent a w.send_front.new.writer bytes w.send_front.new.bytes piece g.row.ROOM end (omega (arith, c.store_marker-end.new.self.room))
-          w.if-end.true (omega (arith, c.store_marker-end.ensures.end, c.args.self.now.within)) w.in_ok-send_front.ensures.written w.in_ok-send_front.ensures.moved))
-      | else-end w ↦
-          subst (λ z. WroteBut wrote a (take end bytes) z c.if-end.writer) (λ i. take (sym w.end-is i) (sym (ap (λ s. s.bytes.now) w.self-is) i))
-          (subst (WroteBut wrote a (take end bytes) (take end bytes)) (sym w.writer-is) (none_but (g.met.W.Writer.laws.nothing a)))
+          w.if-end.true (omega (arith, c.store_marker-end.ensures.end, c.args.self.now.within)) w.in_ok-send_front.ensures.written w.in_ok-send_front.ensures.moved)
+      | else-end w ↦ rw (w.end-is, w.self-is, w.writer-is) (none_but (g.met.W.Writer.laws.nothing a))
     ])
 
 pub returns-clause-written : goal.returns-clause-written

@@ -6,23 +6,15 @@ use Rattle.std.specs.Io.KnownBytes.{Appends}
 use Rattle.qoi.specs.inner.Coder.{kept_bytes}
 use Rattle.qoi.specs.inner.Sending.{appended, GoesOn}
 use Rattle.qoi.proofs.encoding.piece.BytesAhead.{then_on, then_breaks, stands, sent_on, sent_part}
-use Rattle.qoi.proofs.encoding.piece.StreamSent.{but_sent}
+use Rattle.qoi.proofs.encoding.piece.StreamSent.{on_sent_to, off_sent_to}
 use Rattle.qoi.proofs.decoding.Refusals.{handed_on}
 use Rattle.qoi.proofs.encode.pixel_writer.sending.take_raw.Goals as goal
 
 pub returns-in_err-rest-clause-written : goal.returns-in_err-rest-clause-written
 returns-in_err-rest-clause-written g c =
     let r = c.in_err-rest.ensures.written in
-    handed_on _ _ _ c.from_residual.ensures.1 (
-      r.0,
-      then_breaks Appends-trans c.loop-writer.invariant.written (record {
-        off = λ ahead more s.
-            (let v = r.1.off ahead more s in
-            let same = v.1.went.same_writer in
-            let went = but_sent g.W.Write.contents c.new-stream.ensures.value v.1 in
-            (v.0, search rules));
-      }),
-    )
+    handed_on _ _ _ c.from_residual.ensures.1
+    (r.0, then_breaks Appends-trans c.loop-writer.invariant.written (off_sent_to g.W.Write.contents c.new-stream.ensures.value (λ same. search rules) r.1))
 
 pub loop-writer-preserved : goal.loop-writer-preserved
 loop-writer-preserved g c =
@@ -31,15 +23,7 @@ loop-writer-preserved g c =
     record {
       most = omega (arith, step.less, before.most);
       stays = (c.write_held_or_raw.ensures.stays.0 ∙ before.stays.0, c.write_held_or_raw.ensures.stays.1 ∙ before.stays.1);
-      written = then_on Appends-trans before.written (record {
-        opaque = step.written.opaque;
-        part = step.written.part;
-        on = λ ahead more s.
-            (let v = step.written.on ahead more s in
-            let same = v.1.went.same_writer in
-            let went = but_sent g.W.Write.contents c.new-stream.ensures.value v.1 in
-            (v.0, search rules, v.2));
-      });
+      written = then_on Appends-trans before.written (on_sent_to g.W.Write.contents c.new-stream.ensures.value (λ same. search rules) step.written);
     }
 
 pub returns-in_err-send_bytes-clause-written : goal.returns-in_err-send_bytes-clause-written

@@ -1,5 +1,5 @@
 -- The image is read whole, and the points are those of its rows.
-use Rattle.std.proofs.Common.{◌≡◌, ◌<◌, ◌*◌, ◌+◌, ◌-◌, ◌∙◌, ℕ, [], ◌∷◌, Ok, sym, ap, subst, inl, inr, length, length-append, slice_index_or, arith}
+use Rattle.std.proofs.Common.{◌≡◌, ◌<◌, ◌*◌, ◌+◌, ◌∙◌, ℕ, [], ◌∷◌, Ok, sym, ap, subst, inl, inr, length, length-append, slice_index_or, arith}
 use Rattle.qoi.specs.Qoi.{Header, IsValid, channels_number, pixel_count, header_of}
 use Rattle.qoi.specs.pieces.PixelReader.{unread_bytes}
 use Rattle.qoi.specs.pieces.RowIndex.{PointState, ArePoints, IsPointAt, HasPoints}
