@@ -1,12 +1,9 @@
 -- The image that stands ahead of a decoder: a file brings it there, it is decoded, and it isn't
 -- refused.
-use Rattle.std.proofs.Common.{◌≡◌, ◌+◌, ◌*◌, ◌<◌, arith, slice_index, ℕ, List, ◌++◌, drop, take, Bool, true, false, Option, Some, None, Ok, refl, ap, sym, ◌∙◌, subst}
-use Rattle.std.proofs.lemmas.List.{length-take-le}
-use Rattle.std.specs.Io.KnownBytes.{Consumes}
+use Rattle.std.proofs.Common.{◌≡◌, ◌+◌, ◌*◌, ◌<◌, arith, slice_index, ℕ, List, ◌++◌, drop, take, Bool, true, false, Option, Some, None, Ok, refl, ap, sym, ◌∙◌, subst, length-take-le}
 use Rattle.qoi.specs.Styles.{Style}
 use Rattle.qoi.specs.Qoi.{Error, Header, Channels, channels_number, header_bytes, header_of, header_size, IsValid, pixel_count, meaning}
 use Rattle.qoi.specs.Raw.{output}
-use Rattle.qoi.specs.Verdicts.{AreWrong, AreCut}
 use Rattle.qoi.specs.Decoding.{DecodesFile, ReadsImage, RefusesImage, TakesHeader}
 use Rattle.qoi.specs.DecoderState.{DecoderState}
 use Rattle.qoi.specs.Encoded.{IsFileOf}
@@ -16,9 +13,13 @@ use Rattle.qoi.proofs.decoding.FrontImage.{decodes_file, file_parts}
 use Rattle.qoi.proofs.decoding.StreamVerdicts.{fourth_is_opaque, read_is_whole, whole_is_io_error}
 use Rattle.qoi.proofs.decoding.Refusals.{whole_not_refused_in}
 use Rattle.qoi.proofs.format.HeaderBytes.{header_split}
-use Rattle.qoi.proofs.format.OneVerdict.{whole_not_cut, whole_not_wrong}
 
--- after the header of a file stands its image
+-- an image of which whole bytes are read stands ahead
+pub image_stands : {channels : Channels} (h : Header) (bytes rest out : List ℕ) → IsImage channels bytes h rest out → StandsAhead h bytes
+unfolding StandsAhead
+image_stands h bytes rest out is = (is.cs, rest, is.whole)
+
+-- so it does after the header of a file
 pub stands_after : (bytes : List ℕ) (h : Header) (rest raw : List ℕ) → DecodesFile bytes h rest raw → StandsAhead h (drop header_size bytes)
 unfolding StandsAhead
 stands_after bytes h rest raw f = (f.cs, rest, f.whole)
@@ -28,22 +29,17 @@ pub file_ahead : (style : Style) (h : Header) (raw bytes rest all : List ℕ) �
 file_ahead style h raw bytes rest all f split = subst (λ (z : List ℕ). DecodesFile z h rest raw) (sym split) (f.is_file.comes_back rest)
 
 -- a header that was read from a stream of known bytes is theirs, and what follows it is left
-header_read : (bytes : List ℕ) (left : Option (List ℕ)) (h : Header) → TakesHeader (Some bytes) left h
+pub header_read : (old left : Option (List ℕ)) (bytes : List ℕ) (h : Header) → TakesHeader old left h → old ≡ Some bytes
     → (header_of bytes ≡ Ok h) × (left ≡ Some (drop header_size bytes))
-header_read bytes None h r = absurd r.1
-header_read bytes (Some rest) h r = let split = header_split bytes r.0 rest h r.1 r.2 r.3 in (split.0, ap Some split.1)
-
--- the same, if an equation says that the bytes are known
-pub header_read_from : (old left : Option (List ℕ)) (bytes : List ℕ) (h : Header) → TakesHeader old left h → old ≡ Some bytes
-    → (header_of bytes ≡ Ok h) × (left ≡ Some (drop header_size bytes))
-header_read_from old left bytes h r told = header_read bytes left h (subst (λ z. TakesHeader z left h) told r)
+header_read old None bytes h r told = absurd (rw told at r.1)
+header_read old (Some rest) bytes h r told = let split = header_split bytes r.0 rest h (rw told at r.1) r.2 r.3 in (split.0, ap Some split.1)
 
 -- and the header's bytes stand at their front
 pub header_front : (old left : Option (List ℕ)) (bytes : List ℕ) (h : Header) → TakesHeader old left h → old ≡ Some bytes
     → (bytes ≡ header_bytes h ++ drop header_size bytes) × IsValid h
-header_front old None bytes h r told = absurd (subst (λ z. Consumes z None r.0) told r.1)
+header_front old None bytes h r told = absurd (rw told at r.1)
 header_front old (Some rest) bytes h r told =
-    let split : bytes ≡ r.0 ++ rest = subst (λ z. Consumes z (Some rest) r.0) told r.1 in
+    let split : bytes ≡ r.0 ++ rest = rw told at r.1 in
     let after = (header_split bytes r.0 rest h split r.2 r.3).1 in
     (split ∙ ap (λ z. z ++ rest) r.4 ∙ ap (λ z. header_bytes h ++ z) after, r.5)
 
@@ -67,21 +63,13 @@ image_read channels h bytes left out r =
       record { cs = w.0; whole = w.2; out_is = w.4 },
     )
 
--- the same of what is ahead of a decoder, if an equation says that the bytes are known
-pub image_read_from : {R : Type 0} (ahead : R → Option (List ℕ)) (d : DecoderState R) (bytes : List ℕ) (left : Option (List ℕ)) (out : List ℕ)
-    → ReadsImage (channels_number d.header.channels) (channels_number d.channels) (pixel_count d.header) (ahead d.reader) left out
-    → ahead d.reader ≡ Some bytes → (rest : List ℕ) × (left ≡ Some rest) × IsImage d.channels bytes d.header rest out
-image_read_from ahead d bytes left out r told = image_read d.channels d.header bytes left out (rw told at r)
-
 -- what a decoder of these bytes reads, in the file's channels, is the image of a file at their
 -- front
-pub file_from_image : {R : Type 0} (next : R → Option (List ℕ)) (d : DecoderState R) (bytes ahead : List ℕ) (left : Option (List ℕ))
-    (out : List ℕ) → IsDecoderOf d bytes ahead → next d.reader ≡ Some ahead
-    → ((ahead : List ℕ) → next d.reader ≡ Some ahead → (rest : List ℕ) × (left ≡ Some rest) × IsImage d.channels ahead d.header rest out)
+pub file_from_image : {R : Type 0} (d : DecoderState R) (bytes ahead : List ℕ) (left : Option (List ℕ)) (out : List ℕ) → IsDecoderOf d bytes ahead
+    → (rest : List ℕ) × (left ≡ Some rest) × IsImage d.channels ahead d.header rest out
     → (rest : List ℕ) × (left ≡ Some rest) × DecodesFile bytes d.header rest out
 unfolding IsDecoderOf
-file_from_image next d bytes ahead left out (split, valid, own) told reads =
-    let (rest, is_left, image) = reads ahead told in
+file_from_image d bytes ahead left out (split, valid, own) (rest, is_left, image) =
     let h = d.header in
     let cs = image.cs in
     let w = image.whole in
@@ -98,16 +86,6 @@ pub decoder_of : {R : Type 0} (d : DecoderState R) (bytes ahead : List ℕ) → 
     → d.channels ≡ d.header.channels → IsDecoderOf d bytes ahead
 unfolding IsDecoderOf
 decoder_of d bytes ahead split valid own = (split, valid, own)
-
--- bytes of which an image is read aren't cut
-pub image_not_cut : (channels : Channels) (h : Header) (bytes rest out : List ℕ) → IsImage channels bytes h rest out → AreCut (pixel_count h) bytes → ⊥
-image_not_cut channels h bytes rest out image (cs, part, cut) = whole_not_cut (pixel_count h) bytes image.cs cs rest part image.whole cut
-
--- nor are they wrong
-pub image_not_wrong : (channels : Channels) (h : Header) (bytes rest out : List ℕ) → IsImage channels bytes h rest out
-    → AreWrong (pixel_count h) bytes → ⊥
-image_not_wrong channels h bytes rest out image (more, (cs, eight, wrong)) =
-    whole_not_wrong (pixel_count h) bytes image.cs cs rest eight more image.whole wrong
 
 -- each fourth byte of an image in four channels is 255, if the file has three
 pub fourth_of_image : (f c n : ℕ) (old new : Option (List ℕ)) (out : List ℕ) → ReadsImage f c n old new out → f ≡ 3 → c ≡ 4

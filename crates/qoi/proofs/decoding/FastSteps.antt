@@ -9,7 +9,7 @@ use Rattle.qoi.specs.Qoi.{Past, AreBytes, chunk_bytes}
 use Rattle.qoi.specs.Raw.{IsChannels}
 use Rattle.qoi.specs.inner.Filling.{Progress, reached, filling, taken_further, HasCopies, HasFilled, HasAhead, DecodesChunk, DecoderBetween, FastStep, FastChunks, IsAdvance}
 use Rattle.qoi.specs.inner.Hashed.{pixel_of_lanes, HoldsSeen, IsAfterShort, IsAfterFull}
-use Rattle.qoi.proofs.format.WholePixels.{by_channels, take_whole}
+use Rattle.qoi.proofs.format.WholePixels.{take_whole}
 use Rattle.qoi.proofs.decoding.FilledBuffer.{filled_copies, block_fits}
 use Rattle.qoi.proofs.decoding.FirstChunk.{PutsCopies, HasSize, decodes_short, decodes_full}
 use Rattle.qoi.proofs.decoding.Progress.{goes_on, taken_as, split_taken}
@@ -25,7 +25,7 @@ record ShortCount (c b size : ℕ) : Type 0 where
 
 -- a vector holds a pixel, and five at most
 pub in_vector : (c : ℕ) → IsChannels c → (1 ≤ 16 / c) × (16 / c ≤ 5)
-in_vector c is = by_channels (λ d. (1 ≤ 16 / d) × (16 / d ≤ 5)) is (omega arith, omega arith) (omega arith, omega arith)
+in_vector c is = grind (arith, is)
 
 -- each short chunk has some
 short_count : (c b size : ℕ) → IsChannels c → b ≤ 191 + 16 / c → IsAdvance c b size → ShortCount c b size
@@ -39,11 +39,7 @@ short_count c b size is short size_is =
 
 -- the pixels of any run have fewer bytes than the vectors of any run
 pub run_below : (c b : ℕ) → IsChannels c → b < 254 → c * (b - 191) < 256
-run_below c b is low = by_channels (λ d. d * (b - 191) < 256) is (omega arith) (omega arith)
-
--- after copies of a pixel the output ends where a pixel does, if it did before
-pub whole_after : (c at count : ℕ) → IsChannels c → at % c ≡ 0 → (at + c * count) % c ≡ 0
-whole_after c at count is = by_channels (λ d. at % d ≡ 0 → (at + d * count) % d ≡ 0) is (λ p. omega arith) (λ p. omega arith)
+run_below c b is low = grind (arith, is)
 
 -- the byte after a chunk, of the two that may come there: after a luma, or an RGBA chunk, one more is taken
 pub next_byte : (more : Bool) (bytes : List ℕ) (one two to size next : ℕ) → two ≡ one + 1 → to ≡ one + size → size ≡ bool_byte more
@@ -81,7 +77,6 @@ pub fast_step : {N F room : ℕ} {bytes table table' out out' : List ℕ} (now n
     → FastStep k k room bytes now table out new table' out'
 fast_step {N} {F} {bytes = bytes} {table} {table'} {out} {out'} now new count k is whole inside fits size end few put written next byte taken decodes =
     let copies = λ (m : ℕ) (past : Past) (s : HasFilled F N m out now.at past). filled_copies F N m out out' now.at count (pixel_of_lanes new.last) past is inside fits size written s in
-    let ends_whole = whole_after N now.at count is whole in
     record {
       between = λ gone n start h.
           let first : now.next ≡ get_or (drop now.taken bytes) 0 0 = h.next_is ∙ ap (λ i. get_or bytes i 0) (omega arith) ∙ sym (get_or-drop now.taken bytes 0 0) in
@@ -94,7 +89,7 @@ fast_step {N} {F} {bytes = bytes} {table} {table'} {out} {out'} now new count k 
           };
       taken = (omega (arith, taken), omega (arith, taken));
       written = (omega (arith, end), omega (arith, end, few));
-      whole = rw end ends_whole;
+      whole = rw end (grind (arith, is, whole));
       byte = byte;
     }
 
@@ -126,7 +121,7 @@ full_step {N} {bytes = bytes} {out = out} now new size ahead some s full at take
       | inr more ↦ let e = five (omega (arith, more, ahead.byte)) in (omega (arith, e), omega (arith, e))
     ] in
     step_within (fast_step {room = 4} now new 1 size is ahead.whole (omega (arith, ahead.room_is)) (block_fits N now.at 1 (length out) is one ahead.room_is) s.size
-    (omega (arith, at)) (by_channels (λ d. d * 1 ≤ 4) is (omega arith) (omega arith)) s.put (s.stored 1 (omega arith)) s.next (omega (arith, s.next, s.fits new.taken)) taken
+    (omega (arith, at)) (grind (arith, is)) s.put (s.stored 1 (omega arith)) s.next (omega (arith, s.next, s.fits new.taken)) taken
     (λ first. decodes_full rest now.next size (omega (arith, ahead.input_is, some, length-drop now.taken bytes)) fits first full four five read)) bounds.0 bounds.1 (omega arith)
 
 -- a short chunk of `size` bytes, with the pixel that it has after the last one

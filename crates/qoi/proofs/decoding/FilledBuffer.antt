@@ -1,12 +1,11 @@
 -- A buffer that is filled with pixels, one after the other.
 use Rattle.std.proofs.Common.{◌≡◌, ℕ, ◌+◌, ◌-◌, ◌*◌, ◌/◌, ◌%◌, ◌<◌, ◌≤◌, ◌⊎◌, inl, inr, List, ◌++◌, length, take, reverse, replicate, min, arith, sym, ap, ◌∙◌, subst, length-append}
 use Rattle.std.proofs.lemmas.List.{length-reverse, reverse-append, take-append-le, length-replicate, reverse-reverse}
-use Rattle.std.proofs.lemmas.Bool.{cases_lt}
 use Rattle.std.proofs.lemmas.Grind.{flat_map-append}
 use Rattle.qoi.specs.Qoi.{RgbaPixel, Past}
 use Rattle.qoi.specs.Raw.{IsChannels, pixel_bytes, output}
 use Rattle.qoi.specs.inner.Filling.{HasWritten, HasFilled}
-use Rattle.qoi.proofs.format.WholePixels.{by_channels, length-output, take-output, take_whole}
+use Rattle.qoi.proofs.format.WholePixels.{length-output, take-output, take_whole}
 use Rattle.qoi.proofs.format.ChunkSteps.{repeats_after, reverse-replicate}
 
 -- if there is room, the offset is after the pixels so far
@@ -17,13 +16,11 @@ pub record Counts (c n l k at len : ℕ) : Type 0 where
 
 -- the offset agrees with how many pixels came, also after k more that fit
 pub counts : (c n l k at len : ℕ) → IsChannels c → len ≡ c * n → at ≡ c * min n l → at < len → at + c * k ≤ len → Counts c n l k at len
-counts c n l k at len is = by_channels (λ m. len ≡ m * n → at ≡ m * min n l → at < len → at + m * k ≤ len → Counts m n l k at len) is (λ p q h r. record { below = omega arith; now = omega arith; next = omega arith })
-    (λ p q h r. record { below = omega arith; now = omega arith; next = omega arith })
+counts c n l k at len is all now inside fits = record { below = grind (arith, is); now = grind (arith, is); next = grind (arith, is) }
 
 -- without room, the pixels so far are enough
 full_counts : (c n l at len : ℕ) → IsChannels c → len ≡ c * n → at ≡ c * min n l → len ≤ at → (n ≤ l) × (at ≡ len)
-full_counts c n l at len is = by_channels (λ k. len ≡ k * n → at ≡ k * min n l → len ≤ at → (n ≤ l) × (at ≡ len)) is (λ p q h. (omega arith, omega arith))
-    (λ p q h. (omega arith, omega arith))
+full_counts c n l at len is all now full = grind (arith, is)
 
 -- the bytes of pixels and of those before them
 output-append : (f c : ℕ) (more past : Past) → output f c (reverse (more ++ past)) ≡ output f c (reverse past) ++ output f c (reverse more)
@@ -60,13 +57,8 @@ filled_full f c n out at past more is h full =
       room = h.room;
       at_is = h.at_is ∙ ap (λ k. c * k) (sym min_is);
       same = h.same ∙ sym (ap (take at) (output-append f c more past) ∙ take-append-le at (output f c (reverse past)) (output f c (reverse more))
-          (long_enough c n (length past) at (length out) (length (output f c (reverse past))) is h.room h.at_is full
-          (length-output f c (reverse past) is ∙ ap (λ k. c * k) (length-reverse past))));
+          (grind (arith, is, h.room, h.at_is, full, length-output f c (reverse past) is, length-reverse past)));
     }
-  where
-    long_enough : (c n l at len size : ℕ) → IsChannels c → len ≡ c * n → at ≡ c * min n l → len ≤ at → size ≡ c * l → at ≤ size
-    long_enough c n l at len size is = by_channels (λ k. len ≡ k * n → at ≡ k * min n l → len ≤ at → size ≡ k * l → at ≤ size) is (λ p q h s. omega arith)
-        (λ p q h s. omega arith)
 
 -- copies of a pixel that were written count as filled
 pub filled_copies : (f c n : ℕ) (out new : List ℕ) (at count : ℕ) (p : RgbaPixel) (past : Past) → IsChannels c → at < length out
@@ -79,25 +71,20 @@ filled_copies f c n out new at count p past is inside fits size w h =
 
 -- the room that the vectors of any run have is enough for its pixels
 pub run_fits : (c at count len : ℕ) → IsChannels c → count ≤ 62 → at + 256 ≤ len → at + c * count ≤ len
-run_fits c at count len is = by_channels (λ d. count ≤ 62 → at + 256 ≤ len → at + d * count ≤ len) is (λ p q. omega arith)
-    (λ p q. omega arith)
+run_fits c at count len is few room = grind (arith, is)
 
 -- the copies that a vector holds fit if it does
 pub block_fits : (c at count len : ℕ) → IsChannels c → count ≤ 16 / c → at + 16 ≤ len → at + c * count ≤ len
-block_fits c at count len is = by_channels (λ d. count ≤ 16 / d → at + 16 ≤ len → at + d * count ≤ len) is (λ p q. omega arith)
-    (λ p q. omega arith)
+block_fits c at count len is few room = grind (arith, is)
 
 -- as many copies fit as there is room for
 pub copies_fit : (c at count len : ℕ) → IsChannels c → at ≤ len → at + c * min count ((len - at) / c) ≤ len
-copies_fit c at count len is = by_channels (λ d. at ≤ len → at + d * min count ((len - at) / d) ≤ len) is (λ p. omega arith)
-    (λ p. omega arith)
+copies_fit c at count len is within = grind (arith, is)
 
 -- there is room for all the copies, or those that fit end where the buffer does
 pub copies_end : (c at count len : ℕ) → IsChannels c → len % c ≡ 0 → at % c ≡ 0 → at ≤ len
     → (min count ((len - at) / c) ≡ count) ⊎ (len ≤ at + c * min count ((len - at) / c))
-copies_end c at count len is = by_channels (λ k. len % k ≡ 0 → at % k ≡ 0 → at ≤ len
-    → (min count ((len - at) / k) ≡ count) ⊎ (len ≤ at + k * min count ((len - at) / k))) is (λ p q l. elim (cases_lt ((len - at) / 3) count) [ inl few ↦ inr (omega arith) | inr all ↦ inl (omega arith) ])
-    (λ p q l. elim (cases_lt ((len - at) / 4) count) [ inl few ↦ inr (omega arith) | inr all ↦ inl (omega arith) ])
+copies_end c at count len is all now within = grind (arith, is)
 
 -- of `count` copies, the ones past those that fit change nothing
 pub filled_end : (f c n : ℕ) (out : List ℕ) (at all count : ℕ) (p : RgbaPixel) (past : Past) → IsChannels c → all ≤ count → (all ≡ count) ⊎ (length out ≤ at)

@@ -12,22 +12,7 @@ use Rattle.qoi.specs.Images.{file_image, file_rest, BeginsWithFile}
 use Rattle.qoi.specs.Tiles.{HasPicture, AreFrames, none, more, ArePictures, no_picture, one_more}
 use Rattle.qoi.proofs.decoding.Ahead.{file_ahead}
 use Rattle.qoi.proofs.decoding.FrontImage.{file_image_is, file_rest_is, decodes_file}
-use Rattle.qoi.proofs.decoding.Tiles.{picture_file, picture_kept, sent_known, tile_within}
-
--- no frame
-pub no_frames : AreFrames [] [] []
-no_frames = none
-
--- nor a picture
-pub no_pictures : ArePictures [] [] [] []
-no_pictures = no_picture
-
--- one picture more, of a file
-picture_more : (bytes offsets new next raw : List ℕ) (headers : List Header) (images : List (List ℕ)) (h : Header) (cs : List Chunk)
-    → ArePictures bytes offsets headers images → IsFile h cs → new ≡ bytes ++ file h cs → next ≡ offsets ++ length bytes ∷ [] → raw ≡ file_image (file h cs)
-    → ArePictures new next (headers ++ h ∷ []) (images ++ raw ∷ [])
-picture_more bytes offsets new next raw headers images h cs pictures f is grown image =
-    rw (is, grown, image) (one_more bytes offsets headers images h cs pictures f)
+use Rattle.qoi.proofs.decoding.Tiles.{file_in_front, picture_file, picture_kept, sent_known, tile_within}
 
 -- pictures are frames
 pub pictures_are_frames : (bytes offsets : List ℕ) (headers : List Header) (images : List (List ℕ)) → ArePictures bytes offsets headers images
@@ -43,38 +28,20 @@ frames_have_headers _ _ _ none = ([], no_picture)
 frames_have_headers _ _ _ (more bytes offsets images h cs frames f) =
     let before = frames_have_headers bytes offsets images frames in (before.0 ++ h ∷ [], one_more bytes offsets before.0 images h cs before.1 f)
 
--- one frame more, of a file
-frame_more : (bytes offsets new next raw : List ℕ) (images : List (List ℕ)) (h : Header) (cs : List Chunk) → AreFrames bytes offsets images → IsFile h cs
-    → new ≡ bytes ++ file h cs → next ≡ offsets ++ length bytes ∷ [] → raw ≡ file_image (file h cs) → AreFrames new next (images ++ raw ∷ [])
-frame_more bytes offsets new next raw images h cs frames f is grown image = rw (is, grown, image) (more bytes offsets images h cs frames f)
-
--- the raw bytes of a file
-raw_of : Header → List Chunk → List ℕ
-raw_of h cs = output (channels_number h.channels) (channels_number h.channels) (file_pixels h cs)
+-- a file is decoded, whatever follows it
+decodes_own : (h : Header) (cs : List Chunk) (rest : List ℕ) → IsFile h cs
+    → DecodesFile (file h cs ++ rest) h rest (output (channels_number h.channels) (channels_number h.channels) (file_pixels h cs))
+decodes_own h cs rest f = decodes_file h cs (file h cs ++ rest) rest _ f refl refl
 
 -- its image is the same, whatever follows it
-image_alone : (h : Header) (cs : List Chunk) (bytes rest : List ℕ) → IsFile h cs → bytes ≡ file h cs ++ rest → file_image bytes ≡ file_image (file h cs)
-unfolding raw_of
-image_alone h cs bytes rest f split =
-    sym (file_image_is bytes h rest (raw_of h cs) (decodes_file h cs bytes rest (raw_of h cs) f split refl))
-    ∙ file_image_is (file h cs) h [] (raw_of h cs) (decodes_file h cs (file h cs) [] (raw_of h cs) f (sym (append-nil (file h cs))) refl)
+image_alone : (h : Header) (cs : List Chunk) (rest : List ℕ) → IsFile h cs → file_image (file h cs ++ rest) ≡ file_image (file h cs)
+image_alone h cs rest f =
+    sym (file_image_is (file h cs ++ rest) h rest _ (decodes_own h cs rest f))
+    ∙ file_image_is (file h cs) h [] _ (rw append-nil at (decodes_own h cs [] f))
 
 -- what follows a file
 rest_after : (h : Header) (cs : List Chunk) (rest : List ℕ) → IsFile h cs → file_rest (file h cs ++ rest) ≡ rest
-unfolding raw_of
-rest_after h cs rest f = sym (file_rest_is (file h cs ++ rest) h rest (raw_of h cs) (decodes_file h cs (file h cs ++ rest) rest (raw_of h cs) f refl refl))
-
--- bytes begin with the file in front
-begins : (h : Header) (cs : List Chunk) (rest : List ℕ) → IsFile h cs → BeginsWithFile (file h cs ++ rest)
-begins h cs rest f =
-    let left = rest_after h cs rest f in
-    record {
-      header = h;
-      cs = cs;
-      is_file = f;
-      split = ap (λ z. file h cs ++ z) (sym left);
-      size = ap (λ z. length (file h cs) + length z) left ∙ sym (length-append (file h cs) rest);
-    }
+rest_after h cs rest f = sym (file_rest_is (file h cs ++ rest) h rest _ (decodes_own h cs rest f))
 
 -- the file of an image is sent behind the pictures
 pub picture_sent : (e : EncoderState) (n : ℕ) (before after : Option (List ℕ)) (raw old new offsets next : List ℕ) (headers : List Header)
@@ -84,8 +51,8 @@ picture_sent e n before after raw old new offsets next headers images sends was 
     let d : DecodesFile sends.bytes e.header [] e.raw = file_ahead e.style e.header e.raw sends.bytes [] sends.bytes sends.file (sym (append-nil sends.bytes)) in
     let whole : sends.bytes ≡ file e.header d.cs = d.split ∙ append-nil (file e.header d.cs) in
     let sent : new ≡ old ++ sends.bytes = sent_known sends.bytes before after sends.sent old new was is in
-    picture_more old offsets new next raw headers images e.header d.cs pictures d.is_file (sent ∙ ap (λ z. old ++ z) whole) grown
-    (own ∙ file_image_is sends.bytes e.header [] e.raw d ∙ ap file_image whole)
+    rw (sent ∙ ap (λ z. old ++ z) whole, grown, own ∙ file_image_is sends.bytes e.header [] e.raw d ∙ ap file_image whole)
+    (one_more old offsets headers images e.header d.cs pictures d.is_file)
 
 -- so it is a frame more
 pub frame_put : (e : EncoderState) (n : ℕ) (before after : Option (List ℕ)) (raw old new offsets next : List ℕ) (images : List (List ℕ))
@@ -109,8 +76,8 @@ frame_found bytes offsets next images at end frames f within size grown =
     let is : take end bytes ≡ take at bytes ++ own =
     ap (λ n. take n bytes) ends ∙ ap (take (length (take at bytes) + length own)) all
     ∙ take-append-add (take at bytes) (own ++ rest) (length own) ∙ ap (λ z. take at bytes ++ z) (take-append_seam own rest) in
-    frame_more (take at bytes) offsets (take end bytes) next (file_image (drop at bytes)) images f.header f.cs frames f.is_file is
-    (grown ∙ ap (λ n. offsets ++ n ∷ []) (sym front)) (image_alone f.header f.cs (drop at bytes) rest f.is_file f.split)
+    rw (is, grown ∙ ap (λ n. offsets ++ n ∷ []) (sym front), ap file_image f.split ∙ image_alone f.header f.cs rest f.is_file)
+    (more (take at bytes) offsets images f.header f.cs frames f.is_file)
 
 -- there are as many images as offsets
 pub frame_count : (bytes offsets : List ℕ) (images : List (List ℕ)) → AreFrames bytes offsets images → length images ≡ length offsets
@@ -128,12 +95,10 @@ header_count _ _ _ _ (one_more bytes offsets headers images h cs pictures f) =
 -- a file behind other bytes is a picture
 picture_alone : (h : Header) (cs : List Chunk) (bytes : List ℕ) → IsFile h cs
     → HasPicture (bytes ++ file h cs) (length bytes) h (file_image (file h cs))
-unfolding raw_of
 picture_alone h cs bytes f =
     let own = file h cs in
-    let d = decodes_file h cs own [] (raw_of h cs) f (sym (append-nil own)) refl in
-    subst (λ z. HasPicture (bytes ++ own) (length bytes) h z) (file_image_is own h [] (raw_of h cs) d)
-    (picture_file own h [] (raw_of h cs) bytes (bytes ++ own) d refl)
+    let d = rw append-nil at (decodes_own h cs [] f) in
+    subst (λ z. HasPicture (bytes ++ own) (length bytes) h z) (file_image_is own h [] _ d) (picture_file own h [] _ bytes (bytes ++ own) d refl)
 
 -- each of them stands at its offset
 pub picture_at : (bytes offsets : List ℕ) (headers : List Header) (images : List (List ℕ)) (k : ℕ) → ArePictures bytes offsets headers images
@@ -163,87 +128,67 @@ picture_at _ _ _ _ k (one_more bytes offsets headers images h cs pictures f) bel
           rw (at, head, image) (picture_alone h cs bytes f)
     ]
 
--- so each frame's image is read at its offset
-pub frame_read : (bytes offsets : List ℕ) (images : List (List ℕ)) (k : ℕ) → AreFrames bytes offsets images → k < length offsets
-    → file_image (drop (slice_index offsets k) bytes) ≡ slice_index_or images k []
-frame_read bytes offsets images k frames below =
-    let have = frames_have_headers bytes offsets images frames in (picture_at bytes offsets have.0 images k have.1 below).image
+-- So each frame's image is read at its offset, which lies within the bytes, and its file stands there.
+module _ (bytes offsets : List ℕ) (images : List (List ℕ)) (k : ℕ) (frames : AreFrames bytes offsets images) (below : k < length offsets) where
+  frame_at : (h : Header) × HasPicture bytes (slice_index offsets k) h (slice_index_or images k [])
+  frame_at = let (headers, pictures) = frames_have_headers bytes offsets images frames in (_, picture_at bytes offsets headers images k pictures below)
 
--- which lies within the bytes
-pub frame_within : (bytes offsets : List ℕ) (images : List (List ℕ)) (k : ℕ) → AreFrames bytes offsets images → k < length offsets
-    → slice_index offsets k ≤ length bytes
-frame_within bytes offsets images k frames below =
-    let have = frames_have_headers bytes offsets images frames in
-    tile_within bytes (slice_index_or images k []) (slice_index offsets k) (picture_at bytes offsets have.0 images k have.1 below).tile
+  pub frame_read : file_image (drop (slice_index offsets k) bytes) ≡ slice_index_or images k []
+  frame_read = frame_at.1.image
 
--- and its file stands there
-pub frame_stands : (bytes offsets : List ℕ) (images : List (List ℕ)) (k : ℕ) → AreFrames bytes offsets images → k < length offsets
-    → BeginsWithFile (drop (slice_index offsets k) bytes)
-frame_stands bytes offsets images k frames below =
-    let have = frames_have_headers bytes offsets images frames in (picture_at bytes offsets have.0 images k have.1 below).stands
+  pub frame_within : slice_index offsets k ≤ length bytes
+  frame_within = tile_within bytes (slice_index_or images k []) (slice_index offsets k) frame_at.1.tile
 
--- the header of a picture is read at its offset
-pub picture_header : (bytes offsets : List ℕ) (headers : List Header) (images : List (List ℕ)) (k : ℕ) → ArePictures bytes offsets headers images
-    → k < length offsets → header_of (drop (slice_index offsets k) bytes) ≡ Ok (slice_index_or headers k default_header)
-picture_header bytes offsets headers images k pictures below = (picture_at bytes offsets headers images k pictures below).header
+  pub frame_stands : BeginsWithFile (drop (slice_index offsets k) bytes)
+  frame_stands = frame_at.1.stands
 
--- and its image
-pub picture_read : (bytes offsets : List ℕ) (headers : List Header) (images : List (List ℕ)) (k : ℕ) → ArePictures bytes offsets headers images
-    → k < length offsets → file_image (drop (slice_index offsets k) bytes) ≡ slice_index_or images k []
-picture_read bytes offsets headers images k pictures below = (picture_at bytes offsets headers images k pictures below).image
+-- The same of pictures, whose headers are read there, too.
+module _ (bytes offsets : List ℕ) (headers : List Header) (images : List (List ℕ)) (k : ℕ) (pictures : ArePictures bytes offsets headers images) (below : k < length offsets) where
+  here : HasPicture bytes (slice_index offsets k) (slice_index_or headers k default_header) (slice_index_or images k [])
+  here = picture_at bytes offsets headers images k pictures below
 
--- within the bytes
-pub picture_within : (bytes offsets : List ℕ) (headers : List Header) (images : List (List ℕ)) (k : ℕ) → ArePictures bytes offsets headers images
-    → k < length offsets → slice_index offsets k ≤ length bytes
-picture_within bytes offsets headers images k pictures below =
-    tile_within bytes (slice_index_or images k []) (slice_index offsets k) (picture_at bytes offsets headers images k pictures below).tile
+  pub picture_header : header_of (drop (slice_index offsets k) bytes) ≡ Ok (slice_index_or headers k default_header)
+  picture_header = here.header
 
--- where its file stands
-pub picture_stands : (bytes offsets : List ℕ) (headers : List Header) (images : List (List ℕ)) (k : ℕ) → ArePictures bytes offsets headers images
-    → k < length offsets → BeginsWithFile (drop (slice_index offsets k) bytes)
-picture_stands bytes offsets headers images k pictures below = (picture_at bytes offsets headers images k pictures below).stands
+  pub picture_read : file_image (drop (slice_index offsets k) bytes) ≡ slice_index_or images k []
+  picture_read = here.image
+
+  pub picture_within : slice_index offsets k ≤ length bytes
+  picture_within = tile_within bytes (slice_index_or images k []) (slice_index offsets k) here.tile
+
+  pub picture_stands : BeginsWithFile (drop (slice_index offsets k) bytes)
+  picture_stands = here.stands
 
 -- there are as many images as offsets
 pub picture_count : (bytes offsets : List ℕ) (headers : List Header) (images : List (List ℕ)) → ArePictures bytes offsets headers images
     → length images ≡ length offsets
 picture_count bytes offsets headers images pictures = frame_count bytes offsets images (pictures_are_frames bytes offsets headers images pictures)
 
--- the last picture is cut off from pictures that are given by equations
-picture_cut_at : (bytes offsets fewer last : List ℕ) (all headers : List Header) (h : Header) (images before : List (List ℕ)) (at : ℕ)
-    → ArePictures bytes offsets all images → all ≡ headers ++ h ∷ [] → images ≡ before ++ last ∷ [] → offsets ≡ fewer ++ at ∷ []
-    → ArePictures (take at bytes) fewer headers before
-picture_cut_at _ _ fewer last _ headers h _ before at no_picture heads images_are are = absurd (omega (arith, ap length are, length-append fewer (at ∷ [])))
-picture_cut_at _ _ fewer last _ heads_before k _ before at (one_more bytes offsets headers images h cs pictures f) heads images_are are =
-    let whole : take at (bytes ++ file h cs) ≡ bytes =
-    ap (λ n. take n (bytes ++ file h cs)) (sym (same_from_push offsets fewer (length bytes) at are).1) ∙ take-append_seam bytes (file h cs) in
-    rw (
-      whole,
-      sym (same_from_push offsets fewer (length bytes) at are).0,
-      sym (same_from_push headers heads_before h k heads).0,
-      sym (same_from_push images before (file_image (file h cs)) last images_are).0,
-    )
-    pictures
+-- pictures that are given by equations, without the last one
+without_last : (bytes offsets fewer last : List ℕ) (all : List Header) (images before : List (List ℕ)) (at : ℕ)
+    → ArePictures bytes offsets all images → images ≡ before ++ last ∷ [] → offsets ≡ fewer ++ at ∷ []
+    → (headers : List Header) × (h : Header) × (all ≡ headers ++ h ∷ []) × ArePictures (take at bytes) fewer headers before
+without_last _ _ fewer last _ _ before at no_picture images_are are = absurd (omega (arith, ap length are, length-append fewer (at ∷ [])))
+without_last _ _ fewer last _ _ before at (one_more bytes offsets headers images h cs pictures f) images_are are =
+    let (fewer_are, at_is) = same_from_push offsets fewer (length bytes) at are in
+    let whole : take at (bytes ++ file h cs) ≡ bytes = ap (λ n. take n (bytes ++ file h cs)) (sym at_is) ∙ take-append_seam bytes (file h cs) in
+    (headers, h, refl, rw (whole, sym fewer_are, sym (same_from_push images before (file_image (file h cs)) last images_are).0) pictures)
 
 -- the last picture is cut off
 pub last_picture : (bytes offsets fewer new last : List ℕ) (headers : List Header) (h : Header) (images : List (List ℕ)) (at : ℕ)
     → ArePictures bytes offsets (headers ++ h ∷ []) (images ++ last ∷ []) → offsets ≡ fewer ++ at ∷ [] → new ≡ take at bytes
     → ArePictures new fewer headers images
 last_picture bytes offsets fewer new last headers h images at pictures is cut =
-    rw cut (picture_cut_at bytes offsets fewer last (headers ++ h ∷ []) headers h (images ++ last ∷ []) images at pictures refl refl is)
+    let (others, k, same, left) = without_last bytes offsets fewer last (headers ++ h ∷ []) (images ++ last ∷ []) images at pictures refl is in
+    rw (cut, (same_from_push headers others h k same).0) left
 
--- the last frame is cut off from frames that are given by equations
-cut_at : (bytes offsets fewer last : List ℕ) (images before : List (List ℕ)) (at : ℕ) → AreFrames bytes offsets images
-    → images ≡ before ++ last ∷ [] → offsets ≡ fewer ++ at ∷ [] → AreFrames (take at bytes) fewer before
-cut_at _ _ fewer last _ before at none images_are are = absurd (omega (arith, ap length are, length-append fewer (at ∷ [])))
-cut_at _ _ fewer last _ before at (more bytes offsets images h cs frames f) images_are are =
-    let whole : take at (bytes ++ file h cs) ≡ bytes =
-    ap (λ n. take n (bytes ++ file h cs)) (sym (same_from_push offsets fewer (length bytes) at are).1) ∙ take-append_seam bytes (file h cs) in
-    rw (whole, sym (same_from_push offsets fewer (length bytes) at are).0, sym (same_from_push images before (file_image (file h cs)) last images_are).0) frames
-
--- the last frame is cut off
+-- so is the last frame
 pub last_cut : (bytes offsets fewer new last : List ℕ) (images : List (List ℕ)) (at : ℕ) → AreFrames bytes offsets (images ++ last ∷ [])
     → offsets ≡ fewer ++ at ∷ [] → new ≡ take at bytes → AreFrames new fewer images
-last_cut bytes offsets fewer new last images at frames is cut = rw cut (cut_at bytes offsets fewer last (images ++ last ∷ []) images at frames refl is)
+last_cut bytes offsets fewer new last images at frames is cut =
+    let (all, pictures) = frames_have_headers bytes offsets (images ++ last ∷ []) frames in
+    let (headers, h, same, left) = without_last bytes offsets fewer last all (images ++ last ∷ []) images at pictures refl is in
+    rw cut (pictures_are_frames (take at bytes) fewer headers images left)
 
 -- what follows the first k files
 abbrev behind : ℕ → List ℕ → List ℕ
@@ -271,7 +216,7 @@ frames_begin _ _ rest _ k (more bytes offsets images h cs frames f) below =
           let is : behind k ((bytes ++ file h cs) ++ rest) ≡ file h cs ++ rest =
           ap (λ n. behind n ((bytes ++ file h cs) ++ rest)) last ∙ ap (behind (length offsets)) (append_assoc bytes (file h cs) rest)
           ∙ behind_frames bytes offsets (file h cs ++ rest) images frames in
-          subst BeginsWithFile (sym is) (begins h cs rest f)
+          subst BeginsWithFile (sym is) (file_in_front (file h cs ++ rest) h rest _ (decodes_own h cs rest f))
     ]
 
 -- frames that no file follows are as many as others in front of the same bytes
@@ -324,6 +269,9 @@ pub frames_are_one : (bytes front rest new offsets ends : List ℕ) (at : ℕ) (
     → AreFrames new ends images
 frames_are_one bytes front rest new offsets ends at images found frames split last others end cut =
     let same = frames_are_same bytes front rest new offsets ends at images found frames split last others end cut in rw (same.0, same.1) frames
+
+-- pictures are read
+pub ruleset picture_laws = (picture_header, picture_read, picture_within, picture_stands, picture_count, header_count)
 
 -- frames are read, and found
 pub ruleset frame_laws = (frame_read, frame_within, frame_stands, frame_count, frame_found, frames_are_one)

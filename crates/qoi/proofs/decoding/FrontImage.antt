@@ -1,23 +1,22 @@
 -- A file is read as it was put together, in one way: whole bytes have one image and one rest, which are
 -- functions of them.
-use Rattle.std.proofs.Common.{◌≡◌, ℕ, List, ◌++◌, drop, Some, refl, ap, sym, ◌∙◌, subst, Ok, append_assoc, zero, suc, ◌+◌, ◌*◌, ◌<◌, ◌≤◌, [], ◌∷◌, length, take, arith, length-append, replicate}
-use Rattle.qoi.specs.Qoi.{Header, Chunk, Channels, Rgb, Rgba, AreBytes, chunk_bytes, channels_number, header_bytes, pixel_count, header_of, IsFile, file, file_pixels, end_marker, header_size, Past, IsChunk, AreChunks, bytes_of, then_chunk, then_chunks, pixel_after, times, meaning}
+use Rattle.std.proofs.Common.{◌≡◌, ℕ, List, ◌++◌, drop, Some, refl, ap, sym, ◌∙◌, subst, Ok, append_assoc, zero, suc, ◌+◌, ◌*◌, ◌<◌, ◌≤◌, [], ◌∷◌, length, take, arith}
+use Rattle.qoi.specs.Qoi.{Header, Chunk, Channels, Rgb, Rgba, AreBytes, chunk_bytes, channels_number, header_bytes, pixel_count, header_of, IsFile, file, file_pixels, end_marker, header_size, Past, IsChunk, AreChunks, bytes_of, then_chunk, then_chunks, meaning}
 use Rattle.qoi.specs.Raw.{output, without_fourth}
 use Rattle.qoi.specs.Verdicts.{IsWhole}
 use Rattle.qoi.specs.Decoding.{DecodesFile, ReadsImage}
 use Rattle.qoi.specs.DecoderState.{DecoderState}
 use Rattle.qoi.proofs.format.OneVerdict.{whole_is_one, StayBelowAfter}
 use Rattle.qoi.proofs.format.HeaderBytes.{header_of-head, head_from_header_of}
-use Rattle.std.specs.Prelude.{nat_le, if◌then◌else◌}
+use Rattle.std.proofs.lemmas.Bool.{le-leb, lt-leb}
 use Rattle.std.proofs.lemmas.Bool.Decides.{nat_tests}
-use Rattle.std.proofs.lemmas.List.{length-replicate}
 use Rattle.std.proofs.Math.Seq.{drop-append_seam}
 use Rattle.qoi.specs.declared.types.Channels.TheVariants as OfChannels
 use Rattle.qoi.specs.Reading.{IsImage}
 use Rattle.qoi.specs.Images.{file_image_in, front_chunk, chunks_after, front_chunks, front_image, front_rest, behind_header, file_image, file_rest}
 use Rattle.qoi.proofs.decoding.PieceSteps.{longer}
 use Rattle.qoi.proofs.decoding.StreamVerdicts.{rgb_is_without_fourth}
-use Rattle.qoi.proofs.format.ChunkSteps.{length-meaning, times_some}
+use Rattle.qoi.proofs.format.ChunkSteps.{length-meaning, length-then_chunk, times_some}
 
 -- a file and more bytes are header, chunks, end marker and those bytes
 pub file_parts : (h : Header) (cs : List Chunk) (rest : List ℕ) → file h cs ++ rest ≡ header_bytes h ++ (chunk_bytes cs ++ (end_marker ++ rest))
@@ -102,19 +101,6 @@ front_is (Rgb r g b) y hc = refl
 front_is (Rgba r g b a) y hc = refl
 front_is c y hc = grind (arith, nat_tests)
 
--- with each chunk the pixels grow
-grows : (past : Past) (c : Chunk) → IsChunk c → length past < length (then_chunk past c)
-grows past c hc =
-    let p = pixel_after past c in
-    omega (arith, length-append (replicate (times c) p) past, length-replicate (times c) p, times_some c hc)
-
--- a test of two numbers that holds, and one that doesn't
-if_holds : {A : Type 0} (m n : ℕ) (x y : A) → m ≤ n → (if nat_le m n then x else y) ≡ x
-if_holds m n x y h = grind (arith, nat_tests)
-
-if_fails : {A : Type 0} (m n : ℕ) (x y : A) → n < m → (if nat_le m n then x else y) ≡ y
-if_fails m n x y h = grind (arith, nat_tests)
-
 -- a chunk at the front is found there, and then those behind it
 first_found : (left n : ℕ) (past : Past) (c : Chunk) (cs : List Chunk) (x : List ℕ) → IsChunk c → length past < n
     → chunks_after (suc left) n past (chunk_bytes (c ∷ cs) ++ x) ≡ c ∷ chunks_after left n (then_chunk past c) (chunk_bytes cs ++ x)
@@ -125,10 +111,8 @@ first_found left n past c cs x is few =
     let split : bytes ≡ bytes_of c ++ rest = append_assoc (bytes_of c) (chunk_bytes cs) x in
     let front : front_chunk bytes ≡ c = ap front_chunk split ∙ front_is c rest is in
     let F : Chunk → List ℕ → List Chunk = λ d z. d ∷ chunks_after left n (then_chunk past d) z in
-    if_fails n (length past) [] (F (front_chunk bytes) (drop (length (bytes_of (front_chunk bytes))) bytes)) few
-    ∙ ap (λ d. F d (drop (length (bytes_of d)) bytes)) front
-    ∙ ap (λ z. F c (drop (length (bytes_of c)) z)) split
-    ∙ ap (F c) (drop-append_seam (bytes_of c) rest)
+    rw (lt-leb n (length past) few) (ap (λ d. F d (drop (length (bytes_of d)) bytes)) front ∙ ap (λ z. F c (drop (length (bytes_of c)) z)) split
+    ∙ ap (F c) (drop-append_seam (bytes_of c) rest))
 
 -- the chunks that stand at the front are those that are found there
 after_is : (left n : ℕ) (past : Past) (cs : List Chunk) (x : List ℕ) → AreChunks cs → StayBelowAfter n past cs
@@ -136,10 +120,10 @@ after_is : (left n : ℕ) (past : Past) (cs : List Chunk) (x : List ℕ) → Are
 unfolding chunks_after
 after_is zero n past [] x hc below enough room = refl
 after_is zero n past (c ∷ cs) x hc below enough room = let l = below.0 in absurd (omega arith)
-after_is (suc left) n past [] x hc below enough room = if_holds n (length past) _ _ enough
+after_is (suc left) n past [] x hc below enough room = rw (le-leb n (length past) enough)
 after_is (suc left) n past (c ∷ cs) x hc below enough room =
     first_found left n past c cs x hc.0 below.0
-    ∙ ap (λ z. c ∷ z) (after_is left n (then_chunk past c) cs x hc.1 below.1 enough (omega (arith, grows past c hc.0)))
+    ∙ ap (λ z. c ∷ z) (after_is left n (then_chunk past c) cs x hc.1 below.1 enough (omega (arith, length-then_chunk past c, times_some c hc.0)))
 
 -- chunks at the front that reach no n pixels are the first ones that are found there
 after_begins : (left n : ℕ) (past : Past) (cs : List Chunk) (x : List ℕ) → AreChunks cs → length (then_chunks past cs) < n → n ≤ length past + left
@@ -147,7 +131,7 @@ after_begins : (left n : ℕ) (past : Past) (cs : List Chunk) (x : List ℕ) →
 after_begins left n past [] x hc short room = (chunks_after left n past x, refl)
 after_begins zero n past (c ∷ cs) x hc short room = absurd (omega (arith, longer past (c ∷ cs), short, room))
 after_begins (suc left) n past (c ∷ cs) x hc short room =
-    let (more, is) = after_begins left n (then_chunk past c) cs x hc.1 short (omega (arith, room, grows past c hc.0)) in
+    let (more, is) = after_begins left n (then_chunk past c) cs x hc.1 short (omega (arith, room, length-then_chunk past c, times_some c hc.0)) in
     (more, first_found left n past c cs x hc.0 (omega (arith, longer past (c ∷ cs), short)) ∙ ap (λ z. c ∷ z) is)
 
 -- so an image's bytes begin with the pixels of chunks at the front

@@ -1,18 +1,16 @@
 -- Steps over the pieces of an image, one after another.
-use Rattle.std.proofs.Common.{◌≡◌, ℕ, ◌+◌, ◌-◌, ◌*◌, ◌/◌, ◌≤◌, List, [], ◌++◌, length, take, drop, replicate, min, Bool, Option, Some, Result, MatchOption, arith, refl, sym, ap, ◌∙◌, subst, append-nil, length-append}
-use Rattle.std.proofs.lemmas.List.{length-take-le, take_at}
+use Rattle.std.proofs.Common.{◌≡◌, ℕ, ◌+◌, ◌-◌, ◌*◌, ◌/◌, ◌≤◌, List, [], ◌++◌, length, take, drop, replicate, min, Bool, Option, Some, Result, MatchOption, arith, refl, sym, ap, ◌∙◌, subst, append-nil, length-append, length-take, length-take-le, take_at}
 use Rattle.std.proofs.lemmas.Result.{MatchResult-weaker}
 use borrow.Rule.Slice.PartMut.{put_mid, mid_of, mid_len, same_len_mid}
-use Rattle.qoi.specs.Qoi.{Error, channels_number, run_max}
+use Rattle.qoi.specs.Qoi.{Error, channels_number}
 use Rattle.qoi.specs.declared.types.Channels.TheVariants.{Rgb, Rgba}
 use Rattle.qoi.specs.inner.Chunks.{Conversion, RefusesFilling}
 use Rattle.qoi.specs.Raw.{IsChannels, raw_per_byte}
 use Rattle.qoi.specs.inner.Filling.{Reached, HasWritten, reached, filling}
 use Rattle.qoi.specs.inner.Hashed.{pixel_of_lanes}
 use Rattle.qoi.specs.pieces.Sizes.{decoded_ahead}
-use Rattle.qoi.specs.pieces.Unread.{Refused, Unread, kept_raw, bytes_left, KeepsPixels, IsUnread, AreEnough, GivesMore, RefusesMore, Asks, Steps, TakesInPlace, IsInPlace}
-use Rattle.qoi.proofs.decoding.PieceSteps.{Lent, gives, kept_long, minus_whole, piece_lent, piece_read, placed_most, read_two}
-use Rattle.qoi.proofs.format.WholePixels.{by_channels}
+use Rattle.qoi.specs.pieces.Unread.{Refused, Unread, kept_raw, bytes_left, KeepsPixels, IsUnread, GivesMore, RefusesMore, Asks, Steps, TakesInPlace, IsInPlace}
+use Rattle.qoi.proofs.decoding.PieceSteps.{Lent, gives, kept_long, minus_whole, piece_lent, piece_read, read_two, whole_within}
 use Rattle.qoi.proofs.decoding.PixelPieces.{in_three}
 
 -- a step that gives none
@@ -99,19 +97,12 @@ steps_in_three in_memory ahead rest old new out result k three four h =
 pub faulted : (Why : Error → Type 0) {fault : Option Error} {e : Error} → fault ≡ Some e → Why e → MatchOption fault ⊥ Why
 faulted Why is why = rw is why
 
--- pixels that are enough are those of an output, too
-enough_lent : {f c n m all : ℕ} {start ahead : Option (List ℕ)} {given : List ℕ} {p : Unread} {out : List ℕ} {at : ℕ} (size : ℕ) → IsChannels c
-    → (l : Lent f c n m start ahead given p out at) → length out ≤ size + decoded_ahead → AreEnough c n (length given + size) all → length l.gone + m ≤ all
-enough_lent {n = n} {m} {all} {given = given} {out = out} size is l fits enough =
-    by_channels (λ k. k * (length l.gone + m) ≡ length given + length out → min (length given + size + decoded_ahead) (n * k) ≤ all * k → length l.gone + m ≤ all) is
-    (λ a b. omega (arith, a, b, fits, l.most)) (λ a b. omega (arith, a, b, fits, l.most)) l.ends enough.1
-
 -- chunks were refused for an output that was lent
 pub refuses_lent : {f c m at size : ℕ} {in_memory : Bool} {ahead rest : Option (List ℕ)} {p : Unread} {out : List ℕ} {fault : Option Error} {e : Error}
     → IsChannels c → length out ≤ size + decoded_ahead → ((n : ℕ) (start : Option (List ℕ)) (given : List ℕ) → IsUnread f c n start ahead given p → Lent f c n m start ahead given p out at)
     → RefusesFilling f c in_memory ahead rest (filling p.table (reached p.last at) out) e → fault ≡ Some e → RefusesMore f c size in_memory ahead rest p fault
 refuses_lent {size = size} channels fits lends why is = record {
-  refused = λ n start given h all enough. let l = lends n start given h in faulted _ is (why l.gone _ _ l.before all (enough_lent size channels l fits enough));
+  refused = λ n start given h all enough. let l = lends n start given h in faulted _ is (why l.gone _ _ l.before all (grind (arith, channels, l.ends, l.most, fits, enough.1)));
 }
 
 -- a step after one that gives none
@@ -134,8 +125,8 @@ pub gives_placed : {f c : ℕ} {ahead rest : Option (List ℕ)} {p : Unread} {be
     → GivesMore f c ahead rest p (record p { table = table; last = to.last; run = run; undecoded = p.undecoded - to.at }) (now ++ behind) to.at
 gives_placed {f} {c} {ahead} {rest} {p} {before} {out} {table} {to} {run} now behind is asks long fits same written takes sizes size =
     let whole = asks.pixels in
-    let room : to.at + 256 ≤ p.undecoded = omega (arith, sizes.within, size, placed_most c before out is, fits) in
-    let short : run ≤ raw_per_byte = by_channels (λ d. run ≤ d * run_max → run ≤ raw_per_byte) is (λ a. omega (arith, a)) (λ a. omega (arith, a)) sizes.run_short in
+    let room : to.at + 256 ≤ p.undecoded = omega (arith, sizes.within, size, length-take (length before / c * c) out, whole_within c (length before) is, fits) in
+    let short : run ≤ raw_per_byte = grind (arith, is, sizes.run_short) in
     record {
       read = λ n start given h.
           let l = piece_lent p before out is h asks.none whole long fits same written in

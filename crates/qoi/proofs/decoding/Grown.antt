@@ -10,7 +10,7 @@ use Rattle.qoi.specs.Verdicts.{IsPartOfChunk}
 use Rattle.qoi.specs.inner.Hashed.{pixel_of_lanes, HoldsSeen}
 use Rattle.qoi.specs.inner.Filling.{Reached, Filling, reached, filling, IsFillable, DecoderBetween}
 use Rattle.qoi.specs.inner.Chunks.{TakesMore, RefusesFilling}
-use Rattle.qoi.proofs.format.WholePixels.{by_channels, whole_pixels}
+use Rattle.qoi.proofs.format.WholePixels.{whole_pixels}
 use Rattle.qoi.proofs.decoding.TakenBytes.{pixels_most}
 use Rattle.qoi.proofs.decoding.Progress.{fewer, stays_more, start_between}
 use Rattle.std.proofs.KnownBytes.{Consumes-trans}
@@ -18,7 +18,7 @@ use Rattle.qoi.proofs.format.ChunkSteps.{length-meaning}
 
 -- if n pixels have more bytes than m, they are more
 more_pixels : (c m n size more : ℕ) → IsChannels c → size ≡ c * m → size + more ≡ c * n → m ≤ n
-more_pixels c m n size more is = by_channels (λ k. size ≡ k * m → size + more ≡ k * n → m ≤ n) is (λ a b. omega arith) (λ a b. omega arith)
+more_pixels c m n size more is few many = grind (arith, is)
 
 -- a buffer that isn't full may have bytes more
 pub grows : {f c : ℕ} {gone : Past} {m : ℕ} {start ahead : Option (List ℕ)} {table out : List ℕ} {now : Reached} → IsChannels c
@@ -46,12 +46,15 @@ abbrev pub Growing : ℕ → ℕ → Option (List ℕ) → Option (List ℕ) →
 Growing f c start ahead table now out = (n : ℕ) (more : List ℕ) → length out + length more ≡ c * n
     → DecoderBetween f c [] n start ahead (filling table now (out ++ more))
 
+-- n pixels have a whole number of bytes
+whole_count : (c n size : ℕ) → IsChannels c → size ≡ c * n → (size / c ≡ n) × (size % c ≡ 0)
+whole_count c n size is e = grind (arith, is)
+
 -- before the first chunk
 pub growing_start : (f c : ℕ) (ahead : Option (List ℕ)) (table : List ℕ) (last : ℕ) (out : List ℕ) → IsChannels c → length out ≡ 0
     → HoldsSeen table [] → pixel_of_lanes last ≡ start → Growing f c ahead ahead table (reached last 0) out
 growing_start f c ahead table last [] is empty blank opaque n more size =
-    let many : length more / c ≡ n = by_channels (λ k. 0 + length more ≡ k * n → length more / k ≡ n) is (λ e. omega arith) (λ e. omega arith) size in
-    let whole : length more % c ≡ 0 = by_channels (λ k. 0 + length more ≡ k * n → length more % k ≡ 0) is (λ e. omega arith) (λ e. omega arith) size in
+    let (many, whole) = whole_count c n (length more) is (omega (arith, size)) in
     subst (λ k. DecoderBetween f c [] k ahead ahead (filling table (reached last 0) more)) many (start_between f c ahead table last more is whole blank opaque)
 growing_start f c ahead table last (x ∷ out) is empty blank opaque n more size = absurd (omega arith)
 
@@ -70,18 +73,17 @@ lent_back len buf items size = ap (λ k. take k (buf ++ drop (length buf) items)
 -- what stands between two chunks can be filled
 pub between_fillable : {f c : ℕ} {gone : Past} {n : ℕ} {start ahead : Option (List ℕ)} {now : Filling} → IsChannels c → DecoderBetween f c gone n start ahead now → IsFillable c now.out now.at
 between_fillable {c = c} {n = n} {now = now} is s =
-    let P : ℕ → Type 0 = λ k. length now.out ≡ k * n → now.at ≡ k * min n (length s.recent) → (now.at ≤ length now.out)
-    × (length now.out % k ≡ 0) × (now.at % k ≡ 0) in
-    let all = by_channels P is (λ room at. (omega arith, omega arith, omega arith)) (λ room at. (omega arith, omega arith, omega arith)) s.filled.room s.filled.at_is in
-    record { three_or_four = is; within = all.0; whole = (all.1, all.2) }
+    let room = s.filled.room in
+    let at = s.filled.at_is in
+    record { three_or_four = is; within = grind (arith, is, room, at); whole = (grind (arith, is, room), grind (arith, is, at)) }
 
 -- a step is whole pixels
 pub whole_step : (c len new : ℕ) → IsChannels c → len % c ≡ 0 → new ≡ len + GROWTH * c → new % c ≡ 0
-whole_step c len new is = by_channels (λ k. len % k ≡ 0 → new ≡ len + GROWTH * k → new % k ≡ 0) is (λ a b. omega arith) (λ a b. omega arith)
+whole_step c len new is whole e = grind (arith, is)
 
 -- fewer bytes are no more pixels
 pub fewer_pixels : (c few many : ℕ) → IsChannels c → few ≤ many → few / c ≤ many / c
-fewer_pixels c few many is = by_channels (λ k. few ≤ many → few / k ≤ many / k) is (λ l. omega arith) (λ l. omega arith)
+fewer_pixels c few many is l = grind (arith, is)
 
 -- if a stream gives no whole chunk, it is refused
 pub stream_refused : {f c : ℕ} {fits : Bool} {ahead middle : Option (List ℕ)} {old now : Filling} (new : Option (List ℕ)) (part : List ℕ) → TakesMore f c fits ahead middle old now
@@ -100,6 +102,10 @@ stream_refused {middle = middle} new part on inside took is_part e gone n first 
       ),
     )
 
+-- so many bytes of pixels, a run for each byte at most
+at_most_raw : (c n at few size : ℕ) → IsChannels c → at ≡ c * min n few → few ≤ 62 * size → at ≤ raw_per_byte * size
+at_most_raw c n at few size is e l = grind (arith, is)
+
 -- what is written is at most `raw_per_byte` for each byte ahead
 pub written_most : {f c : ℕ} {gone : Past} {n : ℕ} {now : Filling} (start new : Option (List ℕ)) → IsChannels c → DecoderBetween f c gone n start new now
     → IfSome start (λ bytes. now.at ≤ raw_per_byte * length bytes)
@@ -110,8 +116,7 @@ written_most {c = c} {gone = gone} {n = n} {now = now} (Some bytes) (Some rest) 
     let many = pixels_most [] s.after.cs s.after.chunks in
     let fewer : length past ≤ length (then_chunks [] s.after.cs) = omega (arith, ap length s.after.pixels, length-append s.recent gone) in
     let size : length bytes ≡ length (chunk_bytes s.after.cs) + length rest = ap length s.after.taken ∙ length-append (chunk_bytes s.after.cs) rest in
-    let P : ℕ → Type 0 = λ k. now.at ≡ k * min n (length past) → now.at ≤ raw_per_byte * length bytes in
-    by_channels P is (λ e. omega (arith, many, fewer, size)) (λ e. omega (arith, many, fewer, size)) s.filled.at_is
+    at_most_raw c n now.at (length past) (length bytes) is s.filled.at_is (omega (arith, many, fewer, size))
 
 -- so is what has some bytes more, and these
 pub at_most : (start : Option (List ℕ)) (few many more : ℕ) → many ≤ few + more → IfSome start (λ bytes. few ≤ raw_per_byte * length bytes)

@@ -1,6 +1,5 @@
 -- The size of an image in bytes and in pixels.
-use Rattle.std.proofs.Common.{◌≡◌, ℕ, ◌*◌, ◌/◌, ◌≤◌, inl, inr, List, Option, length, take, ap, ◌∙◌, arith}
-use Rattle.std.proofs.lemmas.List.{length-take-le}
+use Rattle.std.proofs.Common.{◌≡◌, ℕ, ◌*◌, ◌/◌, ◌≤◌, inl, inr, List, Option, length, take, ap, ◌∙◌, arith, length-take-le}
 use Rattle.qoi.specs.declared.types.Channels.TheVariants.{Rgb, Rgba}
 use Rattle.qoi.specs.Qoi.{Channels, Header, channels_number, meaning, pixel_count, run_max}
 use Rattle.qoi.specs.Raw.{IsChannels, byte_count, raw_per_byte}

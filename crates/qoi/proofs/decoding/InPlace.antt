@@ -9,7 +9,6 @@ use Rattle.qoi.specs.inner.Hashed.{pixel_of_lanes, HoldsSeen, HasSeen}
 use Rattle.qoi.specs.inner.Filling.{Reached, Filling, filling, HasWritten, DecoderAfter, DecoderBetween}
 use Rattle.qoi.specs.pieces.Unread.{LacksRun, TakesInPlace}
 use Rattle.qoi.proofs.format.SeenTable.{holds_seen_copies, previous_copies}
-use Rattle.qoi.proofs.format.WholePixels.{by_channels}
 use Rattle.qoi.proofs.decoding.FirstChunk.{front}
 use Rattle.qoi.proofs.decoding.Progress.{after_chunk, taken_as, split_taken, front_behind}
 use Rattle.qoi.proofs.decoding.PieceSteps.{copies, closes, output_copies}
@@ -26,16 +25,13 @@ then_run {start} {rest = rest} {table' = table'} {last} {all} count some most s 
 
 -- what is left of whole pixels behind whole pixels
 pub times_rest : (c size at : ℕ) → IsChannels c → size % c ≡ 0 → at % c ≡ 0 → size - at ≡ c * ((size - at) / c)
-times_rest c size at is =
-    by_channels (λ d. size % d ≡ 0 → at % d ≡ 0 → size - at ≡ d * ((size - at) / d)) is (λ a b. omega (arith, a, b)) (λ a b. omega (arith, a, b))
+times_rest c size at is all now = grind (arith, is)
 
 -- of a run so many copies are left that together they are all
 parts_of_run : (c k count run rest : ℕ) (p : RgbaPixel) → IsChannels c → rest ≡ c * k → rest ≤ c * count → run ≡ c * count - rest
     → replicate (run / c) p ++ replicate k p ≡ replicate count p
-parts_of_run c k count run rest p is some most left = replicate-append-replicate (run / c) k p ∙ ap (λ m. replicate m p) (sum is some most left)
-  where
-    sum : IsChannels c → rest ≡ c * k → rest ≤ c * count → run ≡ c * count - rest → run / c + k ≡ count
-    sum is = by_channels (λ d. rest ≡ d * k → rest ≤ d * count → run ≡ d * count - rest → run / d + k ≡ count) is (λ a b e. omega (arith, a, b, e)) (λ a b e. omega (arith, a, b, e))
+parts_of_run c k count run rest p is some most left =
+    let sum : run / c + k ≡ count = grind (arith, is) in replicate-append-replicate (run / c) k p ∙ ap (λ m. replicate m p) sum
 
 -- the byte of a run is taken
 pub next_taken : (bytes : List ℕ) (taken count : ℕ) → taken < length bytes → count + 191 ≡ slice_index bytes taken

@@ -1,13 +1,12 @@
 -- A mark of a reader, and the reader that goes on from it, also if bytes are appended behind the
 -- image.
-use Rattle.std.proofs.Common.{◌≡◌, ◌∙◌, ℕ, List, ◌++◌, Some, false, sym, ap, subst, append_assoc, ◌≤◌, ◌-◌, ◌+◌, length, drop, refl, length-append, arith}
+use Rattle.std.proofs.Common.{◌≡◌, ◌∙◌, ℕ, List, ◌++◌, Some, false, sym, ap, subst, append_assoc, ◌≤◌, ◌-◌, ◌+◌, length, drop, refl, length-append, arith, drop_at}
 use Rattle.std.specs.Io.KnownBytes.{Consumes}
 use Rattle.qoi.specs.Qoi.{channels_number, chunk_bytes, end_marker, IsValid, header_size}
 use Rattle.qoi.specs.DecoderState.{DecoderState}
 use Rattle.qoi.specs.pieces.PixelReader.{PixelsState, HasGiven}
 use Rattle.qoi.specs.pieces.Unread.{Unread, KeepsPixels, IsUnread}
 use Rattle.qoi.proofs.decoding.PixelPieces.{byte_bounds, has_given}
-use Rattle.std.proofs.lemmas.List.{drop_at}
 use Rattle.qoi.specs.Decoded.{HasHeader}
 use Rattle.qoi.specs.pieces.Mark.{MarkState, mark_of, reader_at, MarksGiven}
 
@@ -61,8 +60,7 @@ unfolding MarksGiven
 marks_given d e file bytes given p m is made h =
     let (front, all, size) = stands_in d e file bytes p.reader given p made h in
     let at : (length file - length p.reader) + length p.reader ≡ header_size + length bytes = omega (arith, ap length all, length-append front p.reader, size) in
-    subst (λ (m : MarkState). (rest : List ℕ) × (m.at + length rest ≡ header_size + length bytes) × HasGiven d (Some bytes) (Some rest) given (reader_at m rest)) (sym is)
-    (p.reader, at, h)
+    rw is (p.reader, at, h)
 
 -- the same if bytes are appended
 pub marks_then : (d e : DecoderState (List ℕ)) (file bytes given more : List ℕ) (p : PixelsState (List ℕ)) (m : MarkState) → m ≡ mark_of (length file - length p.reader) p
@@ -70,12 +68,8 @@ pub marks_then : (d e : DecoderState (List ℕ)) (file bytes given more : List �
     → HasHeader e (Some file) (Some bytes) → HasGiven d (Some bytes) (Some p.reader) given p → MarksGiven d (bytes ++ more) given m
 unfolding MarksGiven
 marks_then d e file bytes given more p m is valid keeps made h =
-    subst (λ m. MarksGiven d (bytes ++ more) given m) (sym is)
-    (let (rest, at, h) = marks_given d e file bytes given p (mark_of (length file - length p.reader) p) refl made h in (
-      rest ++ more,
-      omega (arith, at, length-append rest more, length-append bytes more),
-      given_then d bytes rest given more _ _ valid refl refl refl refl keeps h,
-    ))
+    let (rest, at, h) = marks_given d e file bytes given p (mark_of (length file - length p.reader) p) refl made h in
+    rw is (rest ++ more, omega (arith, at, length-append rest more, length-append bytes more), given_then d bytes rest given more _ _ valid refl refl refl refl keeps h)
 
 -- a reader of which it was read goes on behind the mark
 pub goes_on_at : (d e : DecoderState (List ℕ)) (file bytes given : List ℕ) (m : MarkState) → HasHeader e (Some file) (Some bytes) → MarksGiven d bytes given m
@@ -86,5 +80,5 @@ goes_on_at d e file bytes given m made (rest, at, h) =
     let same : m.at ≡ length front = omega (arith, at, size) in
     let behind : drop m.at file ≡ rest = ap (drop m.at) all ∙ drop_at front rest m.at (sym same) in (
       omega (arith, ap length all, length-append front rest, same),
-      subst (λ z. HasGiven d (Some bytes) (Some z) given (reader_at m z)) (sym behind) h,
+      rw behind h,
     )

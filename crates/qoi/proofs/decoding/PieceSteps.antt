@@ -1,19 +1,18 @@
 -- A piece more: what is unread, before and after chunks are decoded.
-use Rattle.std.proofs.Common.{◌≡◌, ℕ, ◌+◌, ◌-◌, ◌*◌, ◌/◌, ◌%◌, ◌<◌, ◌≤◌, List, [], ◌∷◌, ◌++◌, length, take, drop, replicate, reverse, min, inl, inr, Option, arith, refl, sym, ap, ◌∙◌, subst, append_assoc, append-nil, length-append}
+use Rattle.std.proofs.Common.{◌≡◌, ℕ, ◌+◌, ◌-◌, ◌*◌, ◌/◌, ◌%◌, ◌<◌, ◌≤◌, List, [], ◌∷◌, ◌++◌, length, take, drop, replicate, reverse, min, inl, inr, Option, arith, refl, sym, ap, ◌∙◌, subst, append_assoc, append-nil, length-append, take-add}
 use Rattle.std.proofs.lemmas.List.{length-replicate, length-reverse, reverse-append, length-take, length-take-le, length-drop, take-append-le, take-take, take_all, drop-drop}
 use Rattle.std.proofs.lemmas.Bool.{cases_lt}
-use Rattle.std.proofs.Math.Seq.{take-add}
 use borrow.Rule.Slice.PartMut.{put_mid}
 use Rattle.std.proofs.lemmas.Grind.{flat_map-append}
-use Rattle.qoi.specs.Qoi.{Chunk, Past, RgbaPixel, Each, AreChunks, pixel_after, times, then_chunk, then_chunks}
+use Rattle.qoi.specs.Qoi.{Chunk, Past, RgbaPixel, Each, AreChunks, then_chunk, then_chunks}
 use Rattle.qoi.specs.Raw.{IsChannels, pixel_bytes, output}
 use Rattle.qoi.specs.Decoding.{ReadsImage}
 use Rattle.qoi.specs.inner.Filling.{Reached, HasWritten, reached, filling, DecoderAfter, DecoderBetween}
 use Rattle.qoi.specs.inner.Hashed.{pixel_of_lanes}
 use Rattle.qoi.specs.pieces.Unread.{Unread, kept_count, kept_raw, bytes_left, KeepsWithin, KeepsNothing, KeepsPixels, IsUnread, LacksRun}
-use Rattle.qoi.proofs.format.ChunkSteps.{times_some, reverse-replicate, length-then_chunks}
+use Rattle.qoi.proofs.format.ChunkSteps.{times_some, reverse-replicate, length-then_chunk, length-then_chunks}
 use Rattle.qoi.proofs.format.LaneBytes.{front_put}
-use Rattle.qoi.proofs.format.WholePixels.{by_channels, whole_pixels, length-output, take_whole}
+use Rattle.qoi.proofs.format.WholePixels.{whole_pixels, length-output, take_whole}
 use Rattle.qoi.proofs.decoding.Progress.{fewer, none_written}
 
 -- as many copies of a pixel as have so many bytes
@@ -28,10 +27,7 @@ longer past cs = omega (arith, length-then_chunks past cs)
 stay_within : (m : ℕ) (past : Past) (cs : List Chunk) → AreChunks cs → length (then_chunks past cs) ≤ m → Each (λ past c. length past < m) past cs
 stay_within m past [] are most = tt
 stay_within m past (c ∷ cs) are most =
-    let p = pixel_after past c in (
-      omega (arith, most, longer (then_chunk past c) cs, length-append (replicate (times c) p) past, length-replicate (times c) p, times_some c are.0),
-      stay_within m (then_chunk past c) cs are.1 most,
-    )
+    (omega (arith, most, longer (then_chunk past c) cs, length-then_chunk past c, times_some c are.0), stay_within m (then_chunk past c) cs are.1 most)
 
 -- what stands after an output that isn't full
 abbrev pub Closed : (f c : ℕ) (gone : Past) (start ahead : Option (List ℕ)) (table : List ℕ) (now : Reached) (given out : List ℕ) → Type 0
@@ -67,37 +63,22 @@ pub gone_count : (f c n m : ℕ) (gone : Past) (given : List ℕ) (undecoded : �
     → length given + undecoded ≡ c * n → (undecoded ≡ c * m → length gone + m ≡ n) × (c * m ≤ undecoded → length gone + m ≤ n)
 gone_count f c n m gone given undecoded is so_far all =
     let size : length given ≡ c * length gone = ap length so_far ∙ length-output f c (reverse gone) is ∙ ap (λ k. c * k) (length-reverse gone) in
-    by_channels (λ k. length given ≡ k * length gone → length given + undecoded ≡ k * n
-    → (undecoded ≡ k * m → length gone + m ≡ n) × (k * m ≤ undecoded → length gone + m ≤ n)) is
-    (λ a b. (λ d. omega arith, λ d. omega arith)) (λ a b. (λ d. omega arith, λ d. omega arith)) size all
+    (λ d. grind (arith, is, size, all), λ d. grind (arith, is, size, all))
 
 -- and with those of an output as many as its bytes, too
 gone_bytes : (f c m : ℕ) (gone : Past) (given out : List ℕ) → IsChannels c → given ≡ output f c (reverse gone) → length out ≡ c * m
     → c * (length gone + m) ≡ length given + length out
 gone_bytes f c m gone given out is so_far many =
     let size : length given ≡ c * length gone = ap length so_far ∙ length-output f c (reverse gone) is ∙ ap (λ k. c * k) (length-reverse gone) in
-    by_channels (λ k. length given ≡ k * length gone → length out ≡ k * m → k * (length gone + m) ≡ length given + length out) is (λ a b. omega (arith, a, b))
-    (λ a b. omega (arith, a, b)) size many
-
--- from the beginning on
-none_off : (n : ℕ) → n - 0 ≡ n
-none_off n = omega arith
-
--- so many bytes from the beginning on
-from_none : (n : ℕ) → n ≡ 0 + n
-from_none n = omega arith
+    grind (arith, is, size, many)
 
 -- no bytes, no copies
 pub no_copies : (c run last : ℕ) (gone : Past) → IsChannels c → run ≡ 0 → copies c run last ++ gone ≡ gone
-no_copies c run last gone is none = ap (λ z. z ++ gone) (by_channels (λ d. run ≡ 0 → copies d run last ≡ []) is (λ e. rw e refl) (λ e. rw e refl) none)
+no_copies c run last gone is none = let few : run / c ≡ 0 = grind (arith, is, none) in rw few refl
 
--- the whole pixels in so many bytes
-whole_within : (c size : ℕ) → IsChannels c → size / c * c ≤ size
-whole_within c size is = by_channels (λ k. size / k * k ≤ size) is (omega arith) (omega arith)
-
--- those, counted by channels
-whole_times : (c size : ℕ) → IsChannels c → size / c * c ≡ c * (size / c)
-whole_times c size is = by_channels (λ k. size / k * k ≡ k * (size / k)) is (omega arith) (omega arith)
+-- the whole pixels in so many bytes, behind which fewer than a pixel's follow, and how many they are by channels
+pub whole_within : (c size : ℕ) → IsChannels c → (size / c * c ≤ size) × (size < size / c * c + 4) × (size / c * c ≡ c * (size / c))
+whole_within c size is = grind (arith, is)
 
 -- an output that is lent with nothing kept, and `at` bytes of a run at its front
 pub record Lent (f c n m : ℕ) (start old : Option (List ℕ)) (given : List ℕ) (p : Unread) (out : List ℕ) (at : ℕ) : Type 0 where
@@ -114,8 +95,9 @@ begun : {f c : ℕ} {gone : Past} {start ahead : Option (List ℕ)} {table : Lis
 begun {f} {c} {gone} {start} {ahead} {table} {last} m run out is s size whole fits bytes =
     let recent = copies c run last in
     let many : run ≡ c * (run / c) = whole_pixels c run is whole in
-    let few : run / c ≤ m = by_channels (λ d. run ≤ length out → length out ≡ d * m → run / d ≤ m) is (λ a b. omega (arith, a, b)) (λ a b. omega (arith, a, b)) fits size in
+    let few : run / c ≤ m = grind (arith, is, fits, size) in
     let count : length recent ≡ run / c = length-replicate (run / c) (pixel_of_lanes last) in
+    let least : run / c ≡ min m (length recent) = omega (arith, few, count) in
     let long : length (output f c recent) ≡ run = length-output f c recent is ∙ ap (λ k. c * k) count ∙ sym many in
     record {
       recent = recent;
@@ -123,13 +105,10 @@ begun {f} {c} {gone} {start} {ahead} {table} {last} m run out is s size whole fi
       stays_below = stay_within (length gone + m) [] s.cs s.chunks (omega (arith, ap length s.pixels, length-append recent gone, count, few));
       filled = record {
         room = size;
-        at_is = many ∙ ap (λ k. c * k) (sym (least m (run / c) few) ∙ ap (λ k. min m k) (sym count));
+        at_is = many ∙ ap (λ k. c * k) least;
         same = bytes ∙ sym (take_all run (output f c recent) (omega (arith, long))) ∙ ap (λ z. take run (output f c z)) (sym (reverse-replicate (run / c) (pixel_of_lanes last)));
       };
     }
-  where
-    least : (m k : ℕ) → k ≤ m → min m k ≡ k
-    least m k le = omega (arith, le)
 
 -- the same of what is unread
 run_lent : {f c n : ℕ} {start old : Option (List ℕ)} {given : List ℕ} (p : Unread) (m : ℕ) (out : List ℕ) → IsChannels c → IsUnread f c n start old given p
@@ -150,8 +129,8 @@ run_lent {f} {c} {n} {start} {old} {given} p m out is h same some size fits whol
 pub lent : {f c n : ℕ} {start old : Option (List ℕ)} {given : List ℕ} {p : Unread} (m : ℕ) (out : List ℕ) → IsChannels c → IsUnread f c n start old given p
     → KeepsNothing p → 0 < p.undecoded → length out ≡ c * m → length out ≤ p.undecoded → Lent f c n m start old given p out 0
 lent {f} {c} {n} {start} {old} {given} {p} m out is h none some size fits =
-    subst (Lent f c n m start old given p out) none.1 (run_lent p m out is h none.0 some size fits (rw none.1 (none_written c is)) (omega (arith, none))
-    (by_channels (λ d. take p.run out ≡ output f c (copies d p.run p.last)) is (rw none.1 refl) (rw none.1 refl)))
+    let few : p.run / c ≡ 0 = grind (arith, is, none) in
+    subst (Lent f c n m start old given p out) none.1 (run_lent p m out is h none.0 some size fits (rw none.1 (none_written c is)) (omega (arith, none)) (rw (few, none.1) refl))
 
 -- the whole pixels of an output with a run in front are lent
 pub piece_lent : {f c n : ℕ} {start old : Option (List ℕ)} {given : List ℕ} (p : Unread) (before out : List ℕ) → IsChannels c → IsUnread f c n start old given p
@@ -162,10 +141,10 @@ piece_lent {c = c} p before out is h same whole long fits same_size written =
     let size = length before / c * c in
     let within = whole_within c (length before) is in
     let all : length (take size out) ≡ size = length-take-le size out (omega (arith, same_size, within)) in
-    let room : 256 ≤ size = by_channels (λ d. 256 ≤ length before / d * d) is (omega (arith, long)) (omega (arith, long)) in
-    let run : p.run ≤ size = by_channels (λ d. p.run ≤ d * 62 → p.run ≤ size) is (λ a. omega (arith, a, room)) (λ a. omega (arith, a, room)) whole.3 in
-    let stored = take-take p.run size out run ∙ ap (λ k. take k out) (whole_pixels c p.run is whole.2 ∙ from_none (c * (p.run / c))) ∙ written.same in
-    run_lent p (length before / c) (take size out) is h same (omega (arith, fits)) (all ∙ whole_times c (length before) is) (omega (arith, all, within, fits)) whole.2 (omega (arith, all, run)) stored
+    let run : p.run ≤ size = grind (arith, is, long, within, whole.3) in
+    let many : p.run ≡ 0 + c * (p.run / c) = omega (arith, whole_pixels c p.run is whole.2) in
+    let stored = take-take p.run size out run ∙ ap (λ k. take k out) many ∙ written.same in
+    run_lent p (length before / c) (take size out) is h same (omega (arith, fits)) (all ∙ within.2) (omega (arith, all, within, fits)) whole.2 (omega (arith, all, run)) stored
 
 -- the rest of a run is kept
 pub run_kept : {f c n : ℕ} {start now : Option (List ℕ)} {given : List ℕ} (p : Unread) (bytes : List ℕ) → IsChannels c → IsUnread f c n start now given p
@@ -176,8 +155,8 @@ run_kept {f} {c} {n} {start} {now} {given} p bytes is h same some whole room wri
     let fits : p.run < p.undecoded = whole.4 some in
     let (gone, stands, all) = h.goes_on (omega (arith, fits)) in
     let recent = copies c p.run p.last in
-    let many : p.run ≡ c * (p.run / c) = whole_pixels c p.run is whole.2 in
-    let stored : take (p.run - 0) bytes ≡ output f c recent = ap (λ k. take k bytes) (none_off p.run ∙ many ∙ from_none (c * (p.run / c))) ∙ written.same in
+    let many : p.run - 0 ≡ 0 + c * (p.run / c) = omega (arith, whole_pixels c p.run is whole.2) in
+    let stored : take (p.run - 0) bytes ≡ output f c recent = ap (λ k. take k bytes) many ∙ written.same in
     record {
       size = omega (arith, same, h.size, fits);
       goes_on = λ _. (
@@ -192,22 +171,16 @@ run_kept {f} {c} {n} {start} {now} {given} p bytes is h same some whole room wri
 pub front_most : (c : ℕ) (out : List ℕ) → IsChannels c → (length (take (length out / c * c) out) ≤ length out) × (length out < length (take (length out / c * c) out) + 4)
 front_most c out is =
     let within = whole_within c (length out) is in
-    let size = length-take-le (length out / c * c) out within in
-    let near : length out < length out / c * c + 4 = by_channels (λ k. length out < length out / k * k + 4) is (omega arith) (omega arith) in
-    (omega (arith, size, within), omega (arith, size, near))
+    let size = length-take-le (length out / c * c) out within.0 in
+    (omega (arith, size, within), omega (arith, size, within))
 
 -- the whole pixels at the front of an output are lent
 pub front_lent : {f c n : ℕ} {start old : Option (List ℕ)} {given : List ℕ} (p : Unread) (out : List ℕ) → IsChannels c → IsUnread f c n start old given p
     → KeepsNothing p → length out ≤ bytes_left p → 0 < length out
     → Lent f c n (length out / c) start old given p (take (length out / c * c) out) 0
 front_lent {c = c} p out is h none fits some =
-    let most = front_most c out is in
-    lent (length out / c) (take (length out / c * c) out) is h none (omega (arith, none, fits, some)) (length-take-le (length out / c * c) out (whole_within c (length out) is) ∙ whole_times c (length out) is) (omega (arith, none, fits, most.0))
-
--- no more than the output's bytes are lent
-pub placed_most : (c : ℕ) (before out : List ℕ) → IsChannels c → length (take (length before / c * c) out) ≤ length before
-placed_most c before out is =
-    omega (arith, length-take (length before / c * c) out, whole_within c (length before) is)
+    let within = whole_within c (length out) is in
+    lent (length out / c) (take (length out / c * c) out) is h none (omega (arith, none, fits, some)) (length-take-le (length out / c * c) out within.0 ∙ within.2) (omega (arith, none, fits, length-take (length out / c * c) out))
 
 -- a piece of what was lent was taken
 pub piece_read : {f c n : ℕ} {start old new : Option (List ℕ)} {given : List ℕ} {p : Unread} {table : List ℕ} (gone : Past)
@@ -240,8 +213,7 @@ pub long_read : {f c n m : ℕ} {start old new : Option (List ℕ)} {given : Lis
     → DecoderBetween f c l.gone m start new (filling table to now) → to.at < length now → length now ≤ p.undecoded
     → IsUnread f c n start new (given ++ take to.at (now ++ rest)) (record p { table = table; last = to.last; undecoded = p.undecoded - to.at })
 long_read {f} {c} {n} {m} {start} {old} {new} {given} {p} {out} {table} {to} now rest is h same l after inside fits =
-    subst (λ k. IsUnread f c n start new (given ++ take to.at (now ++ rest)) (record p { table = table; last = to.last; run = k; undecoded = p.undecoded - to.at })) (sym same.1)
-    (piece_read l.gone now rest to 0 h same.0 l.so_far (piece_stops now is inside after) (omega (arith, inside)) (omega (arith, inside, fits)))
+    rw same.1 (piece_read l.gone now rest to 0 h same.0 l.so_far (piece_stops now is inside after) (omega (arith, inside)) (omega (arith, inside, fits)))
 
 -- chunks were decoded into the front of what is kept
 pub kept_read : {f c n m : ℕ} {start old new : Option (List ℕ)} {given : List ℕ} {p : Unread} {out : List ℕ} {table : List ℕ} {to : Reached}
@@ -250,9 +222,14 @@ pub kept_read : {f c n m : ℕ} {start old new : Option (List ℕ)} {given : Lis
     → IsUnread f c n start new given (record p { table = table; last = to.last; bytes = now ++ rest; from = 0; to = to.at; undecoded = p.undecoded - to.at })
 kept_read {f} {c} {n} {m} {start} {old} {new} {given} {p} {out} {table} {to} now rest is h same l after inside fits =
     let (all, stands, e) = closes given now is after inside l.so_far in
+    let at : to.at - 0 ≡ to.at = omega arith in
     record {
       size = omega (arith, same, h.size, inside, fits);
-      goes_on = λ some. (all, subst (DecoderAfter start new table to.last) (sym (no_copies c p.run to.last all is same.1)) stands, ap (λ k. given ++ take k (now ++ rest)) (none_off to.at) ∙ ap (λ z. given ++ z) (take-append-le to.at now rest (omega (arith, inside))) ∙ e);
+      goes_on = λ some. (
+        all,
+        subst (DecoderAfter start new table to.last) (sym (no_copies c p.run to.last all is same.1)) stands,
+        ap (λ k. given ++ take k (now ++ rest)) at ∙ ap (λ z. given ++ z) (take-append-le to.at now rest (omega (arith, inside))) ∙ e,
+      );
       ends = λ none. absurd (omega (arith, none, inside, fits));
     }
 
@@ -269,13 +246,12 @@ pub rest_read : {f c n m : ℕ} {start old new : Option (List ℕ)} {given : Lis
     → p.undecoded ≤ length now → p.undecoded ≡ c * m
     → IsUnread f c n start new given (record p { table = table; last = last; bytes = now; from = 0; to = p.undecoded; undecoded = 0 })
 rest_read {f} {c} {n} {m} {start} {old} {new} {given} {p} {out} {table} {last} now is h same l read fits all =
-    let none = same.0 in
     let count : length l.gone + m ≡ n = rest_count is h same l all in
+    let size : p.undecoded - 0 ≡ p.undecoded = omega arith in
     record {
-      size = omega (arith, none, h.size);
+      size = omega (arith, same, h.size);
       goes_on = λ some. absurd (omega arith);
-      ends = λ _. subst (ReadsImage f c n start new) (ap (λ z. z ++ take p.undecoded now) (sym l.so_far) ∙ ap (λ k. given ++ take k now) (sym (none_off p.undecoded)))
-          (subst (λ k. ReadsImage f c k start new (output f c (reverse l.gone) ++ take p.undecoded now)) count read);
+      ends = λ _. rw (size, l.so_far, ← count) read;
     }
 
 -- the rest of the image are whole pixels
@@ -284,8 +260,8 @@ pub rest_whole : {f c n : ℕ} {start now : Option (List ℕ)} {given : List ℕ
 rest_whole {f} {c} {n} {start} {now} {given} {p} is h same some =
     let (gone, stands, all) = h.goes_on some in
     let size : length given ≡ c * length gone = ap length (sym (none_kept p given same) ∙ all) ∙ length-output f c (reverse gone) is ∙ ap (λ k. c * k) (length-reverse gone) in
-    by_channels (λ k. length given ≡ k * length gone → length given + (p.to - p.from + p.undecoded) ≡ k * n → p.undecoded ≡ k * (p.undecoded / k)) is
-    (λ a b. omega (arith, same)) (λ a b. omega (arith, same)) size h.size
+    let all = h.size in
+    grind (arith, is, size, all, same)
 
 -- kept bytes were given
 pub gives : {f c n : ℕ} {start now : Option (List ℕ)} {given : List ℕ} (p new : Unread) (k : ℕ) → new ≡ record p { from = p.from + k } → k ≤ p.to - p.from
@@ -319,10 +295,6 @@ pub record GoesOn (f c n : ℕ) (start ahead : Option (List ℕ)) (table : List 
   pub bytes_are : given ++ behind ≡ output f c (reverse all)
   pub fewer : length all < n
 
--- no more bytes are kept
-pub kept_most : (p : Unread) → length (kept_raw p) ≤ p.to - p.from
-kept_most p = omega (arith, length-take (p.to - p.from) (drop p.from p.bytes))
-
 -- pixels are missing behind a run
 run_short : (c : ℕ) (p : Unread) → KeepsPixels c p → 0 < p.undecoded → p.run < p.undecoded
 run_short c p whole some = elim (cases_lt 0 p.run) [ inl run ↦ whole.4 run | inr none ↦ omega (arith, none, some) ]
@@ -345,8 +317,7 @@ still_goes {f} {c} {n} {start} {now} {given} p is h whole some =
       stands = stands;
       behind = kept_raw p ++ one;
       bytes_are = bytes;
-      fewer = by_channels (λ d. length given + length (kept_raw p) ≡ d * length gone → length given + (p.to - p.from + p.undecoded) ≡ d * n → k ≡ p.run / d → length (replicate k px ++ gone) < n) is
-          (λ a b e. omega (arith, count, kept_most p, fewer)) (λ a b e. omega (arith, count, kept_most p, fewer)) size h.size refl;
+      fewer = grind (arith, is, size, h.size, count, length-take (p.to - p.from) (drop p.from p.bytes), fewer);
     }
 
 -- two parts of a piece that were read
@@ -357,4 +328,4 @@ read_two given front more i j within some =
 
 -- what whole pixels are left of whole ones
 pub minus_whole : (c a b : ℕ) → IsChannels c → a % c ≡ 0 → b % c ≡ 0 → (a - b) % c ≡ 0
-minus_whole c a b is = by_channels (λ k. a % k ≡ 0 → b % k ≡ 0 → (a - b) % k ≡ 0) is (λ h g. omega arith) (λ h g. omega arith)
+minus_whole c a b is h g = grind (arith, is)

@@ -1,6 +1,6 @@
 -- What was given of an image, and rows of it, as a caller sees it: the pieces so far are the beginning
 -- of the image ahead.
-use Rattle.std.proofs.Common.{◌≡◌, ℕ, ◌+◌, ◌-◌, ◌*◌, ◌<◌, inl, inr, List, [], ◌++◌, length, take, reverse, Option, None, Some, IfSome, arith, refl, sym, ap, ◌∙◌, append_assoc, ◌≤◌, ◌^◌, drop, Bool, true, false, subst}
+use Rattle.std.proofs.Common.{◌≡◌, ℕ, ◌+◌, ◌-◌, ◌*◌, ◌<◌, inl, inr, List, [], ◌++◌, length, take, reverse, Option, None, Some, IfSome, arith, refl, sym, ap, ◌∙◌, append_assoc, ◌≤◌, ◌^◌, drop, Bool, true, false, subst, mul_comm, mul-add}
 use Rattle.std.proofs.lemmas.List.{drop_at, drop-take, length-append, length-reverse, reverse-append, reverse-reverse, take_all}
 use Rattle.std.proofs.lemmas.Bool.{cases_lt}
 use Rattle.std.proofs.lemmas.Grind.{flat_map-append}
@@ -16,7 +16,6 @@ use Rattle.qoi.proofs.decoding.FrontImage.{image_begins, image_is}
 use Rattle.qoi.proofs.decoding.ImageSize.{channels_are}
 use Rattle.qoi.proofs.decoding.PieceSteps.{still_goes, none_kept}
 use Rattle.qoi.proofs.decoding.TakenBytes.{bytes_within, read_within}
-use Rattle.std.proofs.Math.Nat.{mul_comm, mul-add}
 use Rattle.std.proofs.KnownBytes.{Keeps-refl}
 use Rattle.qoi.specs.declared.types.Channels.TheVariants.{Rgb, Rgba}
 use Rattle.qoi.specs.Decoding.{ReadsImage}

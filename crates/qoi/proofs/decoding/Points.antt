@@ -9,7 +9,7 @@ use Rattle.qoi.specs.pieces.Unread.{kept_raw, IsUnread}
 use Rattle.qoi.specs.inner.Filling.{DecoderAfter}
 use Rattle.qoi.specs.pieces.RowIndex.{PointState, StandsAt, ReadsFile, IsPointOf, GoesOnAt, file_decoder}
 use Rattle.qoi.proofs.format.HeaderBytes.{header_front}
-use Rattle.qoi.proofs.format.WholePixels.{by_channels, whole_pixels, length-output}
+use Rattle.qoi.proofs.format.WholePixels.{whole_pixels, length-output}
 use Rattle.qoi.proofs.decoding.ImageSize.{channels_are}
 use Rattle.qoi.proofs.decoding.PieceSteps.{copies, none_kept, kept_long, gone_count}
 use Rattle.qoi.proofs.decoding.PixelPieces.{byte_bounds, has_given}
@@ -53,17 +53,11 @@ point_stands channels h file p row m s (is, given, r) =
 
 -- the bytes of all pixels are those before the point and behind it
 all_bytes : (c gone left n given undecoded : ℕ) → IsChannels c → given ≡ c * gone → undecoded ≡ left * c → gone + left ≡ n → given + undecoded ≡ c * n
-all_bytes c gone left n given undecoded is g u all =
-    by_channels (λ k. given ≡ k * gone → undecoded ≡ left * k → given + undecoded ≡ k * n) is (λ a b. omega (arith, a, b, all)) (λ a b. omega (arith, a, b, all)) g u
-
--- a run in bytes and back
-run_back : (c run bytes : ℕ) → IsChannels c → bytes ≡ run * c → run ≡ bytes / c
-run_back c run bytes is e = by_channels (λ k. bytes ≡ run * k → run ≡ bytes / k) is (λ a. omega (arith, a)) (λ a. omega (arith, a)) e
+all_bytes c gone left n given undecoded is g u all = grind (arith, is)
 
 -- fewer pixels have fewer bytes, and some have some
 fewer_bytes : (c run left bytes undecoded : ℕ) → IsChannels c → bytes ≡ run * c → undecoded ≡ left * c → run < left → bytes < undecoded
-fewer_bytes c run left bytes undecoded is a b less =
-    by_channels (λ k. bytes ≡ run * k → undecoded ≡ left * k → bytes < undecoded) is (λ p q. omega (arith, p, q, less)) (λ p q. omega (arith, p, q, less)) a b
+fewer_bytes c run left bytes undecoded is a b less = grind (arith, is)
 
 -- the file behind the point is the rest of its chunks
 rest_at : (file : List ℕ) (n : ℕ) (m : PointState) (p : StandsAt n file m) → drop m.at file ≡ p.rest
@@ -83,7 +77,8 @@ point_resumes channels h file m q s is p =
     let start = Some (drop header_size file) in
     let given = output f c (reverse p.gone) in
     let reader : q.reader ≡ p.rest = s.reader ∙ rest_at file n m p in
-    let same : replicate m.run m.last ≡ copies c q.unread.run q.unread.last = copies_of c q.unread.run q.unread.last m.run m.last (run_back c m.run q.unread.run is_c s.run) (sym s.last) in
+    let run : m.run ≡ q.unread.run / c = grind (arith, is_c, s.run) in
+    let same : replicate m.run m.last ≡ copies c q.unread.run q.unread.last = copies_of c q.unread.run q.unread.last m.run m.last run (sym s.last) in
     let all : then_chunks [] p.cs ≡ copies c q.unread.run q.unread.last ++ p.gone = p.pixels ∙ ap (λ z. z ++ p.gone) same in
     let after : DecoderAfter start (Some q.reader) q.unread.table q.unread.last (copies c q.unread.run q.unread.last ++ p.gone) = record {
       cs = p.cs;
@@ -124,17 +119,8 @@ stands_then n file more m long p = record {
 }
 
 -- what is left at a point, in bytes
-left_at : (channels : Channels) (h : Header) (rest : List ℕ) (m : PointState) (q : PixelsState (List ℕ)) → GoesOnAt channels h rest m q → unread_bytes q ≡ m.left * channels_number channels
-unfolding unread_bytes
-left_at channels h rest m q s = omega (arith, s.none, s.left)
-
--- the same of a reader that may be refused
-pub goes_on_in_file : (channels : Channels) (h : Header) (file : List ℕ) (m : PointState) (r : Result (PixelsState (List ℕ)) Error) → IfOk r (GoesOnAt channels h (drop m.at file) m)
-    → header_of file ≡ Ok h → StandsAt (pixel_count h) file m → IfOk r (ReadsFile channels h file)
-goes_on_in_file channels h file m (Ok q) s is p = point_resumes channels h file m q s is p
-goes_on_in_file channels h file m (Err e) s is p = tt
-
 pub goes_on_left : (channels : Channels) (h : Header) (rest : List ℕ) (m : PointState) (r : Result (PixelsState (List ℕ)) Error) → IfOk r (GoesOnAt channels h rest m)
     → IfOk r (λ p. unread_bytes p ≡ m.left * channels_number channels)
-goes_on_left channels h rest m (Ok q) s = left_at channels h rest m q s
+unfolding unread_bytes
+goes_on_left channels h rest m (Ok q) s = omega (arith, s.none, s.left)
 goes_on_left channels h rest m (Err e) s = tt

@@ -1,5 +1,5 @@
 -- A decoder between two chunks: what it has taken, filled and seen.
-use Rattle.std.proofs.Common.{◌≡◌, ℕ, suc, ◌+◌, ◌*◌, ◌/◌, ◌%◌, ◌<◌, ◌≤◌, inl, inr, List, [], ◌∷◌, ◌++◌, length, take, drop, take-append-drop, replicate, reverse, min, Bool, true, false, IsTrue, Option, None, Some, IfSome, arith, refl, sym, ap, ◌∙◌, subst, append_assoc, length-append}
+use Rattle.std.proofs.Common.{◌≡◌, ℕ, suc, ◌+◌, ◌/◌, ◌%◌, ◌<◌, ◌≤◌, inl, inr, List, [], ◌∷◌, ◌++◌, length, take, drop, take-append-drop, replicate, reverse, Bool, true, false, IsTrue, Option, None, Some, IfSome, arith, refl, sym, ap, ◌∙◌, subst, append_assoc, length-append}
 use Rattle.qoi.specs.Qoi.{Error, Chunk, RgbaPixel, Past, AreBytes, start, bytes_of, chunk_bytes, pixel_after, times, then_chunks, meaning, Reaches, end_marker, IsChunk, Each, then_chunk}
 use Rattle.std.specs.Io.KnownBytes.{Consumes}
 use Rattle.std.proofs.KnownBytes.{Consumes-nil, Consumes-trans}
@@ -14,7 +14,7 @@ use Rattle.std.proofs.lemmas.Grind.{flat_map-append}
 use Rattle.std.proofs.lemmas.List.{append_cancel_right, length-reverse, reverse-append}
 use Rattle.std.proofs.Math.Seq.{take-append-add}
 use Rattle.qoi.proofs.format.SomeVerdict.{reading_of}
-use Rattle.qoi.proofs.format.WholePixels.{by_channels, whole_pixels}
+use Rattle.qoi.proofs.format.WholePixels.{whole_pixels}
 use Rattle.qoi.proofs.decoding.FilledBuffer.{counts, filled_all}
 use Rattle.qoi.proofs.format.SeenTable.{previous_copies}
 use Rattle.qoi.proofs.decoding.StreamReads.{refused_after, bytes_refused}
@@ -30,7 +30,7 @@ fewer {c = c} {n = n} {at = at} {out = out} {past = past} is h inside =
 
 -- none is a whole number of pixels
 pub none_written : (c : ℕ) → IsChannels c → 0 % c ≡ 0
-none_written c is = by_channels (λ k. 0 % k ≡ 0) is refl refl
+none_written c is = grind (arith, is)
 
 -- an output of whole pixels can be filled from its first byte
 pub fillable_whole : {c : ℕ} {out : List ℕ} → IsChannels c → length out % c ≡ 0 → IsFillable c out 0
@@ -43,12 +43,8 @@ start_between f c ahead table last out is whole blank opaque = record {
   recent = [];
   after = record { cs = []; chunks = tt; pixels = refl; taken = Consumes-nil ahead; has_seen = record { table_is = blank; last_is = opaque } };
   stays_below = tt;
-  filled = record { room = whole_pixels c (length out) is whole; at_is = none c is; same = refl };
+  filled = record { room = whole_pixels c (length out) is whole; at_is = grind (arith, is); same = refl };
 }
-  where
-    none : (c : ℕ) → IsChannels c → 0 ≡ c * min (length out / c) 0
-    none c is = by_channels (λ k. 0 ≡ k * min (length out / k) 0) is (omega arith)
-        (omega arith)
 
 -- one more chunk was taken and seen
 pub after_chunk : {start ahead rest : Option (List ℕ)} {table table' : List ℕ} {last last' : ℕ} {past : Past} (chunk : Chunk) → IsChunk chunk → DecoderAfter start ahead table last past

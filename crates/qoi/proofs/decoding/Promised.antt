@@ -1,25 +1,23 @@
 -- What a success and a refusal promise follows from what they mean, also which errors refuse known
 -- bytes ahead of a decoder.
-use Rattle.std.proofs.Common.{◌/◌, ◌≡◌, ℕ, List, Bool, true, false, Option, Some, inl, inr, refl, subst, ◌≤◌, ◌<◌, ◌+◌, ◌*◌, [], take, length, None, IfSome, Ok, ◌-◌, ◌^◌, min, ◌++◌, drop, sym, ◌∙◌, ap, arith, Err}
+use Rattle.std.proofs.Common.{◌/◌, ◌≡◌, ℕ, List, Bool, true, false, Option, Some, inl, inr, refl, subst, ◌≤◌, ◌<◌, ◌+◌, ◌*◌, [], take, length, None, IfSome, Ok, ◌-◌, ◌^◌, min, ◌++◌, drop, sym, ◌∙◌, ap, arith, Err, mul_comm, append-nil, append_assoc, length-append, length-drop, take-append-drop, take_at}
 use Rattle.qoi.specs.Styles.{Style}
 use Rattle.qoi.specs.Decoding.{RefusesBytes, RefusesImage, RefusesTaken, DecodesFile, ReadsImage, ReadsHeader, TakesHeader, RefusesFile}
 use Rattle.qoi.specs.Verdicts.{AreWrong, AreCut, IsWhole}
 use Rattle.qoi.specs.Errors.{IsErrorOfCut, IsErrorOfWrong, IsIoError}
 use Rattle.qoi.proofs.decoding.StreamVerdicts.{cut_is_io_error, padding_is_wrong}
 use Rattle.qoi.proofs.format.OneVerdict.{cut_not_wrong, whole_not_cut, whole_not_wrong}
-use Rattle.std.proofs.Math.Nat.{mul_comm}
-use Rattle.std.proofs.lemmas.List.{append-nil, append_assoc, length-append, length-drop, take-append-drop, take_at}
 use Rattle.qoi.specs.declared.types.Channels.TheVariants.{Rgb, Rgba}
 use Rattle.qoi.specs.Qoi.{Error, UnexpectedBufferEnd, InvalidPadding, IoError, Chunk, Header, Channels, channels_number, pixel_count, header_size, header_of, IsFile, IsValid, AreBytes, file}
 use Rattle.qoi.specs.Raw.{HasImageLength, capped_byte_count, image_byte_count, byte_count}
 use Rattle.qoi.specs.DecoderState.{DecoderState, output_byte_count}
 use Rattle.qoi.specs.inner.Chunks.{Conversion, conversion_of, ReadsIn}
-use Rattle.qoi.specs.Images.{front_image, front_rest, file_image, file_image_in, file_rest}
-use Rattle.qoi.specs.Reading.{IsImage, StandsAhead}
+use Rattle.qoi.specs.Images.{front_image, file_rest}
+use Rattle.qoi.specs.Reading.{IsImage}
 use Rattle.qoi.specs.Decoded.{HasHeader, HasRefusedHeader, HasDecoded, HasRefused, HasDecodedFile, HasRefusedFile}
 use Rattle.qoi.specs.Encoded.{IsFileOf}
-use Rattle.qoi.proofs.decoding.Ahead.{decoder_of, fault_ahead, file_ahead, header_front, header_read_from, file_from_image, fourth_of_image, image_not_cut, image_not_wrong, image_read_from}
-use Rattle.qoi.proofs.decoding.TakenBytes.{nine_taken, whole_holds, read_within, refused_within}
+use Rattle.qoi.proofs.decoding.Ahead.{decoder_of, fault_ahead, file_ahead, header_front, header_read, file_from_image, fourth_of_image, image_read, image_stands}
+use Rattle.qoi.proofs.decoding.TakenBytes.{whole_holds, read_within, refused_within}
 use Rattle.qoi.proofs.decoding.FrontImage.{file_image_is, file_rest_then, image_after, image_in_after, image_is, rest_is, some_pixels, three_of_front, decodes_after, decodes_more, file_has_header, file_is_whole, header_is_one}
 use Rattle.qoi.proofs.decoding.ImageSize.{bounded_by, channels_are, image_length, pixels_of_size}
 use Rattle.qoi.proofs.format.HeaderBytes.{header_front as header_at_front}
@@ -44,34 +42,18 @@ padding_or_io n taken (IoError x) why = inr tt
 padding_or_io n taken InvalidPadding why = inl refl
 padding_or_io n taken _ none = absurd none
 
--- what refuses cut bytes
-pub refused_for_cut : (in_memory : Bool) (n : ℕ) (old new : Option (List ℕ)) (e : Error) (bytes : List ℕ) → old ≡ Some bytes → AreCut n bytes
-    → RefusesImage in_memory n old new e → IsErrorOfCut in_memory e
-refused_for_cut true n old new e bytes told cut refused =
-    cut_in_memory n bytes e cut (subst (λ z. RefusesImage true n z new e) told refused).1
-refused_for_cut false n old new e bytes told (cs, part, cut) refused =
-    cut_is_io_error n bytes cs part new e cut (subst (λ z. RefusesImage false n z new e) told refused)
-
--- what refuses wrong bytes
-pub refused_for_wrong : (in_memory : Bool) (n : ℕ) (old new : Option (List ℕ)) (e : Error) (bytes : List ℕ) → old ≡ Some bytes
-    → AreWrong n bytes → RefusesImage in_memory n old new e → IsErrorOfWrong in_memory e
-refused_for_wrong true n old new e bytes told wrong refused =
-    wrong_in_memory n bytes e wrong (subst (λ z. RefusesImage true n z new e) told refused).1
-refused_for_wrong false n old new e bytes told wrong (taken, took, why) = padding_or_io n taken e why
-
--- only cut bytes are refused for their end
-pub end_is_cut : (in_memory : Bool) (n : ℕ) (old new : Option (List ℕ)) (e : Error) (bytes : List ℕ) → old ≡ Some bytes → e ≡ UnexpectedBufferEnd
-    → RefusesImage in_memory n old new e → AreCut n bytes
-end_is_cut true n old new e bytes told is refused = (rw (told, is) at refused).1
-end_is_cut false n old new e bytes told is (taken, took, none) = absurd (rw is at none)
-
--- only wrong bytes are refused for their padding
-pub padding_is_only_wrong : (in_memory : Bool) (n : ℕ) (old new : Option (List ℕ)) (e : Error) (bytes : List ℕ) → old ≡ Some bytes
-    → e ≡ InvalidPadding → RefusesImage in_memory n old new e → AreWrong n bytes
-padding_is_only_wrong true n old new e bytes told is refused = (rw (told, is) at refused).1
-padding_is_only_wrong false n old new e bytes told is (taken, took, why) =
-    let w = padding_is_wrong n bytes new taken (rw told at took) (rw is at why) in
-    (w.2, (w.0, w.1, w.3))
+-- what refuses cut bytes, and wrong ones; and which bytes are refused for their end, and which for their padding
+says_of : (in_memory : Bool) (n : ℕ) (bytes : List ℕ) (new : Option (List ℕ)) (e : Error) → RefusesImage in_memory n (Some bytes) new e
+    → (AreCut n bytes → IsErrorOfCut in_memory e) × (AreWrong n bytes → IsErrorOfWrong in_memory e)
+    × (e ≡ UnexpectedBufferEnd → AreCut n bytes) × (e ≡ InvalidPadding → AreWrong n bytes)
+says_of true n bytes new e (kept, why) =
+    (λ cut. cut_in_memory n bytes e cut why, λ wrong. wrong_in_memory n bytes e wrong why, λ is. rw is at why, λ is. rw is at why)
+says_of false n bytes new e (taken, took, why) = (
+  λ (cs, part, cut). cut_is_io_error n bytes cs part new e cut (taken, took, why),
+  λ wrong. padding_or_io n taken e why,
+  λ is. absurd (rw is at why),
+  λ is. let w = padding_is_wrong n bytes new taken took (rw is at why) in (w.2, (w.0, w.1, w.3)),
+)
 
 -- what holds of known bytes
 pub if_known : (old : Option (List ℕ)) (P : List ℕ → Type 0) → ((bytes : List ℕ) → old ≡ Some bytes → P bytes) → IfSome old P
@@ -83,20 +65,16 @@ pub has_header : {R : Type 0} (d : DecoderState R) (old new : Option (List ℕ))
     → HasHeader d old new
 has_header d old new takes own =
     let front : (bytes : List ℕ) → old ≡ Some bytes → (header_of bytes ≡ Ok d.header) × (new ≡ Some (drop header_size bytes)) =
-    (λ bytes told. header_read_from old new bytes d.header takes told) in
+    (λ bytes told. header_read old new bytes d.header takes told) in
     record {
       takes = takes;
       channels = own;
       header = if_known old _ (λ bytes told. (front bytes told).0);
       after = if_known old _ (λ bytes told. (front bytes told).1);
       image = if_known old _ (λ bytes told.
-          let (read, left) = front bytes told in
-          subst (λ o. IfSome o (λ ahead. (front_image d.channels d.header ahead ≡ file_image bytes) × (front_rest d.header ahead ≡ file_rest bytes))) (sym left)
-          (image_after d.channels d.header bytes read own));
+          let (read, left) = front bytes told in rw left (image_after d.channels d.header bytes read own));
       image_in = if_known old _ (λ bytes told.
-          let (read, left) = front bytes told in
-          subst (λ o. IfSome o (λ ahead. (channels : Channels) → front_image channels d.header ahead ≡ file_image_in channels bytes)) (sym left)
-          (λ channels. image_in_after channels d.header bytes read));
+          let (read, left) = front bytes told in rw left (λ channels. image_in_after channels d.header bytes read));
       made = if_known old _ (λ bytes told.
           let parts = header_front old new bytes d.header takes told in decoder_of d bytes (drop header_size bytes) parts.0 parts.1 own);
     }
@@ -119,35 +97,30 @@ has_refused_header old new e r = record {
   fault = if_known old _ (λ bytes told h read. header_fault bytes new e h (subst (λ z. ReadsHeader false z new (Err e)) told r) read);
 }
 
--- an image that is read stands ahead
-image_stands : {channels : Channels} (h : Header) (bytes rest out : List ℕ) → IsImage channels bytes h rest out → StandsAhead h bytes
-unfolding StandsAhead
-image_stands h bytes rest out is = (is.cs, rest, is.whole)
-
 -- what a success promises
 pub has_decoded : {R : Type 0} (d : DecoderState R) (old new : Option (List ℕ)) (out : List ℕ) → HasImageLength (output_byte_count d) out
     → ReadsImage (channels_number d.header.channels) (channels_number d.channels) (pixel_count d.header) old new out → HasDecoded d old new out
 has_decoded d old new out size r =
     let stands : (bytes : List ℕ) → old ≡ Some bytes → (rest : List ℕ) × (new ≡ Some rest) × IsImage d.channels bytes d.header rest out =
-    (λ bytes told. image_read_from (λ _. old) d bytes new out r told) in
+    (λ bytes told. image_read d.channels d.header bytes new out (rw told at r)) in
     let many : 3 ≤ pixel_count d.header * channels_number d.channels = omega (arith, size.0, size.1) in
     record {
       reads = r;
       image = if_known old _ (λ bytes told. let s = stands bytes told in (image_is d.channels d.header bytes s.0 out s.2, s.1 ∙ ap Some (rest_is d.channels d.header bytes s.0 out s.2)));
       took = if_known old _ (λ bytes told. let s = stands bytes told in
-          subst (λ o. IfSome o (λ rest. length rest + 9 ≤ length bytes)) (sym s.1) (nine_taken (pixel_count d.header) bytes s.2.cs s.0 (some_pixels _ _ many) s.2.whole));
+          subst (λ o. IfSome o (λ rest. length rest + 9 ≤ length bytes)) (sym s.1) ((whole_holds _ bytes s.2.cs s.0 s.2.whole).1 (some_pixels _ _ many)));
       rest = stands;
       stands = if_known old _ (λ bytes told. let s = stands bytes told in image_stands d.header bytes s.0 out s.2);
-      file = λ source ahead made told. file_from_image (λ _. old) d source ahead new out made told stands;
+      file = λ source ahead made told. file_from_image d source ahead new out made (stands ahead told);
       rgb = λ three. if_known old _ (λ bytes told. let s = stands bytes told in
           image_is d.channels d.header bytes s.0 out s.2 ∙ ap (λ c. front_image c d.header bytes) three ∙ three_of_front d.header bytes);
       opaque = λ four three i below. fourth_of_image _ _ _ old new out r (ap channels_number three) (ap channels_number four) i below;
       first_opaque = λ four three. fourth_of_image _ _ _ old new out r (ap channels_number three) (ap channels_number four) 0 (some_pixels _ _ many);
       size = size;
       within = read_within _ _ _ old new out r;
-      enough = if_known old _ (λ bytes told. let s = stands bytes told in whole_holds _ bytes s.2.cs s.0 s.2.whole);
-      not_cut = λ bytes told cut. let s = stands bytes told in image_not_cut _ _ bytes s.0 out s.2 cut;
-      not_wrong = λ bytes told wrong. let s = stands bytes told in image_not_wrong _ _ bytes s.0 out s.2 wrong;
+      enough = if_known old _ (λ bytes told. let s = stands bytes told in (whole_holds _ bytes s.2.cs s.0 s.2.whole).0);
+      not_cut = λ bytes told (cs, part, cut). let s = stands bytes told in whole_not_cut _ bytes s.2.cs cs s.0 part s.2.whole cut;
+      not_wrong = λ bytes told (more, (cs, eight, wrong)). let s = stands bytes told in whole_not_wrong _ bytes s.2.cs cs s.0 eight more s.2.whole wrong;
     }
 
 pub has_refused : {R : Type 0} (in_memory : Bool) (d : DecoderState R) (old new : Option (List ℕ)) (e : Error)
@@ -156,10 +129,10 @@ has_refused in_memory d old new e r = record {
   why = r;
   not_whole = λ memory bytes rest cs told whole. whole_not_refused_in in_memory _ old new e bytes cs rest memory told whole r;
   fault = if_known old _ (λ bytes told stands. fault_ahead in_memory d.header old new e bytes stands told r);
-  cut = λ bytes told cut. refused_for_cut in_memory _ old new e bytes told cut r;
-  wrong = λ bytes told wrong. refused_for_wrong in_memory _ old new e bytes told wrong r;
-  only_cut = λ bytes told is. end_is_cut in_memory _ old new e bytes told is r;
-  only_wrong = λ bytes told is. padding_is_only_wrong in_memory _ old new e bytes told is r;
+  cut = λ bytes told. (says_of in_memory _ bytes new e (rw told at r)).0;
+  wrong = λ bytes told. (says_of in_memory _ bytes new e (rw told at r)).1;
+  only_cut = λ bytes told. (says_of in_memory _ bytes new e (rw told at r)).2;
+  only_wrong = λ bytes told. (says_of in_memory _ bytes new e (rw told at r)).3;
   within = refused_within in_memory _ old new e r;
 }
 

@@ -1,7 +1,6 @@
 -- An index of the rows of a file's image, and readers of that image.
 use Rattle.std.proofs.Common.{◌≡◌, ◌≤◌, ◌<◌, ◌+◌, ◌-◌, ◌*◌, ◌/◌, ◌%◌, ◌∙◌, ℕ, List, [], ◌∷◌, ◌++◌, length, length-append, min, drop, Option, Some, Result, Ok, Err, IfOk, IfErr, OnOk, IsOk, true, inl, inr, refl, sym, ap, subst, append_assoc, take, slice_index_or, false, zero-add, arith}
 use Rattle.std.proofs.lemmas.List.{drop-append-le, get_or_append_left, length-take-le, take-append-drop}
-use Rattle.std.proofs.lemmas.List.Elements.{All-nil, All-push}
 use Rattle.std.proofs.lemmas.Result.{on_ok_weaker}
 use Rattle.qoi.specs.Decoded.{HasHeader, HasRefusedFile}
 use Rattle.qoi.specs.DecoderState.{DecoderState}
@@ -70,10 +69,6 @@ never_refused channels h file p n new (Ok x) refuses reads whole = refl
 never_refused channels h file p n new (Err e) refuses (is, given, g) (cs, rest, whole) =
     absurd ((refuses (file_decoder channels h file) (Some (drop header_size file)) given g).why.not_whole refl (drop header_size file) rest cs refl whole)
 
--- a refused header is a refusal of the file
-pub refused_header : (file : List ℕ) (e : Error) → header_of file ≡ Err e → HasRefusedFile file e
-refused_header file e is = has_refused_file file e (inl is)
-
 -- a reader of the file goes on
 pub still_going : (channels : Channels) (h : Header) (file : List ℕ) (p : PixelsState (List ℕ)) → ReadsFile channels h file p → p.refused ≡ false
 unfolding ReadsFile HasGiven
@@ -85,15 +80,6 @@ unfolding ReadsFile HasGiven StandsAhead
 stands_whole channels h file p (is, given, r) none =
     let (rest, left, image) = (r.whole none).rest (drop header_size file) refl in
     (image.cs, rest, image.whole)
-
--- no points, and one more
-pub no_points : (n : ℕ) (file : List ℕ) → ArePoints n file []
-unfolding ArePoints
-no_points n file = All-nil (StandsAt n file)
-
-pub one_point_more : (n : ℕ) (file : List ℕ) (points : List PointState) (m : PointState) → ArePoints n file points → StandsAt n file m → ArePoints n file (points ++ m ∷ [])
-unfolding ArePoints
-one_point_more n file points m are is = All-push (StandsAt n file) points m are is
 
 -- a header stays whatever is appended
 header_then : (file more : List ℕ) (h : Header) → header_of file ≡ Ok h → header_of (file ++ more) ≡ Ok h
@@ -116,25 +102,15 @@ unfolding IsRowIndex ArePoints StandsAhead
 row_index_then file more points index =
     let long = header_fits file index.h index.header in
     let (cs, rest, whole) = index.whole in
+    let split : drop header_size (file ++ more) ≡ chunk_bytes cs ++ (end_marker ++ (rest ++ more)) =
+    drop-append-le header_size file more long ∙ rw (whole.has.split, append_assoc, append_assoc) in
     record {
       h = index.h;
       every = index.every;
       rows = index.rows;
       header = header_then file more index.h index.header;
       are = λ k d within. stands_then (pixel_count index.h) file more (slice_index_or points k d) long (index.are k d within);
-      whole = (
-        cs,
-        rest ++ more,
-        record {
-          has = record {
-            chunks = whole.has.chunks;
-            stays_below = whole.has.stays_below;
-            split = drop-append-le header_size file more long ∙ ap (λ z. z ++ more) whole.has.split
-                ∙ append_assoc (chunk_bytes cs) (end_marker ++ rest) more ∙ ap (λ z. chunk_bytes cs ++ z) (append_assoc end_marker rest more);
-          };
-          enough = whole.enough;
-        },
-      );
+      whole = (cs, rest ++ more, record { has = record { chunks = whole.has.chunks; stays_below = whole.has.stays_below; split = split }; enough = whole.enough });
     }
 
 -- the image of an index stands whole
@@ -145,9 +121,6 @@ index_whole h file points is index =
     subst (λ (z : Header). StandsAhead z (drop header_size file)) same index.whole
 
 -- what was read, by what is left
-rows_before : (w r k c n left : ℕ) → left ≡ w * r * c → n + left ≡ w * (r + k) * c → n ≡ w * c * k
-rows_before w r k c n left behind all = omega (arith, behind, all)
-
 pub at_row : (channels : Channels) (h : Header) (file : List ℕ) (k : ℕ) (p : PixelsState (List ℕ)) → ReadsFile channels h file p → k ≤ h.height
     → unread_bytes p ≡ h.width * (h.height - k) * channels_number channels
     → HasRows (file_decoder channels h file) (Some (drop header_size file)) (Some p.reader) (row_size channels h) k p
@@ -157,7 +130,7 @@ at_row channels h file k p (is, given, r) within left =
     let rest = h.height - k in
     let split : rest + k ≡ h.height = omega (arith, within) in
     let all : length given + unread_bytes p ≡ h.width * (rest + k) * c = r.left ∙ sym (ap (λ z. h.width * z * c) split) in
-    (given, rows_before h.width rest k c (length given) (unread_bytes p) left all, r)
+    (given, omega (arith, left, all), r)
 
 -- the image of an index has as many rows as its header says
 pub image_size : (h : Header) (file : List ℕ) (points : List PointState) → header_of file ≡ Ok h → IsRowIndex file points → length (file_image file) ≡ row_size h.channels h * h.height
@@ -202,7 +175,7 @@ below_point h every k valid some less =
     let c = channels_number h.channels in
     let stride = row_size h.channels h in
     let rows = decoded_ahead / stride in
-    let wide : 0 < c = by_channels (λ n. 0 < n) (channels_are h.channels c refl) (omega arith) (omega arith) in
+    let wide : 0 < c = grind (arith, channels_are h.channels c refl) in
     let long : 0 < stride = mul-lt 0 0 h.width c (some_width h valid) wide in
     let within : every * (k + 1) ≤ h.height - (1 + rows) =
     omega (arith, mul-le every (k + 1) every (points_count h every) (omega arith) (omega (arith, less)), mul-div-le (h.height - (1 + rows)) every) in

@@ -6,9 +6,8 @@ use Rattle.qoi.specs.inner.Filling.{Filling, DecodesChunk}
 use Rattle.qoi.proofs.format.OneVerdict.{chunks_apart}
 use Rattle.std.proofs.lemmas.Bool.{cases_lt}
 use Rattle.qoi.specs.Qoi.{Error, InvalidPadding, IoError, UnexpectedBufferEnd, Chunk, Place, Diff, Run, Rgb, Rgba, AreBytes, IsChunk, AreChunks, bytes_of, chunk_bytes, Reaches, marker_size}
-use Rattle.qoi.specs.Verdicts.{IsPartOfChunk, HasChunks, AreCut, AreWrongThen}
+use Rattle.qoi.specs.Verdicts.{HasChunks, AreCut, AreWrongThen}
 use Rattle.qoi.specs.Decoding.{RefusesBytes, RefusesTaken}
-use Rattle.qoi.proofs.format.PartOfChunk.{byte_and, part_luma, part_rgb, part_rgba}
 
 -- the front of bytes is bytes
 pub bytes_take : (n : ℕ) (bytes : List ℕ) → AreBytes bytes → AreBytes (take n bytes)
@@ -21,18 +20,6 @@ pub bytes_append : (xs ys : List ℕ) → AreBytes xs → AreBytes ys → AreByt
 bytes_append [] ys h k i = k i
 bytes_append (x ∷ xs) ys h k zero = h 0
 bytes_append (x ∷ xs) ys h k (suc i) = bytes_append xs ys (λ j. h (suc j)) k i
-
--- the first byte of a luma is a part of it
-pub part_read_luma : (b : ℕ) → b < 256 → 128 ≤ b → b < 192 → IsPartOfChunk (b ∷ [])
-part_read_luma b fits low high = part_luma (b ∷ []) (byte_and b [] fits (λ i. omega arith)) (omega arith) low high
-
--- the first byte of RGB and fewer than three more are a part of it
-pub part_read_rgb : (b : ℕ) (more : List ℕ) → b < 256 → AreBytes more → b ≡ 254 → length more < 3 → IsPartOfChunk (b ∷ more)
-part_read_rgb b more fits h is few = part_rgb (b ∷ more) (byte_and b more fits h) (omega arith) is
-
--- the first byte of RGBA and fewer than four more are a part of it
-pub part_read_rgba : (b : ℕ) (more : List ℕ) → b < 256 → AreBytes more → b ≡ 255 → length more < 4 → IsPartOfChunk (b ∷ more)
-part_read_rgba b more fits h is few = part_rgba (b ∷ more) (byte_and b more fits h) (omega arith) is
 
 -- the taken bytes are those of a chunk, and others begin with them
 abbrev pub IsChunkAhead : List ℕ → List ℕ → Type 0

@@ -3,7 +3,7 @@ use Rattle.std.proofs.Common.{◌≡◌, ℕ, zero, suc, ◌+◌, ◌*◌, ◌<�
 use Rattle.std.specs.Io.KnownBytes.{Consumes}
 use Rattle.qoi.specs.Qoi.{Error, InvalidPadding, IoError, Chunk, RgbaPixel, chunk_bytes, meaning, end_marker}
 use Rattle.qoi.specs.Raw.{output, without_fourth}
-use Rattle.qoi.specs.Verdicts.{IsWhole, IsCut, IsWrong, AreWrongThen}
+use Rattle.qoi.specs.Verdicts.{HasChunks, IsWhole, IsCut, IsWrong, AreWrongThen}
 use Rattle.qoi.specs.Decoding.{ReadsImage, RefusesImage, RefusesTaken}
 use Rattle.qoi.specs.Errors.{IsIoError}
 use Rattle.qoi.proofs.format.OneVerdict.{whole_not_wrong, cut_not_wrong}
@@ -12,39 +12,19 @@ use Rattle.qoi.proofs.format.OneVerdict.{whole_not_wrong, cut_not_wrong}
 pub read_is_whole : (f c n : ℕ) (bytes : List ℕ) (left : Option (List ℕ)) (out : List ℕ) → ReadsImage f c n (Some bytes) left out
     → (cs : List Chunk) × (rest : List ℕ) × IsWhole n bytes cs rest × (left ≡ Some rest) × (out ≡ output f c (take n (meaning cs)))
 read_is_whole f c n bytes None out r = absurd r.taken
-read_is_whole f c n bytes (Some rest) out r = (
-  r.cs,
-  rest,
-  record {
-    has = record { chunks = r.chunks; stays_below = r.reaches.stays_below; split = r.taken ∙ append_assoc (chunk_bytes r.cs) end_marker rest };
-    enough =
-        r.reaches.enough;
-  },
-  refl,
-  r.out_is,
-)
+read_is_whole f c n bytes (Some rest) out r =
+    let split : bytes ≡ chunk_bytes r.cs ++ (end_marker ++ rest) = r.taken ∙ append_assoc (chunk_bytes r.cs) end_marker rest in
+    let whole : IsWhole n bytes r.cs rest = record { has = record { chunks = r.chunks; stays_below = r.reaches.stays_below; split = split }; enough = r.reaches.enough } in
+    (r.cs, rest, whole, refl, r.out_is)
 
 -- what was refused for its padding was wrong
 pub padding_is_wrong : (n : ℕ) (bytes : List ℕ) (left : Option (List ℕ)) (taken : List ℕ) → Consumes (Some bytes) left taken → AreWrongThen n taken []
     → (cs : List Chunk) × (eight : List ℕ) × (rest : List ℕ) × IsWrong n bytes cs eight rest × (left ≡ Some rest)
 padding_is_wrong n bytes None taken took wrong = absurd took
-padding_is_wrong n bytes (Some rest) taken took (cs, eight, w) = (
-  cs,
-  eight,
-  rest,
-  record {
-    has = record {
-      chunks = w.has.chunks;
-      stays_below = w.has.stays_below;
-      split = took ∙ ap (λ z. z ++ rest) w.has.split ∙ append_assoc (chunk_bytes cs) (eight ++ []) rest
-          ∙ ap (λ z. chunk_bytes cs ++ (z ++ rest)) (append-nil eight);
-    };
-    enough = w.enough;
-    length_is = w.length_is;
-    other = w.other;
-  },
-  refl,
-)
+padding_is_wrong n bytes (Some rest) taken took (cs, eight, w) =
+    let split : bytes ≡ chunk_bytes cs ++ (eight ++ rest) = took ∙ rw (w.has.split, append_assoc, append-nil) in
+    let has : HasChunks n bytes cs (eight ++ rest) = record { chunks = w.has.chunks; stays_below = w.has.stays_below; split = split } in
+    (cs, eight, rest, record { has = has; enough = w.enough; length_is = w.length_is; other = w.other }, refl)
 
 -- if the bytes are not wrong, a refusal is an i/o error
 only_io_error : (n : ℕ) (bytes : List ℕ) (left : Option (List ℕ)) (taken : List ℕ) (e : Error)

@@ -1,8 +1,6 @@
 -- Files at offsets of longer bytes: they are put, stay, and are read.
-use Rattle.std.proofs.Common.{◌≡◌, ◌≤◌, ℕ, List, [], ◌++◌, Option, None, Some, Result, Ok, IfSome, length, take, drop, refl, arith, ap, sym, subst, ◌∙◌}
-use Rattle.std.proofs.lemmas.List.{append-nil, length-append, length-drop, drop-append-le}
-use Rattle.std.proofs.Math.Seq.{drop-append_seam}
-use lib.Seq.{take-append_seam}
+use Rattle.std.proofs.Common.{◌≡◌, ◌≤◌, ℕ, List, [], ◌++◌, Option, None, Some, Result, Ok, IfSome, length, take, drop, refl, arith, ap, sym, subst, ◌∙◌, append-nil, length-append, length-drop}
+use lib.Seq.{take-append_seam, drop-append-le, drop-append_seam}
 use Rattle.std.specs.Io.KnownBytes.{Appends}
 use Rattle.qoi.specs.Styles.{Style}
 use Rattle.qoi.specs.Encoded.{IsFileOf}
@@ -12,10 +10,6 @@ use Rattle.qoi.specs.Images.{file_image, file_rest, BeginsWithFile}
 use Rattle.qoi.specs.Tiles.{HasTile, HasPicture}
 use Rattle.qoi.proofs.decoding.Ahead.{file_ahead}
 use Rattle.qoi.proofs.decoding.FrontImage.{file_image_is, file_rest_is, decodes_more}
-
--- a file at an offset
-tile_of : (bytes raw : List ℕ) (offset : ℕ) (h : Header) (rest : List ℕ) → DecodesFile (drop offset bytes) h rest raw → HasTile bytes offset raw
-tile_of bytes raw offset h rest f = record { header = h; rest = rest; decodes = f; image = sym (file_image_is (drop offset bytes) h rest raw f) }
 
 -- a tile lies within the bytes
 pub tile_within : (bytes raw : List ℕ) (offset : ℕ) → HasTile bytes offset raw → offset ≤ length bytes
@@ -32,13 +26,13 @@ file_in_front bytes h rest out f =
 -- a file at an offset, with its header
 picture_of : (bytes raw : List ℕ) (offset : ℕ) (h : Header) (rest : List ℕ) → DecodesFile (drop offset bytes) h rest raw → HasPicture bytes offset h raw
 picture_of bytes raw offset h rest f =
-    let tile = tile_of bytes raw offset h rest f in
+    let image = sym (file_image_is (drop offset bytes) h rest raw f) in
     record {
       rest = rest;
       decodes = f;
-      tile = tile;
+      tile = record { header = h; rest = rest; decodes = f; image = image };
       header = f.header;
-      image = tile.image;
+      image = image;
       stands = file_in_front (drop offset bytes) h rest raw f;
     }
 

@@ -32,7 +32,7 @@ pub written_copies : {f c : ℕ} {old mid new : List ℕ} (px at j k n : ℕ) �
     → HasCopies f c at n px old new
 written_copies {f} {c} {old} {mid} {new} px at j k n is sum first more =
     let p = pixel_of_lanes px in
-    let end = by_channels (λ d. at + d * j + d * k ≡ at + d * n) is (omega (arith, sum)) (omega (arith, sum)) in
+    let end : at + c * j + c * k ≡ at + c * n = grind (arith, is, sum) in
     let bytes : output f c (replicate j p) ++ output f c (replicate k p) ≡ output f c (replicate n p) =
     sym (flat_map-append (pixel_bytes f c) (replicate j p) (replicate k p)) ∙ ap (output f c) (replicate-append-replicate j k p ∙ ap (λ m. replicate m p) (sym sum)) in
     record {
@@ -48,7 +48,7 @@ written_fewer {f} {c} {old} {new} px at most count is le within all =
     let p = pixel_of_lanes px in
     let bytes = output f c (replicate most p) in
     let front : length (take at old) ≡ at = length-take-le at old within in
-    let ends = by_channels (λ d. at + d * count ≤ at + d * most) is (omega (arith, le)) (omega (arith, le)) in
+    let ends : at + c * count ≤ at + c * most = grind (arith, is, le) in
     record {
       at_is = ap (λ m. at + c * m) (sym (length-replicate count p));
       same = sym (take-take (at + c * count) (at + c * most) new ends) ∙ ap (take (at + c * count)) all.same
@@ -111,4 +111,4 @@ ends_written px at k count is within most le w1 w2 =
 
 -- eight vectors and eight more have room for the longest run
 pub most_by_eight : (c count : ℕ) → IsChannels c → count ≤ 62 → count ≤ 2 * (8 * (16 / c))
-most_by_eight c count is = by_channels (λ d. count ≤ 62 → count ≤ 2 * (8 * (16 / d))) is (λ le. omega arith) (λ le. omega arith)
+most_by_eight c count is le = grind (arith, is)

@@ -23,6 +23,10 @@ pub byte_value : (value : ℕ → ℕ) (begin from n b : ℕ) → pass (λ b x. 
     → from ≤ b → b < from + n → begin + from + n ≤ 1280 → get_or BYTE_TABLES (begin + b) 0 ≡ value b
 byte_value value begin from n b all low high within = value_at BYTE_TABLES value begin from n b (begin + b) refl all low high within
 
+-- what the second byte of a luma adds
+pub second_adds : (b : ℕ) → b < 256 → get_or BYTE_TABLES b 0 ≡ step (b / 16) 0 (b % 16)
+second_adds b byte = value_at BYTE_TABLES (λ b. step (b / 16) 0 (b % 16)) 0 0 256 b b (omega arith) refl (omega arith) byte (omega arith)
+
 -- how many pixels a chunk has, by its first byte
 abbrev pub count_by : ℕ → ℕ
 count_by b = cond (nat_le 192 b && nat_lt b 254) (b - 191) 1

@@ -1,6 +1,5 @@
 -- What chunks mean are pixels: each of the four numbers is a byte.
-use Rattle.std.proofs.Common.{ℕ, List, [], ◌∷◌, Bool, true, false, zero, suc, replicate, arith}
-use Rattle.std.specs.Prelude.{◌==◌, if◌then◌else◌}
+use Rattle.std.proofs.Common.{ℕ, List, [], ◌∷◌, Bool, true, false, zero, suc, replicate, arith, ◌==◌, if◌then◌else◌}
 use Rattle.std.specs.List.{AllByRecursion}
 use Rattle.qoi.specs.Qoi.{Chunk, Place, Diff, Luma, Run, Rgb, Rgba, RgbaPixel, Past, IsPixel, IsChunk, AreChunks, blank, hash, seen, previous, moved, after_diff, after_luma, pixel_after, times, then_chunk, then_chunks, meaning}
 use Rattle.qoi.proofs.format.ChunkSteps.{all_append, all_reverse}

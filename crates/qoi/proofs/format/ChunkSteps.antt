@@ -1,11 +1,10 @@
 -- Steps through a chunk list: runs and other chunks, the pixels in order, lengths, and lists joined end
 -- to end.
-use Rattle.std.proofs.Common.{◌≡◌, ◌<◌, ◌≤◌, List, [], ◌∷◌, ◌++◌, length, reverse, arith, ap, ◌∙◌, append-nil, ◌⊎◌, inl, inr, ℕ, zero, suc, ◌+◌, false, replicate, refl, sym, append_assoc}
-use Rattle.std.proofs.lemmas.List.{length-reverse, reverse-append, reverse-reverse, length-append, replicate-append-replicate}
+use Rattle.std.proofs.Common.{◌≡◌, ◌<◌, ◌≤◌, List, [], ◌∷◌, ◌++◌, length, reverse, arith, ap, ◌∙◌, append-nil, ◌⊎◌, inl, inr, ℕ, zero, suc, ◌+◌, false, replicate, refl, sym, append_assoc, true≢false}
+use Rattle.std.proofs.lemmas.List.{length-replicate, length-reverse, reverse-append, reverse-reverse, length-append, replicate-append-replicate}
 use Rattle.std.proofs.lemmas.Grind.{flat_map-append}
 use Rattle.std.specs.List.{AllByRecursion}
 use Rattle.qoi.specs.Qoi.{Chunk, Place, Run, bytes_of, chunk_bytes, then_chunks, meaning, RgbaPixel, Past, previous, IsChunk, pixel_after, times, then_chunk, Each}
-use Rattle.std.proofs.lemmas.Bool.{true≢false}
 use Rattle.qoi.specs.Written.{GivesFresh, IsAllowedAfter, IsFullBefore}
 use Rattle.qoi.specs.Styles.{is_run}
 
@@ -106,6 +105,10 @@ then_chunks_given past (c ∷ cs) =
 -- what a chunk list means is what it gives at the start
 pub meaning_given : (cs : List Chunk) → meaning cs ≡ given [] cs
 meaning_given cs = ap reverse (then_chunks_given [] cs) ∙ simp (append-nil, reverse-reverse)
+
+-- the pixels after a chunk are those before it and its own
+pub length-then_chunk : (past : Past) (c : Chunk) → length (then_chunk past c) ≡ times c + length past
+length-then_chunk past c = omega (arith, length-append (replicate (times c) (pixel_after past c)) past, length-replicate (times c) (pixel_after past c))
 
 -- there are as many pixels as are given, and those before
 pub length-then_chunks : (past : Past) (cs : List Chunk) → length (then_chunks past cs) ≡ length (given past cs) + length past

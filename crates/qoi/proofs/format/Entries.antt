@@ -1,7 +1,6 @@
 -- Tables of constants, entry by entry.
-use Rattle.std.proofs.Common.{◌≡◌, ℕ, zero, suc, ◌+◌, ◌-◌, ◌<◌, ◌≤◌, ◌&&◌, Bool, true, List, [], ◌∷◌, length, take, drop, get_or, eqb, eqb-true, arith, ap, subst, ◌∙◌, length-drop}
+use Rattle.std.proofs.Common.{◌≡◌, ℕ, zero, suc, ◌+◌, ◌-◌, ◌<◌, ◌≤◌, ◌&&◌, Bool, true, List, [], ◌∷◌, length, take, drop, get_or, eqb, eqb-true, arith, ap, subst, ◌∙◌, length-drop, length-take-le, get_or-take, get_or-drop}
 use Rattle.std.proofs.lemmas.Bool.{and_parts}
-use Rattle.std.proofs.lemmas.List.{length-take-le, get_or-take, get_or-drop}
 
 -- each entry passes a test of its number and itself; the numbers go up by one from i
 abbrev pub pass : (ℕ → ℕ → Bool) → ℕ → List ℕ → Bool

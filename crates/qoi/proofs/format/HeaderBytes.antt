@@ -1,7 +1,6 @@
 -- A header's fourteen bytes are read as the header, and no other bytes are; and raw bytes of the right
 -- number are accepted with its size: a decoded image can be encoded again.
-use Rattle.std.proofs.Common.{◌≡◌, ℕ, ◌*◌, ◌/◌, ◌%◌, ◌<◌, ◌≤◌, ◌⊎◌, inl, inr, List, length, min, arith, refl, sym, ap, ◌∙◌, subst, Ok, Err, ◌^◌, zero, suc, [], ◌∷◌, ◌++◌, take, drop, Bool, true, false, Option, Result, IfOk, slice_index, nat_le, nat_lt, ◌==◌, cond, ◌&&◌, length-append}
-use Rattle.std.specs.Prelude.{◌==◌, if◌then◌else◌, Result}
+use Rattle.std.proofs.Common.{◌≡◌, ℕ, ◌*◌, ◌/◌, ◌%◌, ◌<◌, ◌≤◌, ◌⊎◌, inl, inr, List, length, min, arith, refl, sym, ap, ◌∙◌, subst, Ok, Err, ◌^◌, zero, suc, [], ◌∷◌, ◌++◌, take, drop, Bool, true, false, Option, Result, IfOk, slice_index, nat_le, nat_lt, ◌==◌, cond, ◌&&◌, length-append, if◌then◌else◌, append-nil, length-take-le, drop_at}
 use Rattle.std.proofs.lemmas.Bool.{eqb-true, cond-true, le-ltb, ltb-false, le-leb, leb-true, and_from, and_parts}
 use Rattle.std.proofs.Math.Nat.{mod-add-div', mul_comm, mul-mod_right, mul-div_cancel_left, mul-zero, le-mul_of_pos_right}
 use Rattle.qoi.specs.declared.types.Channels.TheVariants.{Rgb, Rgba}
@@ -9,7 +8,6 @@ use Rattle.qoi.specs.Qoi.{Error, InvalidImageLength, InvalidMagic, InvalidImageD
 use Rattle.qoi.specs.Raw.{image_byte_count}
 use Rattle.std.specs.Result.{result_and, result_map_both}
 use Rattle.qoi.specs.Encoded.{image_header, measured_channels}
-use Rattle.std.proofs.lemmas.List.{append-nil, length-take-le, drop_at}
 use Rattle.std.proofs.lemmas.Nat.{from_be_bytes-to_be_bytes_4, be_bytes_4}
 use Rattle.std.specs.Int.{w32, to_be_bytes}
 use Rattle.std.specs.Io.KnownBytes.{Consumes}

@@ -1,7 +1,6 @@
 -- The lowest bit that isn't set, where bits say which lanes of two vectors agree.
-use Rattle.std.proofs.Common.{◌≡◌, ℕ, zero, suc, ◌+◌, ◌-◌, ◌*◌, ◌/◌, ◌%◌, ◌^◌, ◌<◌, ◌≤◌, Bool, true, false, cond, eqb, List, ◌∷◌, length, refl, ap, ◌∙◌, arith, pow_mono}
+use Rattle.std.proofs.Common.{◌≡◌, ℕ, zero, suc, ◌+◌, ◌-◌, ◌*◌, ◌/◌, ◌%◌, ◌^◌, ◌<◌, ◌≤◌, Bool, true, false, cond, eqb, List, ◌∷◌, length, refl, ap, ◌∙◌, arith, pow_mono, pow-suc}
 use Rattle.std.specs.List.{common_prefix_len}
-use Rattle.std.proofs.Math.Nat.{pow-suc}
 use Rattle.std.proofs.lemmas.Simd.{mask_l-lt}
 use lib.Count.{count_trailing_zeros, under}
 use lib.Lanes.{zip2, mask_l}

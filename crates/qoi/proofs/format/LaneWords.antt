@@ -1,7 +1,6 @@
 -- Lanes of 32 bits by their bytes, and the first four pixels of raw bytes as lanes.
-use Rattle.std.proofs.Common.{◌≡◌, ℕ, zero, suc, ◌+◌, ◌*◌, ◌/◌, ◌%◌, ◌^◌, ◌<◌, ◌≤◌, List, [], ◌∷◌, ◌++◌, length, take, drop, map, replicate, refl, sym, ap, ◌∙◌, arith}
+use Rattle.std.proofs.Common.{◌≡◌, ℕ, zero, suc, ◌+◌, ◌*◌, ◌/◌, ◌%◌, ◌^◌, ◌<◌, ◌≤◌, List, [], ◌∷◌, ◌++◌, length, take, drop, map, replicate, refl, sym, ap, ◌∙◌, arith, length-take-le, get_or-take}
 use Rattle.std.proofs.lemmas.Simd.{Each1-from_get_or}
-use Rattle.std.proofs.lemmas.List.{length-take-le, get_or-take}
 use lib.Lanes.{Each1, pick_l, number_l, digits_l}
 use Rattle.qoi.specs.Qoi.{AreBytes}
 use Rattle.qoi.specs.Raw.{pixels_of, pixels_of_3, pixels_of_4}

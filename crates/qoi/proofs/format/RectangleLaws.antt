@@ -1,8 +1,7 @@
 -- Rows and rectangles of raw bytes: what they hold, how they are put together, and what is put in.
-use Rattle.std.proofs.Common.{◌≡◌, ◌<◌, ◌≤◌, ◌+◌, ◌-◌, ◌*◌, ◌/◌, ◌%◌, ◌⊎◌, ℕ, zero, suc, List, ◌++◌, length, take, drop, get_or, inl, refl, sym, subst, ◌∙◌, ap, arith}
+use Rattle.std.proofs.Common.{add-one, ◌≡◌, ◌<◌, ◌≤◌, ◌+◌, ◌-◌, ◌*◌, ◌/◌, ◌%◌, ◌⊎◌, ℕ, zero, suc, List, ◌++◌, length, take, drop, get_or, inl, refl, sym, subst, ◌∙◌, ap, arith, take-add}
 use Rattle.std.proofs.lemmas.List.{ext_get_or, append_assoc, append-nil, length-append, length-drop, length-take, take-append-drop, drop-drop, drop-take, take-take, take_all, take_at, drop_at, take-append-le, drop-append-le, get_or-take, get_or-drop}
-use Rattle.std.proofs.Math.Nat.{add-suc, div-add-mod, mod-lt, mul-add, mul-suc, mul-zero, mul_comm, zero-mul, zero-add}
-use Rattle.std.proofs.Math.Seq.{take-add}
+use Rattle.std.proofs.Math.Nat.{add-suc, add-zero, div-add-mod, mod-lt, mul-add, mul-suc, mul-zero, mul_comm, zero-mul, zero-add}
 use Rattle.std.proofs.lemmas.Grind.{common_steps}
 use Rattle.std.proofs.lemmas.Nat.{mul-le, row_fits, row-Below}
 use Rattle.qoi.specs.Rectangles.{row_bytes, rectangle, with_tile, KeepsOutside}
@@ -31,7 +30,7 @@ length-part stride left size k raw fits inside =
 -- one row more
 pub row_more : (stride top left rows size : ℕ) (raw : List ℕ)
     → rectangle stride top left (rows + 1) size raw ≡ rectangle stride top left rows size raw ++ take size (drop left (row_bytes stride raw (top + rows)))
-row_more stride top left rows size raw = let more : rows + 1 ≡ suc rows = omega arith in ap (λ n. rectangle stride top left n size raw) more
+row_more stride top left rows size raw = rw add-one
 
 -- the rows from `top` on, of those that came: row k is kept
 pub row_kept : (stride top left size k : ℕ) (raw : List ℕ) → top ≤ k
@@ -39,34 +38,24 @@ pub row_kept : (stride top left size k : ℕ) (raw : List ℕ) → top ≤ k
 row_kept stride top left size k raw below =
     let up : k + 1 - top ≡ k - top + 1 = omega (arith, below) in
     let at : top + (k - top) ≡ k = omega (arith, below) in
-    ap (λ n. rectangle stride top left n size raw) up ∙ row_more stride top left (k - top) size raw
-    ∙ ap (λ n. rectangle stride top left (k - top) size raw ++ take size (drop left (row_bytes stride raw n))) at
+    rw (up, row_more stride top left (k - top) size raw, at)
 
 -- or it comes before them
 pub row_skipped : (stride top left size k : ℕ) (raw : List ℕ) → k < top
     → rectangle stride top left (k + 1 - top) size raw ≡ rectangle stride top left (k - top) size raw
-row_skipped stride top left size k raw before =
-    let same : k + 1 - top ≡ k - top = omega (arith, before) in
-    ap (λ n. rectangle stride top left n size raw) same
+row_skipped stride top left size k raw before = let same : k + 1 - top ≡ k - top = omega (arith, before) in rw same
 
 -- rows follow one another
 pub rows_follow : (stride top left m n size : ℕ) (raw : List ℕ)
     → rectangle stride top left (m + n) size raw ≡ rectangle stride top left m size raw ++ rectangle stride (top + m) left n size raw
-rows_follow stride top left m zero size raw =
-    let none : m + 0 ≡ m = omega arith in
-    ap (λ k. rectangle stride top left k size raw) none ∙ sym (append-nil (rectangle stride top left m size raw))
+rows_follow stride top left m zero size raw = rw (add-zero, append-nil)
 rows_follow stride top left m (suc n) size raw =
     let next : top + (m + n) ≡ top + m + n = omega arith in
-    ap (λ k. rectangle stride top left k size raw) (add-suc m n)
-    ∙ ap (λ z. z ++ take size (drop left (row_bytes stride raw (top + (m + n))))) (rows_follow stride top left m n size raw)
-    ∙ append_assoc (rectangle stride top left m size raw) (rectangle stride (top + m) left n size raw) _
-    ∙ ap (λ k. rectangle stride top left m size raw ++ (rectangle stride (top + m) left n size raw ++ take size (drop left (row_bytes stride raw k)))) next
+    rw (add-suc m n, rows_follow stride top left m n size raw, append_assoc, next)
 
 -- a rectangle of one row is the part of that row
 pub one_row : (stride top left size : ℕ) (raw : List ℕ) → rectangle stride top left 1 size raw ≡ take size (drop left (row_bytes stride raw top))
-one_row stride top left size raw =
-    let none : top + 0 ≡ top = omega arith in
-    row_more stride top left 0 size raw ∙ ap (λ k. take size (drop left (row_bytes stride raw k))) none
+one_row stride top left size raw = rw add-zero
 
 -- a rectangle that lies within the rows has `size` bytes of each
 pub length-rectangle : (stride top left rows size : ℕ) (raw : List ℕ) → left + size ≤ stride → stride * (top + rows) ≤ length raw
@@ -96,8 +85,7 @@ whole_rows stride top (suc rows) raw = next (whole_rows stride top rows raw)
 
 -- the whole picture is a rectangle of itself
 pub whole_picture : (stride rows : ℕ) (raw : List ℕ) → length raw ≡ stride * rows → rectangle stride 0 0 rows stride raw ≡ raw
-whole_picture stride rows raw size =
-    whole_rows stride 0 rows raw ∙ ap (λ n. take (stride * rows) (drop n raw)) (mul-zero stride) ∙ take_all (stride * rows) raw (omega (arith, size))
+whole_picture stride rows raw size = rw (whole_rows stride 0 rows raw, mul-zero) (take_all (stride * rows) raw (omega (arith, size)))
 
 -- a row of the picture is a rectangle of one row
 pub picture_row : (stride k : ℕ) (raw : List ℕ) → rectangle stride k 0 1 stride raw ≡ row_bytes stride raw k
@@ -127,14 +115,13 @@ pub rectangle_of_rectangle : (stride top left rows size t l r s : ℕ) (raw : Li
     → rectangle size t l r s (rectangle stride top left rows size raw) ≡ rectangle stride (top + t) (left + l) r s raw
 rectangle_of_rectangle stride top left rows size t l zero s raw fits inside within below = refl
 rectangle_of_rectangle stride top left rows size t l (suc r) s raw fits inside within below =
-    let inner = rectangle stride top left rows size raw in
     let at : top + (t + r) ≡ top + t + r = omega arith in
-    ap (λ z. z ++ take s (drop l (row_bytes size inner (t + r))))
-    (rectangle_of_rectangle stride top left rows size t l r s raw fits inside within (omega (arith, below)))
-    ∙ ap (λ z. rectangle stride (top + t) (left + l) r s raw ++ take s (drop l z))
-    (row_of_rectangle stride top left rows size (t + r) raw fits inside (omega (arith, below)))
-    ∙ ap (λ z. rectangle stride (top + t) (left + l) r s raw ++ z) (part_of_part left size l s (row_bytes stride raw (top + (t + r))) within)
-    ∙ ap (λ k. rectangle stride (top + t) (left + l) r s raw ++ take s (drop (left + l) (row_bytes stride raw k))) at
+    rw (
+      rectangle_of_rectangle stride top left rows size t l r s raw fits inside within (omega (arith, below)),
+      row_of_rectangle stride top left rows size (t + r) raw fits inside (omega (arith, below)),
+      part_of_part left size l s (row_bytes stride raw (top + (t + r))) within,
+      at,
+    )
 
 -- a byte of a rectangle is the picture's
 pub byte_of_rectangle : (stride top left rows size i j : ℕ) (raw : List ℕ) → left + size ≤ stride → stride * (top + rows) ≤ length raw → i < rows
@@ -166,9 +153,7 @@ of_first_rows stride top left (suc rows) size front more inside =
     let row : row_bytes stride (front ++ more) (top + rows) ≡ row_bytes stride front (top + rows) =
     ap (take stride) (drop-append-le at front more (omega (arith, inside, below)))
     ∙ take-append-le stride (drop at front) more (omega (arith, inside, below, length-drop at front)) in
-    ap (λ z. z ++ take size (drop left (row_bytes stride (front ++ more) (top + rows))))
-    (of_first_rows stride top left rows size front more (omega (arith, inside, below)))
-    ∙ ap (λ z. rectangle stride top left rows size front ++ take size (drop left z)) row
+    rw (of_first_rows stride top left rows size front more (omega (arith, inside, below)), row)
 
 -- Bytes `row` were put into `old` where the part of row top + rows stands.
 module _ (stride top left rows size : ℕ) (old new row : List ℕ) (fits : left + size ≤ stride) (inside : stride * (top + rows) + stride ≤ length old)
@@ -230,7 +215,7 @@ pub with_next_row : (stride top left rows size : ℕ) (tile raw : List ℕ)
     ++ (row_bytes size tile rows ++ drop size (drop (stride * (top + rows) + left) (with_tile stride top left rows size tile raw)))
 unfolding with_tile
 with_next_row stride top left rows size tile raw =
-    let more : rows + 1 ≡ suc rows = omega arith in ap (λ n. with_tile stride top left n size tile raw) more
+    rw add-one
 
 -- the first rows of a tile stand in the rectangle, and bytes outside of it stay
 rows_with_tile : (stride top left rows size : ℕ) (tile raw : List ℕ) → left + size ≤ stride → stride * (top + rows) ≤ length raw → size * rows ≤ length tile

@@ -1,9 +1,7 @@
 -- Bits that say which bytes of two vectors are the same.
-use Rattle.std.proofs.Common.{◌≡◌, ℕ, zero, suc, ◌+◌, ◌*◌, ◌%◌, ◌^◌, ◌≤◌, eqb, List, [], ◌∷◌, length, take, drop, map, cond, arith, refl, ap, ◌∙◌}
-use Rattle.std.proofs.Math.Nat.{pow-suc}
+use Rattle.std.proofs.Common.{◌≡◌, ℕ, zero, suc, ◌+◌, ◌*◌, ◌%◌, ◌^◌, ◌≤◌, eqb, List, [], ◌∷◌, length, take, drop, map, cond, arith, refl, ap, ◌∙◌, pow-suc, w8}
 use Rattle.std.proofs.lemmas.Simd.{tops_compared, mask_l-mod, length-zip2}
 use lib.Lanes.{zip2, mask_l, top}
-use mir.Syntax.{w8}
 
 -- which of the bytes are the same: a bit for each
 abbrev pub same_bits : List ℕ → List ℕ → ℕ

@@ -1,7 +1,6 @@
 -- What holds of three channels and of four, and the bytes of whole pixels.
-use Rattle.std.proofs.Common.{◌≡◌, ℕ, zero, suc, ◌+◌, ◌*◌, ◌/◌, ◌%◌, ◌≤◌, inl, inr, List, [], ◌∷◌, ◌++◌, length, take, arith, refl, sym, ap, ◌∙◌, subst, length-append}
+use Rattle.std.proofs.Common.{◌≡◌, ℕ, zero, suc, ◌+◌, ◌*◌, ◌/◌, ◌%◌, ◌≤◌, inl, inr, List, [], ◌∷◌, ◌++◌, length, take, arith, refl, sym, ap, ◌∙◌, subst, length-append, mul-suc}
 use Rattle.std.proofs.Math.Seq.{take-length, take-append-add}
-use Rattle.std.proofs.Math.Nat.{mul-suc}
 use Rattle.qoi.specs.Qoi.{RgbaPixel}
 use Rattle.qoi.specs.Raw.{IsChannels, pixel_bytes, output}
 
@@ -12,8 +11,7 @@ by_channels P (inr e) three four = subst P (sym e) four
 
 -- the bytes of whole pixels: c for each
 pub whole_pixels : (c len : ℕ) → IsChannels c → len % c ≡ 0 → len ≡ c * (len / c)
-whole_pixels c len is = by_channels (λ k. len % k ≡ 0 → len ≡ k * (len / k)) is (λ p. omega arith)
-    (λ p. omega arith)
+whole_pixels c len is whole = grind (arith, is)
 
 -- a pixel has as many bytes as channels
 length-pixel_bytes : (f c : ℕ) (p : RgbaPixel) → IsChannels c → length (pixel_bytes f c p) ≡ c

@@ -121,6 +121,7 @@ pub(super) fn added(b1: usize) -> u64
 
 /// What the second byte of a luma adds (QOI specification 1.0, "QOI_OP_LUMA").
 #[inline(always)]
+#[tactic(auto, using(crate::proofs::format::AddedTerms::second_adds))]
 pub(super) fn second_added(b2: usize) -> u64
     requires { b2 < 256 }
     ensures { result ≡ step (b2 / 16) 0 (b2 % 16) }

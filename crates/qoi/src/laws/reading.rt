@@ -284,6 +284,7 @@ pub fn stores_stay()
 {}
 
 /// Each picture of a store is read at its offset.
+#[tactic(auto, using(crate::proofs::decoding::Frames::picture_laws))]
 pub fn pictures_are_read()
     ensures header { (bytes offsets : List ℕ) (headers : List Header) (images : List (List ℕ))
         (k : ℕ) → ArePictures bytes offsets headers images → k < length offsets

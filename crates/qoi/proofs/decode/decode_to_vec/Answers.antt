@@ -1,8 +1,7 @@
 -- A file is decoded as such; a refusal is the decoder's.
-use Rattle.std.proofs.Common.{◌≡◌, sym, subst, inl, inr, ⊎_elim, arith}
-use Rattle.qoi.specs.Qoi.{Header, pixel_count}
+use Rattle.std.proofs.Common.{subst, inl, inr, ⊎_elim, arith}
+use Rattle.qoi.specs.Qoi.{pixel_count}
 use Rattle.qoi.specs.Decoding.{RefusesBytes}
-use Rattle.qoi.specs.Decoded.{HasDecodedFile}
 use Rattle.qoi.proofs.decoding.Promised.{has_decoded_file, has_refused_file}
 use Rattle.qoi.proofs.decoding.Refusals.{handed_on}
 use Rattle.qoi.proofs.decode.decode_to_vec.Goals as goal
@@ -26,10 +25,8 @@ pub returns-clause-decoded : goal.returns-clause-decoded
 returns-clause-decoded c =
     let d = c.in_ok-image.image in
     let accepted = c.in_ok-image.ensures.accepted in
-    let same : c.header-header.result.now ≡ d.header = c.header-header.ensures in
-    subst (λ (k : Header). HasDecodedFile c.args.data.now k c.in_ok-raw.raw.items) (sym same)
-    (has_decoded_file c.args.data.now d c.decode_to_vec.new.self.reader c.in_ok-raw.raw.items
-    (λ i. omega (arith, c.type_inv.data i)) accepted.header accepted.channels (cc accepted.after) c.in_ok-raw.ensures.decoded)
+    rw c.header-header.ensures (has_decoded_file c.args.data.now d c.decode_to_vec.new.self.reader c.in_ok-raw.raw.items (λ i. omega (arith, c.type_inv.data i)) accepted.header accepted.channels
+    (cc accepted.after) c.in_ok-raw.ensures.decoded)
 
 pub returns-clause-without_last : goal.returns-clause-without_last
 returns-clause-without_last c raw whole width height own part = absurd ((returns-clause-decoded c).not_without_last _ whole own.makes part)

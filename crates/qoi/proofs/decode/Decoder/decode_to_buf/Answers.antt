@@ -1,6 +1,5 @@
 -- The image is read or refused.
-use Rattle.std.proofs.Common.{◌≡◌, length, ap, ◌∙◌, arith, subst}
-use Rattle.std.proofs.lemmas.List.{length-take-le}
+use Rattle.std.proofs.Common.{◌≡◌, length, ap, ◌∙◌, arith, subst, length-take-le}
 use lib.Seq.{take-append_seam}
 use Rattle.qoi.specs.Decoded.{HasDecoded, HasRefused}
 use Rattle.qoi.proofs.decoding.Promised.{decoded_in, refused_in}

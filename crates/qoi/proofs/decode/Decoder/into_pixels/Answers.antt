@@ -1,6 +1,5 @@
 -- Nothing was given yet.
-use Rattle.std.proofs.Common.{refl, arith, ◌∙◌, []}
-use Rattle.std.proofs.Math.Nat.{mul_comm}
+use Rattle.std.proofs.Common.{refl, arith, ◌∙◌, [], mul_comm}
 use Rattle.qoi.specs.Qoi.{channels_number, pixel_count}
 use Rattle.qoi.specs.pieces.PixelReader.{HasGiven, HasRows}
 use Rattle.qoi.proofs.decoding.ImageSize.{channels_are}

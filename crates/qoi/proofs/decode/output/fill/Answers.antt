@@ -1,8 +1,7 @@
 -- The copies are written; if there isn't room for all, the buffer becomes full.
-use Rattle.std.proofs.Common.{◌≡◌, ℕ, ◌+◌, ◌-◌, ◌*◌, ◌/◌, ◌<◌, ◌≤◌, length, arith, rules, ap, ◌∙◌}
+use Rattle.std.proofs.Common.{◌≡◌, ℕ, ◌+◌, ◌-◌, ◌*◌, ◌/◌, ◌<◌, ◌≤◌, length, arith, rules}
 use Rattle.qoi.specs.Raw.{IsChannels}
 use Rattle.qoi.specs.inner.Hashed.{pixel_of_lanes}
-use Rattle.qoi.proofs.format.WholePixels.{by_channels}
 use Rattle.qoi.proofs.decoding.FilledBuffer.{filled_copies, filled_end, block_fits, run_fits, copies_fit, copies_end}
 use Rattle.qoi.proofs.decode.output.fill.Given.{Over}
 use Rattle.qoi.proofs.decode.output.fill.Goals.{Joined-this-ne0, then-this-ne0, else-this-ne0, then-size-le-VECTOR+else-room-ge-VECTOR, else-size-le-VECTOR+else-room-ge-RUN_ROOM}
@@ -10,11 +9,11 @@ use Rattle.qoi.proofs.decode.output.fill.Goals as goal
 
 -- a vector holds the pixels
 in_vector : (c k size : ℕ) → IsChannels c → size ≡ c * k → size ≤ 16 → k ≤ 16 / c
-in_vector c k size is e most = by_channels (λ d. d * k ≤ 16 → k ≤ 16 / d) is (λ l. omega arith) (λ l. omega arith) (omega (arith, e, most))
+in_vector c k size is e most = grind (arith, is)
 
 -- how many pixels have so many bytes
 pixels_of : (c k size : ℕ) → IsChannels c → size ≡ c * k → size / c ≡ k
-pixels_of c k size is e = ap (λ z. z / c) e ∙ by_channels (λ d. d * k / d ≡ k) is (omega arith) (omega arith)
+pixels_of c k size is e = grind (arith, is)
 
 -- the room that is relied on is there
 within : (g : Over) (c : Joined-this-ne0 g) → c.args.from.at + c.if-this-ne0.room ≤ length c.args.out.now

@@ -1,6 +1,5 @@
 -- The front of the bytes is the pixel.
-use Rattle.std.proofs.Common.{take, arith, ◌∙◌}
-use Rattle.std.proofs.lemmas.List.{take-take, length-take-le}
+use Rattle.std.proofs.Common.{take, arith, ◌∙◌, take-take, length-take-le}
 use Rattle.qoi.proofs.decoding.Vectors.{read_bytes_written}
 use Rattle.qoi.proofs.decode.output.store_four.Goals as goal
 

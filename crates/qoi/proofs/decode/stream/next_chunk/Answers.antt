@@ -1,14 +1,13 @@
 -- A first byte, and some of those that it wants, are part of a chunk.
-use Rattle.std.proofs.Common.{◌≡◌, ℕ, ◌<◌, ◌≤◌, ◌⊎◌, inl, inr, List, [], ◌∷◌, Option, Result, OnErr, arith, refl}
+use Rattle.std.proofs.Common.{◌≡◌, ℕ, ◌<◌, ◌≤◌, ◌⊎◌, List, [], ◌∷◌, Option, Result, OnErr, arith, refl}
 use Rattle.std.specs.Io.KnownBytes.{Consumes}
-use Rattle.std.proofs.lemmas.Bool.{cases_lt}
 use Rattle.std.proofs.lemmas.Bool.Decides.{nat_tests}
 use Rattle.qoi.specs.Qoi.{Luma}
 use Rattle.qoi.specs.Verdicts.{IsPartOfChunk}
 use Rattle.std.proofs.KnownBytes.{Consumes-nil, Consumes-trans}
-use Rattle.qoi.proofs.format.PartOfChunk.{part_empty}
+use Rattle.qoi.proofs.format.PartOfChunk.{byte_and, part_empty, part_luma, part_rgb, part_rgba}
 use Rattle.qoi.proofs.Results.{on_err}
-use Rattle.qoi.proofs.decoding.StreamReads.{part_read_luma, part_read_rgb, part_read_rgba, decodes_taken, alone_ahead, rgb_ahead, rgba_ahead}
+use Rattle.qoi.proofs.decoding.StreamReads.{decodes_taken, alone_ahead, rgb_ahead, rgba_ahead}
 use Rattle.qoi.proofs.decode.stream.next_chunk.Goals as goal
 
 -- if a read fails, what was taken is part of a chunk
@@ -24,14 +23,14 @@ returns-in_err-b2-clause-failed g c =
     let first = c.in_ok-b1.b1 in
     let luma = c.is_luma.ensures in
     part_taken _ _ _ (first ∷ []) (Consumes-trans _ _ _ (first ∷ []) [] c.in_ok-b1.ensures.read c.in_err-b2.ensures.failed)
-    (part_read_luma first (omega arith) (grind (arith, nat_tests)) (grind (arith, nat_tests)))
+    (part_luma (first ∷ []) (byte_and first [] (omega arith) (λ i. omega arith)) (omega arith) (grind (arith, nat_tests)) (grind (arith, nat_tests)))
 
 pub returns-in_err-read_exact-clause-failed : goal.returns-in_err-read_exact-clause-failed
 returns-in_err-read_exact-clause-failed g c =
     let f = c.in_err-read_exact.ensures.failed in
     let first = c.in_ok-b1.b1 in
     part_taken _ _ _ (first ∷ f.0) (Consumes-trans _ _ _ (first ∷ []) f.0 c.in_ok-b1.ensures.read f.1)
-    (part_read_rgb first f.0 (omega arith) f.2.1 c.if-b1.true (omega (arith, f.2.0)))
+    (part_rgb (first ∷ f.0) (byte_and first f.0 (omega arith) f.2.1) (omega (arith, f.2.0)) c.if-b1.true)
 
 pub returns-in_err-read_exact-2-clause-failed : goal.returns-in_err-read_exact-2-clause-failed
 returns-in_err-read_exact-2-clause-failed g c =
@@ -39,7 +38,7 @@ returns-in_err-read_exact-2-clause-failed g c =
     let first = c.in_ok-b1.b1 in
     let is : first ≡ 255 = omega arith in
     part_taken _ _ _ (first ∷ f.0) (Consumes-trans _ _ _ (first ∷ []) f.0 c.in_ok-b1.ensures.read f.1)
-    (part_read_rgba first f.0 (omega arith) f.2.1 is (omega (arith, f.2.0)))
+    (part_rgba (first ∷ f.0) (byte_and first f.0 (omega arith) f.2.1) (omega (arith, f.2.0)) is)
 
 pub returns-then-is_luma-clause-read : goal.returns-then-is_luma-clause-read
 returns-then-is_luma-clause-read g c =
@@ -53,10 +52,7 @@ pub returns-then-b1-lt-QOI_OP_RGB-clause-read : goal.returns-then-b1-lt-QOI_OP_R
 returns-then-b1-lt-QOI_OP_RGB-clause-read g c =
     let b1 = c.in_ok-b1.b1 in
     let luma = c.is_luma.ensures in
-    let alone : (b1 < 128) ⊎ ((192 ≤ b1) × (b1 < 254)) = elim (cases_lt b1 128) [
-      | inl low ↦ inl low
-      | inr high ↦ inr (grind (arith, nat_tests), omega arith)
-    ] in
+    let alone : (b1 < 128) ⊎ ((192 ≤ b1) × (b1 < 254)) = grind (arith, nat_tests) in
     decodes_taken _ _ _ _ _ b1 [] c.in_ok-b1.ensures.read (Consumes-nil _) (alone_ahead b1 (0 ∷ 0 ∷ 0 ∷ 0 ∷ 0 ∷ 0 ∷ 0 ∷ []) alone) c.decode_chunk-then-b1-lt-QOI_OP_RGB.ensures.decodes
 
 pub returns-then-b1-clause-read : goal.returns-then-b1-clause-read

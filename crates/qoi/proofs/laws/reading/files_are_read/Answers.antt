@@ -1,12 +1,14 @@
 -- A header and an image behind it are a file, and conversely.
-use Rattle.std.proofs.Common.{◌≡◌, ℕ, List, ◌++◌, length, drop, Some, Ok, refl, sym, ap, ◌∙◌, subst, length-append}
-use Rattle.qoi.specs.Qoi.{Chunk, Header, Channels, file, header_bytes, header_of, header_size, pixel_count, IsFile}
+use Rattle.std.proofs.Common.{◌≡◌, ℕ, List, ◌++◌, length, drop, Some, Ok, refl, sym, ap, ◌∙◌, subst}
+use Rattle.qoi.specs.Qoi.{Chunk, Header, file, header_bytes, header_of, header_size, pixel_count, IsFile}
 use Rattle.qoi.specs.Verdicts.{IsWhole}
 use Rattle.qoi.specs.DecoderState.{DecoderState}
 use Rattle.qoi.specs.Decoded.{HasHeader, HasDecoded}
-use Rattle.qoi.specs.Images.{file_rest, front_rest, BeginsWithFile, HasFrontFile}
-use Rattle.qoi.specs.Reading.{IsDecoderOf, IsImage, StandsAhead}
+use Rattle.qoi.specs.Images.{front_rest, BeginsWithFile, HasFrontFile}
+use Rattle.qoi.specs.Reading.{IsDecoderOf, StandsAhead}
+use Rattle.qoi.proofs.decoding.Ahead.{image_stands}
 use Rattle.qoi.proofs.decoding.FrontImage.{rest_is, file_rest_is, decodes_file, file_has_header, file_is_whole, file_parts, file_from_whole}
+use Rattle.qoi.proofs.decoding.Tiles.{file_in_front}
 use Rattle.qoi.proofs.laws.reading.files_are_read.Goals as goal
 
 -- a header that a decoder took and whole bytes behind it are a file, and what follows it
@@ -26,20 +28,12 @@ begins_with_file : (d : DecoderState (List ℕ)) (bytes : List ℕ) → HasHeade
     → BeginsWithFile bytes
 unfolding StandsAhead
 begins_with_file d bytes made (cs, rest, whole) =
-    let h = d.header in
     let (f, split) = file_behind d bytes cs rest made whole in
-    let left : rest ≡ file_rest bytes = file_rest_is bytes h rest _ (decodes_file h cs bytes rest _ f split refl) in
-    let all : bytes ≡ file h cs ++ file_rest bytes = split ∙ ap (λ z. file h cs ++ z) left in
-    record { header = h; cs = cs; is_file = f; split = all; size = sym (ap length all ∙ length-append (file h cs) (file_rest bytes)) }
+    file_in_front bytes d.header rest _ (decodes_file d.header cs bytes rest _ f split refl)
 
 -- what follows an image that stands ahead
 rest_of : (h : Header) (bytes rest : List ℕ) (cs : List Chunk) → IsWhole (pixel_count h) bytes cs rest → rest ≡ front_rest h bytes
 rest_of h bytes rest cs whole = rest_is h.channels h bytes rest _ (record { cs = cs; whole = whole; out_is = refl })
-
--- an image that is read stands ahead
-stands_of : {channels : Channels} (h : Header) (bytes rest out : List ℕ) → IsImage channels bytes h rest out → StandsAhead h bytes
-unfolding StandsAhead
-stands_of h bytes rest out is = (is.cs, rest, is.whole)
 
 -- of such bytes the file's header and the number of bytes behind it are known
 has_front_file : (d : DecoderState (List ℕ)) (bytes : List ℕ) → HasHeader d (Some bytes) (Some d.reader) → StandsAhead d.header d.reader
@@ -54,7 +48,7 @@ decoded_front_file : (d : DecoderState (List ℕ)) (bytes rest out : List ℕ) �
 decoded_front_file d bytes rest out made decoded =
     let left : rest ≡ front_rest d.header d.reader = cc decoded.image.1 in
     let (behind, told, is) = decoded.rest d.reader refl in
-    subst (λ z. HasFrontFile d.header (length z) bytes) (sym left) (has_front_file d bytes made (stands_of d.header d.reader behind _ is))
+    subst (λ z. HasFrontFile d.header (length z) bytes) (sym left) (has_front_file d bytes made (image_stands d.header d.reader behind _ is))
 
 -- and conversely such a file is a header and an image that stands behind it
 front_file_ahead : (h : Header) (n : ℕ) (bytes : List ℕ) → HasFrontFile h n bytes

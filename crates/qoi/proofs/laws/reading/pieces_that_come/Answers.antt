@@ -1,7 +1,5 @@
 -- A piece behind a front of a list.
-use Rattle.std.proofs.Common.{◌≡◌, ◌<◌, ◌≤◌, ℕ, List, ◌++◌, length, take, drop, get_or, sym, ap, ◌∙◌, arith}
-use Rattle.std.proofs.lemmas.List.{get_or-drop, get_or-take, take-take, length-take}
-use Rattle.std.proofs.Math.Seq.{take-add}
+use Rattle.std.proofs.Common.{◌≡◌, ◌<◌, ◌≤◌, ℕ, List, ◌++◌, length, take, drop, get_or, sym, ap, ◌∙◌, arith, get_or-drop, get_or-take, take-take, length-take, take-add}
 use Rattle.qoi.proofs.laws.reading.pieces_that_come.Goals as goal
 
 -- fewer bytes of a piece are as many behind what was read

@@ -1,7 +1,6 @@
 -- What a write took moves from the rest to what is written.
-use Rattle.std.proofs.Common.{◌≡◌, ◌+◌, ◌-◌, ◌++◌, length, take, drop, refl, sym, ap, ◌∙◌, append_assoc, take-append-drop, arith, length-append}
+use Rattle.std.proofs.Common.{◌≡◌, ◌+◌, ◌-◌, ◌++◌, length, take, drop, refl, sym, ap, ◌∙◌, append_assoc, take-append-drop, arith, length-append, length-take-le}
 use Rattle.std.proofs.Math.Seq.{drop-nil}
-use Rattle.std.proofs.lemmas.List.{length-take-le}
 use Rattle.qoi.specs.Writers.{wrote_laws}
 use Rattle.qoi.proofs.writers.GenericWriterWriter.write_many.Goals as goal
 

@@ -1,6 +1,5 @@
 -- The copies of the last pixel are written, either way.
-use Rattle.std.proofs.Common.{◌≡◌, ◌+◌, ◌-◌, ◌*◌, drop, get_or, arith, refl, sym, ◌∙◌}
-use Rattle.std.proofs.lemmas.List.{length-drop}
+use Rattle.std.proofs.Common.{◌≡◌, ◌+◌, ◌-◌, ◌*◌, drop, get_or, arith, refl, sym, ◌∙◌, length-drop}
 use Rattle.qoi.specs.inner.Filling.{Progress, HasCopies}
 use Rattle.qoi.proofs.decoding.FirstChunk.{decodes_run}
 use Rattle.qoi.proofs.decoding.FastSteps.{fast_step}

@@ -1,9 +1,8 @@
 -- Alpha and its share of the index position are added to what is read.
-use Rattle.std.proofs.Common.{◌≡◌, ◌-◌, ◌∙◌, ap, arith, drop, inl, inr, length, slice_index, subst, sym}
+use Rattle.std.proofs.Common.{◌≡◌, ◌-◌, ◌∙◌, ap, arith, drop, inl, inr, length, slice_index, subst, sym, length-drop}
 use Rattle.std.specs.Int.Bits.{bit_and}
 use Rattle.std.proofs.lemmas.Bool.{cases_lt}
 use Rattle.std.proofs.lemmas.Grind.{get_or_after_one}
-use Rattle.std.proofs.lemmas.List.{length-drop}
 use Rattle.std.proofs.lemmas.Nat.{and_mask}
 use Rattle.qoi.specs.Qoi.{pixel}
 use Rattle.qoi.specs.inner.Hashed.{pixel_of_lanes, IsHashed}

@@ -1,6 +1,5 @@
 -- What was lent is the front of the output.
-use Rattle.std.proofs.Common.{drop, arith}
-use Rattle.std.proofs.lemmas.List.{length-take-le, take_at}
+use Rattle.std.proofs.Common.{drop, arith, length-take-le, take_at}
 use Rattle.qoi.proofs.decode.pixel_reader.room.keep_rest_of_image.Goals as goal
 
 pub returns-clause-read : goal.returns-clause-read

@@ -1,6 +1,5 @@
 -- `header_of` says of the fourteen bytes at the front what it says of all bytes.
-use Rattle.std.proofs.Common.{◌≡◌, ◌-◌, Ok, ◌++◌, length, take, drop, sym, ap, ◌∙◌, take-append-drop}
-use Rattle.std.proofs.lemmas.List.{length-drop}
+use Rattle.std.proofs.Common.{◌≡◌, ◌-◌, Ok, ◌++◌, length, take, drop, sym, ap, ◌∙◌, take-append-drop, length-drop}
 use Rattle.qoi.proofs.format.WholePixels.{take_whole}
 use Rattle.qoi.specs.Qoi.{header_of}
 use Rattle.qoi.proofs.format.HeaderBytes.{header_front}

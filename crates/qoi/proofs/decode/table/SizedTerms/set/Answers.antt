@@ -1,6 +1,5 @@
 -- The pixel's number is put at its index position.
-use Rattle.std.proofs.Common.{ℕ, ◌<◌, ◌≤◌, List, length, slice_set, arith, sym, subst, inl, inr, rules}
-use Rattle.std.proofs.lemmas.List.{get_or-set_same, get_or-set_other, length-set}
+use Rattle.std.proofs.Common.{ℕ, ◌<◌, ◌≤◌, List, length, slice_set, arith, sym, subst, inl, inr, rules, get_or-set_same, get_or-set_other, length-set}
 use Rattle.std.proofs.lemmas.Bool.{cases_eq}
 use Rattle.qoi.specs.inner.Hashed.{IsHashed, IsAdded, AreTerms}
 use Rattle.qoi.proofs.decode.table.SizedTerms.set.Goals as goal

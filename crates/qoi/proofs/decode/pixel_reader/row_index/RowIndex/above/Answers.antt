@@ -1,8 +1,9 @@
 -- The point is one of the index; and all pixels come after the first row.
 use Rattle.std.proofs.Common.{◌≡◌, ◌≤◌, ◌<◌, ◌-◌, ◌*◌, ◌∙◌, Ok, ap, sym, subst, length, slice_index_or, arith}
+use Rattle.std.proofs.lemmas.Result.{IfOk-weaker}
 use Rattle.qoi.specs.Qoi.{Header, channels_number, pixel_count}
 use Rattle.qoi.specs.pieces.RowIndex.{undecoded_pixels}
-use Rattle.qoi.proofs.decoding.Points.{goes_on_in_file, goes_on_left, point_within}
+use Rattle.qoi.proofs.decoding.Points.{goes_on_left, point_resumes, point_within}
 use Rattle.qoi.proofs.decoding.RowIndexes.{point_found, enough_left, nearest_found, nearest_none, reads_first, first_left}
 use Rattle.qoi.proofs.format.HeaderBytes.{head_from_header_of}
 use Rattle.qoi.proofs.decode.pixel_reader.row_index.RowIndex.above.Goals as goal
@@ -10,8 +11,9 @@ use Rattle.qoi.proofs.decode.pixel_reader.row_index.RowIndex.above.Goals as goal
 pub returns-then-pixels_wanted-undecoded_pixels-clause-file : goal.returns-then-pixels_wanted-undecoded_pixels-clause-file
 returns-then-pixels_wanted-undecoded_pixels-clause-file c index =
     let same : c.args.self.now ≡ c.self.inside.points.items = cc c.self.view_is in
-    goes_on_in_file _ _ _ _ _ c.resume.ensures.goes c.requires.0 (point_found _ _ c.self.inside.points.items c.args.self.now (c.loop-i.i - 1) _ same c.requires.0 index
-    (omega (arith, c.loop-i.invariant.within, c.loop-i-test.true, ap length same)) c.index-point.ensures)
+    let found = point_found _ _ c.self.inside.points.items c.args.self.now (c.loop-i.i - 1) _ same c.requires.0 index
+    (omega (arith, c.loop-i.invariant.within, c.loop-i-test.true, ap length same)) c.index-point.ensures in
+    IfOk-weaker c.resume.result _ _ (λ q goes. point_resumes _ _ _ _ q goes c.requires.0 found) c.resume.ensures.goes
 
 pub returns-then-pixels_wanted-undecoded_pixels-clause-accepts : goal.returns-then-pixels_wanted-undecoded_pixels-clause-accepts
 returns-then-pixels_wanted-undecoded_pixels-clause-accepts c index =

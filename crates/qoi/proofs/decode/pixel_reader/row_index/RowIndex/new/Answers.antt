@@ -2,9 +2,11 @@
 use Rattle.std.proofs.Common.{◌≡◌, ◌<◌, ◌*◌, ◌+◌, ◌∙◌, ℕ, [], ◌∷◌, Ok, sym, ap, subst, inl, inr, length, length-append, slice_index_or, arith}
 use Rattle.qoi.specs.Qoi.{Header, IsValid, channels_number, pixel_count, header_of}
 use Rattle.qoi.specs.pieces.PixelReader.{unread_bytes}
-use Rattle.qoi.specs.pieces.RowIndex.{PointState, ArePoints, IsPointAt, HasPoints}
+use Rattle.qoi.specs.pieces.RowIndex.{PointState, StandsAt, ArePoints, IsPointAt, HasPoints}
+use Rattle.std.proofs.lemmas.List.Elements.{All-nil, All-push}
+use Rattle.qoi.proofs.decoding.Promised.{has_refused_file}
 use Rattle.qoi.proofs.decoding.Points.{point_stands}
-use Rattle.qoi.proofs.decoding.RowIndexes.{all_left, row_left, below_point, fewer_points, first_left, image_size, no_points, one_point_more, one_row_more, point_at, still_going, refused_header, row_index, row_index_then, reads_start, stands_whole}
+use Rattle.qoi.proofs.decoding.RowIndexes.{all_left, row_left, below_point, fewer_points, first_left, image_size, one_row_more, point_at, still_going, row_index, row_index_then, reads_start, stands_whole}
 use Rattle.qoi.proofs.decoding.Refusals.{handed_on}
 use Rattle.qoi.proofs.format.HeaderBytes.{head_from_header_of}
 use Rattle.qoi.proofs.decode.pixel_reader.row_index.RowIndex.new.Goals.{After-header}
@@ -19,6 +21,7 @@ is_valid : (c : After-header) → IsValid c.header.result.now
 is_valid c = (head_from_header_of c.args.file.now c.header.result.now (λ i. omega (arith, c.type_inv.file i)) (is_header c)).1
 
 pub loop-k-init : goal.loop-k-init
+unfolding ArePoints
 loop-k-init c =
     let h = c.header.result.now in
     let d = c.in_ok-decoder.decoder in
@@ -28,7 +31,7 @@ loop-k-init c =
     ∙ ap (λ (z : Header). pixel_count z * channels_number z.channels) (sym c.header.ensures) in
     record {
       reads = reads_start h d c.args.file.now c.into_pixels-reader.result made (is_header (goal.at.loop-k-init c).After-header) c.into_pixels-reader.ensures.start;
-      are = subst (ArePoints (pixel_count h) c.args.file.now) (sym c.in_ok-points.ensures.items) (no_points (pixel_count h) c.args.file.now);
+      are = subst (ArePoints (pixel_count h) c.args.file.now) (sym c.in_ok-points.ensures.items) (All-nil (StandsAt (pixel_count h) c.args.file.now));
       count = omega (arith, none);
       rows = λ k m within. absurd (omega (arith, within, none));
       left = all_left h c.max-apart.result _ all;
@@ -53,6 +56,7 @@ keep_point-requires-clause-some c =
     omega (arith, here, low.2)
 
 pub loop-k-preserved : goal.loop-k-preserved
+unfolding ArePoints
 loop-k-preserved c =
     let h = c.header.result.now in
     let file = c.args.file.now in
@@ -66,7 +70,7 @@ loop-k-preserved c =
     let rows = one_row_more h apart points m i.rows (subst (λ n. IsPointAt h (apart * (n + 1)) m) (sym i.count) at) in
     record {
       reads = reads;
-      are = subst (ArePoints (pixel_count h) file) (sym items) (one_point_more (pixel_count h) file points m i.are (point_stands h.channels h file _ _ m is reads));
+      are = subst (ArePoints (pixel_count h) file) (sym items) (All-push (StandsAt (pixel_count h) file) points m i.are (point_stands h.channels h file _ _ m is reads));
       count = omega (arith, ap length items, length-append points (m ∷ []), i.count);
       rows = subst (λ z. (k : ℕ) (d : PointState) → k < length z → IsPointAt h (apart * (k + 1)) (slice_index_or z k d)) (sym items) rows;
       left = omega (arith, here);
@@ -105,7 +109,7 @@ returns-clause-few c h is =
     omega (arith, has.count, fewer_points h _ has.some)
 
 pub returns-in_err-decoder-clause-refused : goal.returns-in_err-decoder-clause-refused
-returns-in_err-decoder-clause-refused c = handed_on _ _ _ c.from_residual.ensures.1 (inl (refused_header _ _ c.in_err-decoder.ensures.refused))
+returns-in_err-decoder-clause-refused c = handed_on _ _ _ c.from_residual.ensures.1 (inl (has_refused_file _ _ (inl c.in_err-decoder.ensures.refused)))
 
 pub returns-in_err-keep_point-clause-refused : goal.returns-in_err-keep_point-clause-refused
 returns-in_err-keep_point-clause-refused c =

@@ -1,19 +1,16 @@
 -- The image is that of the file, of so many bytes, in the file's own channels.
-use Rattle.std.proofs.Common.{◌≡◌, Some, IfOk, sym, ap, subst, drop}
+use Rattle.std.proofs.Common.{◌≡◌, sym, ap, drop}
 use Rattle.qoi.specs.Images.{file_image, front_image, behind_header}
-use Rattle.qoi.specs.Qoi.{Header, header_size}
-use Rattle.qoi.specs.pieces.PixelReader.{HasRows}
-use Rattle.qoi.specs.pieces.RowIndex.{file_decoder, row_size}
+use Rattle.qoi.specs.Qoi.{header_size}
+use Rattle.qoi.specs.pieces.RowIndex.{row_size}
 use Rattle.qoi.proofs.decoding.RowIndexes.{image_size}
 use Rattle.qoi.proofs.format.RectangleLaws.{length-part_of_picture}
 use Rattle.qoi.proofs.decode.pixel_reader.row_index.RowIndex.rows.Goals as goal
 
 pub returns-clause-rows : goal.returns-clause-rows
 returns-clause-rows c h is index =
-    let file = c.args.file.now in
     let own : c.in_ok-channels.field-0 ≡ h = cc (c.in_ok-channels.ensures.read, is) in
-    subst (λ (z : Header). IfOk c.rows_in.result (λ p. HasRows (file_decoder z.channels h file) (Some (drop header_size file)) (Some p.reader) (row_size z.channels h) c.args.first p)) own
-    (c.rows_in.ensures.rows h is index)
+    rw own at (c.rows_in.ensures.rows h is index)
 
 pub returns-clause-image : goal.returns-clause-image
 unfolding file_image

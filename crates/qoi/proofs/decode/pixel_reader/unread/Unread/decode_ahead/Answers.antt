@@ -1,11 +1,10 @@
 -- What was lent is decoded, and at the end of the image the end marker is taken.
-use Rattle.std.proofs.Common.{refl, ◌≡◌, ℕ, ◌+◌, ◌*◌, ◌/◌, ◌%◌, ◌<◌, ◌≤◌, ◌-◌, List, take, drop, take-append-drop, length, min, Option, arith, ◌∙◌, subst}
-use Rattle.std.proofs.lemmas.List.{length-take, length-take-le}
+use Rattle.std.proofs.Common.{refl, ◌≡◌, ℕ, ◌+◌, ◌/◌, ◌%◌, ◌<◌, ◌≤◌, ◌-◌, List, take, drop, take-append-drop, length, Option, arith, ◌∙◌, subst, length-take, length-take-le}
 use Rattle.qoi.specs.Raw.{IsChannels}
 use Rattle.qoi.specs.inner.Chunks.{RefusesChunks}
 use Rattle.qoi.specs.pieces.Sizes.{decoded_ahead}
 use Rattle.qoi.specs.pieces.Unread.{Unread, KeepsNothing, IsUnread, AreEnough}
-use Rattle.qoi.proofs.format.WholePixels.{by_channels, whole_pixels}
+use Rattle.qoi.proofs.format.WholePixels.{whole_pixels}
 use Rattle.qoi.proofs.decoding.Progress.{none_written}
 use Rattle.qoi.proofs.decoding.GivenMore.{faulted, gives_none, refuses_lent}
 use Rattle.qoi.proofs.decoding.PieceSteps.{Lent, lent, kept_read, rest_count, rest_read, rest_whole, minus_whole}
@@ -30,8 +29,7 @@ rest_lent {c = c} p is h same size some short =
 all_enough : {f c n all : ℕ} {start old : Option (List ℕ)} {given : List ℕ} {p : Unread} → IsChannels c → IsUnread f c n start old given p → KeepsNothing p
     → p.undecoded ≤ decoded_ahead → AreEnough c n (length given + 0) all → n ≡ all
 all_enough {n = n} {all} {given = given} {p} is h same short enough =
-    by_channels (λ k. length given + p.undecoded ≡ k * n → min (length given + 0 + decoded_ahead) (n * k) ≤ all * k → n ≡ all) is
-    (λ a b. omega (arith, a, b, short, enough.0)) (λ a b. omega (arith, a, b, short, enough.0)) (omega (arith, h.size, same)) enough.1
+    grind (arith, is, h.size, same, short, enough.0, enough.1)
 
 pub returns-in-Err-clause-step : goal.returns-in-Err-clause-step
 returns-in-Err-clause-step g c =
