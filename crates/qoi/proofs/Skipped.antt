@@ -1,82 +1,49 @@
 -- Raw bytes that are read and not handed out, or in part.
-use Rattle.std.proofs.Common.{◌≡◌, ◌+◌, ◌<◌, ◌≤◌, ◌*◌, ◌-◌, ℕ, zero, suc, List, [], ◌++◌, length, take, drop, Option, Some, Bool, true, Result, Ok, Err, IfErr, OnErr, append-nil, append_assoc, length-append, arith, refl, sym, ap, ◌∙◌, subst}
+use Rattle.std.proofs.Common.{◌≡◌, ◌+◌, ◌<◌, ◌≤◌, ◌*◌, ◌-◌, ℕ, List, [], ◌++◌, length, take, drop, Option, Some, Bool, Result, Ok, Err, IfErr, OnErr, append-nil, append_assoc, length-append, arith, sym, ap, ◌∙◌}
 use Rattle.std.proofs.lemmas.List.{drop_all, drop_at, take_at, take_all, length-take, length-drop}
 use Rattle.std.proofs.lemmas.Slice.{take-put_mid}
-use Rattle.std.proofs.Math.Nat.{mul-add, mul-one, mul-suc, zero-add}
+use Rattle.std.proofs.Math.Nat.{mul-suc, zero-add}
 use borrow.Rule.Slice.PartMut.{put_mid}
-use Rattle.std.proofs.KnownBytes.{Keeps-refl}
 use Rattle.qoi.specs.Qoi.{Error}
 use Rattle.qoi.specs.DecoderState.{DecoderState}
 use Rattle.qoi.specs.Images.{front_image}
 use Rattle.qoi.specs.Rectangles.{row_bytes, rectangle, row_size}
-use Rattle.qoi.specs.pieces.PixelReader.{PixelsState, unread_bytes, HasGiven, IfGiven, RefusesPiece, StopsAt}
+use Rattle.qoi.specs.pieces.PixelReader.{PixelsState, unread_bytes, HasGiven, HasRows, IfGiven, RefusesPiece, StopsAt}
 use Rattle.qoi.specs.pieces.Copying.{Gives}
-use Rattle.qoi.specs.pieces.Skipping.{StopsWithin, BreaksWithin}
+use Rattle.qoi.specs.pieces.Skipping.{StopsWithin, BreaksWithin, GivesRectangle}
 use Rattle.qoi.proofs.format.RectangleLaws.{row_more, of_first_rows, rectangle_of_rectangle}
-use Rattle.qoi.proofs.Copied.{given_both, refused_sooner, rows_are, rows_same}
+use Rattle.qoi.proofs.Copied.{gives_both, gives_none, refused_sooner, row_same, rows_after, rows_are}
 
--- bytes were given, and the rest was refused
-pub stops_behind : {R : Type 0} (in_memory : Bool) (ahead : R → Option (List ℕ)) (n : ℕ) (more : List ℕ) (p q r : PixelsState R) (error : Error)
-    → Gives ahead more p q → unread_bytes q + length more ≡ unread_bytes p → BreaksWithin in_memory ahead n q r error
-    → BreaksWithin in_memory ahead (length more + n) p r error
-stops_behind in_memory ahead n more p q r error gives many stops = record {
+-- bytes were given, and then others were refused
+pub stops_behind : {R : Type 0} {in_memory : Bool} {ahead : R → Option (List ℕ)} {n all : ℕ} (more : List ℕ) {p q r : PixelsState R} {error : Error}
+    → length more + n ≤ all → Gives ahead more p q → unread_bytes q + length more ≡ unread_bytes p → BreaksWithin in_memory ahead n q r error
+    → BreaksWithin in_memory ahead all p r error
+stops_behind {in_memory} {ahead} {n} {all} more {p} {q} {r} {error} below gives many stops = record {
   within = record {
     was = stops.within.was;
     more = more ++ stops.within.more;
-    given = λ d start given h. given_both d start (ahead stops.within.was.reader) given more stops.within.more stops.within.was
-        (stops.within.given d start (given ++ more) (gives d start given h));
-    fewer = omega (arith, stops.within.fewer, length-append more stops.within.more);
+    given = gives_both ahead more stops.within.more p q stops.within.was gives stops.within.given;
+    fewer = omega (arith, stops.within.fewer, below, length-append more stops.within.more);
     before = omega (arith, stops.within.before, many, length-append more stops.within.more);
     spent = stops.within.spent;
     left = stops.within.left;
     kept = stops.within.kept;
   };
-  refused = λ d start given h. refused_sooner in_memory d start given more n (length more + n) (ahead r.reader) error (omega arith)
-      (stops.refused d start (given ++ more) (gives d start given h));
-}
-
--- an image that is refused behind fewer bytes is refused behind more
-refused_then : {R : Type 0} (in_memory : Bool) (d : DecoderState R) (start : Option (List ℕ)) (given : List ℕ) (n all : ℕ) (new : Option (List ℕ)) (error : Error)
-    → n ≤ all → RefusesPiece in_memory d start given n new error → RefusesPiece in_memory d start given all new error
-refused_then in_memory d start given n all new error below r = record {
-  why = r.why;
-  early = λ held bytes k is fits enough. r.early held bytes k is fits (omega (arith, enough, below));
-  missing = r.missing;
-}
-
--- more bytes were wanted
-pub stops_before : {R : Type 0} (in_memory : Bool) (ahead : R → Option (List ℕ)) (n all : ℕ) (p q : PixelsState R) (error : Error)
-    → n ≤ all → BreaksWithin in_memory ahead n p q error → BreaksWithin in_memory ahead all p q error
-stops_before in_memory ahead n all p q error below stops = record {
-  within = record {
-    was = stops.within.was;
-    more = stops.within.more;
-    given = stops.within.given;
-    fewer = omega (arith, stops.within.fewer, below);
-    before = stops.within.before;
-    spent = stops.within.spent;
-    left = stops.within.left;
-    kept = stops.within.kept;
-  };
-  refused = λ d start given h. refused_then in_memory d start given n all (ahead q.reader) error below (stops.refused d start given h);
+  refused = λ d start given h. refused_sooner in_memory d start given more n all (ahead r.reader) error below (stops.refused d start (given ++ more) (gives d start given h));
 }
 
 -- a read of so many bytes was refused
-pub stops_first : {R : Type 0} (in_memory : Bool) (ahead : R → Option (List ℕ)) (n : ℕ) (p q : PixelsState R) (error : Error) → 0 < n
-    → StopsAt in_memory ahead p q → IfGiven ahead p (λ d start given. RefusesPiece in_memory d start given n (ahead q.reader) error)
-    → BreaksWithin in_memory ahead n p q error
-stops_first in_memory ahead n p q error some stops refused = record {
-  within = record {
-    was = p;
-    more = [];
-    given = λ d start given h. subst (λ z. HasGiven d start (ahead p.reader) z p) (sym (append-nil given)) h;
-    fewer = some;
-    before = omega arith;
-    spent = stops.spent;
-    left = stops.left;
-    kept = stops.kept;
-  };
-  refused = refused;
+pub stops_at_once : {R : Type 0} {in_memory : Bool} {ahead : R → Option (List ℕ)} {n : ℕ} {p q : PixelsState R} → 0 < n → StopsAt in_memory ahead p q
+    → StopsWithin in_memory ahead n p q
+stops_at_once {ahead} {p} some stops = record {
+  was = p;
+  more = [];
+  given = gives_none ahead p;
+  fewer = some;
+  before = omega arith;
+  spent = stops.spent;
+  left = stops.left;
+  kept = stops.kept;
 }
 
 -- both of a refusal
@@ -85,42 +52,6 @@ pub stops_both : {T R : Type 0} (in_memory : Bool) (ahead : R → Option (List �
     → IfGiven ahead p (λ d start given. IfErr r (RefusesPiece in_memory d start given n (ahead q.reader))) → IfErr r (BreaksWithin in_memory ahead n p q)
 stops_both in_memory ahead n p q (Ok x) within refused = tt
 stops_both in_memory ahead n p q (Err e) within refused = record { within = within; refused = refused }
-
--- an image that was refused before is refused again
-pub stops_again : {R : Type 0} (in_memory : Bool) (ahead : R → Option (List ℕ)) (n : ℕ) (p : PixelsState R) → p.refused ≡ true → 0 < n → n ≤ unread_bytes p
-    → StopsWithin in_memory ahead n p p
-stops_again in_memory ahead n p refused some fits = record {
-  was = p;
-  more = [];
-  given = λ d start given h. subst (λ z. HasGiven d start (ahead p.reader) z p) (sym (append-nil given)) h;
-  fewer = some;
-  before = omega arith;
-  spent = (refused, omega (arith, some, fits));
-  left = refl;
-  kept = λ held. Keeps-refl (ahead p.reader);
-}
-
--- what a contract says of such a refusal, one by one
-pub stops_within : {T R : Type 0} (in_memory : Bool) (ahead : R → Option (List ℕ)) (n : ℕ) (p q : PixelsState R) (r : Result T Error)
-    → IfErr r (BreaksWithin in_memory ahead n p q) → OnErr r (StopsWithin in_memory ahead n p q)
-stops_within in_memory ahead n p q (Ok x) stops = tt
-stops_within in_memory ahead n p q (Err e) stops = stops.within
-
-pub stops_refused : {T R : Type 0} (in_memory : Bool) (ahead : R → Option (List ℕ)) (n : ℕ) (p q : PixelsState R) (r : Result T Error)
-    → IfErr r (BreaksWithin in_memory ahead n p q) → IfGiven ahead p (λ d start given. IfErr r (RefusesPiece in_memory d start given n (ahead q.reader)))
-stops_refused in_memory ahead n p q (Ok x) stops d start given h = tt
-stops_refused in_memory ahead n p q (Err e) stops d start given h = stops.refused d start given h
-
--- what isn't 0 is something
-pub something : (n : ℕ) → (n ≡ 0 → ⊥) → 0 < n
-something zero isnt = absurd (isnt refl)
-something (suc n) isnt = omega arith
-
--- bytes that were given, and then others
-pub gives_both : {R : Type 0} (ahead : R → Option (List ℕ)) (more piece : List ℕ) (p q r : PixelsState R)
-    → Gives ahead more p q → Gives ahead piece q r → Gives ahead (more ++ piece) p r
-gives_both ahead more piece p q r first then = λ d start given h.
-    given_both d start (ahead r.reader) given more piece r (then d start (given ++ more) (first d start given h))
 
 -- bytes between others
 pub bytes_between : (before part after : List ℕ) (left size : ℕ) → length before ≡ left → length part ≡ size
@@ -150,26 +81,18 @@ part_stored stride left size row more piece out part k many long filled fits is 
     ∙ ap (λ z. rectangle stride 0 left row size (more ++ piece) ++ z) (sym last)
     ∙ sym (row_more stride 0 left row size (more ++ piece))
 
--- a row of the reader has as many bytes as one of its decoder
-pub row_same : {R : Type 0} (d : DecoderState R) (start now : Option (List ℕ)) (given : List ℕ) (p : PixelsState R) → HasGiven d start now given p
-    → row_size p.channels p.header ≡ row_size d.channels d.header
-row_same d start now given p h =
-    sym (mul-one (row_size p.channels p.header)) ∙ rows_same d start now given p 1 h ∙ mul-one (row_size d.channels d.header)
-
--- what was read of the image isn't longer than it
-given_fits : {R : Type 0} (d : DecoderState R) (now : Option (List ℕ)) (bytes given : List ℕ) (p : PixelsState R) → HasGiven d (Some bytes) now given p
-    → length given ≤ length (front_image d.channels d.header bytes)
-unfolding HasGiven
-given_fits d now bytes given p h = omega (arith, ap length h.front, length-take (length given) (front_image d.channels d.header bytes))
-
--- parts of rows that were read behind k rows are a rectangle of the image
-pub rectangle_is : {R : Type 0} (d : DecoderState R) (now : Option (List ℕ)) (bytes : List ℕ) (stride k n left size : ℕ) (given more : List ℕ) (p : PixelsState R)
-    → HasGiven d (Some bytes) now (given ++ more) p → length given ≡ stride * k → length more ≡ stride * n → left + size ≤ stride
-    → rectangle stride 0 left n size more ≡ rectangle stride k left n size (front_image d.channels d.header bytes)
-rectangle_is d now bytes stride k n left size given more p h before long fits =
+-- parts of rows that were given behind k rows are a rectangle of the image
+pub rectangle_is : {R : Type 0} (ahead : R → Option (List ℕ)) (d : DecoderState R) (bytes : List ℕ) (stride k n left size : ℕ) (out : List ℕ) (p q : PixelsState R)
+    → HasRows d (Some bytes) (ahead p.reader) stride k p → stride ≡ row_size d.channels d.header → left + size ≤ row_size p.channels p.header
+    → GivesRectangle ahead left n size p q out → out ≡ rectangle stride k left n size (front_image d.channels d.header bytes)
+unfolding HasRows HasGiven
+rectangle_is ahead d bytes stride k n left size out p q rows is fits (more, gives, long, parts) =
     let image = front_image d.channels d.header bytes in
-    let inside : stride * (k + n) ≤ length image = omega (arith, given_fits d now bytes (given ++ more) p h, length-append given more, before, long, mul-add stride k n) in
+    let (all, count, h) = rows_after ahead d (Some bytes) stride k n more p q rows is gives long in
+    let same : row_size p.channels p.header ≡ stride = row_same d (Some bytes) (ahead p.reader) rows.0 p rows.2 ∙ sym is in
+    let inside : stride * (k + n) ≤ length image = omega (arith, count, ap length h.front, length-take (length all) image) in
     let down : k + 0 ≡ k = omega arith in
-    ap (rectangle stride 0 left n size) (rows_are d now bytes stride k n given more p h before long)
-    ∙ rectangle_of_rectangle stride k 0 n stride 0 left n size image (omega arith) inside fits (omega arith)
+    parts ∙ ap (λ m. rectangle m 0 left n size more) same
+    ∙ ap (rectangle stride 0 left n size) (rows_are ahead d bytes stride k n more p q rows is gives long)
+    ∙ rectangle_of_rectangle stride k 0 n stride 0 left n size image (omega arith) inside (omega (arith, fits, same)) (omega arith)
     ∙ ap (λ m. rectangle stride m (0 + left) n size image) down ∙ ap (λ m. rectangle stride k m n size image) (zero-add left)

@@ -6,7 +6,7 @@ ghost use Rattle.qoi.specs.EncoderState.{EncoderState};
 ghost use Rattle.qoi.specs.Images.{front_image};
 ghost use Rattle.qoi.specs.Qoi.{Error, pixels_max};
 ghost use Rattle.qoi.specs.Rectangles.{rectangle, row_size};
-ghost use Rattle.qoi.specs.pieces.Copying.{rows_size, Gives, Takes, BreaksCopy, Copies};
+ghost use Rattle.qoi.specs.pieces.Copying.{rows_size, Gives, Takes, BreaksCopy, Copied, Copies};
 ghost use Rattle.qoi.specs.pieces.PixelReader.{unread_bytes, HasGiven, IfGiven, HasRows, IsSpent};
 ghost use Rattle.qoi.specs.pieces.PixelWriter.{missing_bytes, and_raw, HasTaken, IfTaken};
 ghost use Rattle.qoi.specs.pieces.Sizes.{copied_at_once};
@@ -147,12 +147,8 @@ impl<R: Reader> PixelReader<R> {
         requires fits { length piece.old ≤ unread_bytes self.old }
         requires short { length piece.old ≤ copied_at_once }
         requires room { length piece.old ≤ missing_bytes writer.old }
-        ensures given { OnOk result (Gives R.ahead piece.new self.old self.new) }
-        ensures taken { OnOk result (Takes W.contents piece.new writer.old writer.new) }
-        ensures left { OnOk result
-            (unread_bytes self.new + length piece.old ≡ unread_bytes self.old) }
-        ensures room { OnOk result
-            (missing_bytes writer.new + length piece.old ≡ missing_bytes writer.old) }
+        ensures copied { OnOk result (Copied R.ahead W.contents (length piece.old) self.old self.new
+            writer.old writer.new) }
         ensures spent { IsSpent self.old → 0 < length piece.old
             → IsErrOf result Error.UnexpectedBufferEnd
             × (self.new ≡ self.old) × (writer.new ≡ writer.old) }

@@ -1,21 +1,14 @@
--- All but `rest` of the raw bytes went from the reader to the writer, or the image was refused before.
-use Rattle.std.proofs.Common.{◌≡◌, ◌+◌, List, ℕ, length}
-use Rattle.qoi.specs.pieces.Copying.{Gives, Takes}
-use Rattle.qoi.specs.pieces.PixelReader.{unread_bytes, IsSpent}
-use Rattle.qoi.specs.pieces.PixelWriter.{missing_bytes}
+-- All but `rest` of the raw bytes were copied.
+use Rattle.std.proofs.Common.{◌≡◌, ◌+◌, ℕ}
+use Rattle.qoi.specs.pieces.Copying.{Copies}
+use Rattle.qoi.proofs.Copied.{done}
 use Rattle.qoi.proofs.decode.pixel_reader.PixelReader.copy_bytes.Given as goal
 
 abbrev pub invariant-loop-rest : goal.invariant-loop-rest
 invariant-loop-rest g l = record {
-  more : List ℕ;
-  count : length more + l.rest ≡ l.count;
-  given : Gives g.R.Reader.ahead more l.initial.self l.self;
-  taken : Takes g.W.Write.contents more l.initial.writer l.writer;
-  left : unread_bytes l.self + l.count ≡ unread_bytes l.initial.self + l.rest;
-  room : missing_bytes l.writer + l.count ≡ missing_bytes l.initial.writer + l.rest;
-  same : (l.self.header ≡ l.initial.self.header) × (l.self.channels ≡ l.initial.self.channels);
-  none : l.count ≡ 0 → (l.self ≡ l.initial.self) × (l.writer ≡ l.initial.writer);
-  spent : IsSpent l.initial.self → (l.self ≡ l.initial.self) × (l.writer ≡ l.initial.writer) × (l.rest ≡ l.count);
+  n : ℕ;
+  count : n + l.rest ≡ l.count;
+  copies : Copies g.R.Reader.in_memory g.R.Reader.ahead g.W.Write.contents n l.initial.self l.self l.initial.writer l.writer done;
 }
 
 abbrev pub decreases-loop-rest : goal.decreases-loop-rest

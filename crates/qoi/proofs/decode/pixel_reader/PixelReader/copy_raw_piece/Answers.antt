@@ -1,28 +1,20 @@
 -- A piece is read, and written.
-use Rattle.std.proofs.Common.{[], inl, inr, take, arith, rules, ap}
+use Rattle.std.proofs.Common.{[], inl, inr, take, arith, refl, rules, ap}
 use Rattle.std.proofs.lemmas.Grind.{common_steps}
 use Rattle.std.proofs.lemmas.List.{length-take-le}
 use Rattle.std.proofs.KnownBytes.{Appends-nil}
 use Rattle.qoi.proofs.Copied.{stops_at}
-use Rattle.qoi.proofs.decoding.Refusals.{handed_on}
+use Rattle.qoi.proofs.decoding.Refusals.{handed_as}
 use Rattle.qoi.proofs.decode.pixel_reader.PixelReader.copy_raw_piece.Goals as goal
 
 pub returns-in_err-size : goal.returns-in_err-size
-returns-in_err-size g c = record {
-  copied = handed_on _ _ _ c.from_residual.ensures.1 tt;
+returns-in_err-size g c = rw (handed_as _ c.from_residual.ensures.1 refl) (record {
+  copied = tt;
   none = λ is. absurd (omega (arith, is, c.requires.some, c.requires.more));
   spent = first_of (search rules, grind (arith, common_steps));
-  refused = λ d start given h.
-      handed_on _ _ _ c.from_residual.ensures.1 (
-        [],
-        inl (
-          stops_at g.R.Reader.in_memory g.R.Reader.ahead d start given c.args.self.now c.read.new.self _ _ c.requires.short h
-              (c.in_err-size.ensures.refused d start given h) c.in_err-size.ensures.stops,
-          Appends-nil (g.W.Write.contents c.args.out.now),
-        ),
-      );
+  refused = λ d start given h. ([], inl (stops_at c.requires.short h (c.in_err-size.ensures.refused d start given h) c.in_err-size.ensures.stops, Appends-nil (g.W.Write.contents c.args.out.now)));
   unchanged = first_of (search rules, grind (arith, common_steps));
-}
+})
 
 pub returns-in-Err : goal.returns-in-Err
 returns-in-Err g c =

@@ -1,11 +1,10 @@
 -- The bytes of these rows are the next ones.
-use Rattle.std.proofs.Common.{◌≡◌, ◌*◌, length, Some, arith, sym, ap, ◌∙◌, subst}
+use Rattle.std.proofs.Common.{◌*◌, arith, ap, subst}
 use Rattle.std.proofs.lemmas.Result.{on_ok_weaker}
 use Rattle.std.proofs.Math.Nat.{mul-le-mul_right}
-use Rattle.qoi.specs.pieces.PixelReader.{HasRows}
 use Rattle.qoi.specs.pieces.PixelWriter.{and_raw, HasTaken}
-use Rattle.qoi.specs.pieces.Copying.{rows_size, Copies}
-use Rattle.qoi.proofs.Copied.{rows_after, rows_are, rows_same}
+use Rattle.qoi.specs.pieces.Copying.{Copies}
+use Rattle.qoi.proofs.Copied.{rows_after, rows_are}
 use Rattle.qoi.proofs.decode.pixel_reader.PixelReader.copy_rows_to.Goals as goal
 
 pub overflow_mul-count : goal.overflow_mul-count
@@ -17,26 +16,22 @@ returns-clause-copies g c =
     (ap (λ n. n * c.args.rows) c.bytes_per_row.ensures.size) c.copy_bytes.ensures
 
 pub returns-clause-rows : goal.returns-clause-rows
-unfolding HasRows
-returns-clause-rows g c d start stride k (given, behind, h) is =
+returns-clause-rows g c d start stride k r is =
     on_ok_weaker c.copy_bytes.result
-    (λ x. rows_after d start _ stride k c.args.rows given x.more c.copy_bytes.new.self (x.given d start given h) behind
-    (x.size ∙ ap (λ n. n * c.args.rows) c.bytes_per_row.ensures.size ∙ rows_same d start _ given c.args.self.now c.args.rows h ∙ ap (λ n. n * c.args.rows) (sym is)))
-    c.copy_bytes.ensures.copied
+    (λ x. rows_after g.R.Reader.ahead d start stride k c.args.rows x.more c.args.self.now c.copy_bytes.new.self r is x.given x.size)
+    (returns-clause-copies g c).copied
 
 pub returns-clause-copied : goal.returns-clause-copied
-unfolding HasRows
 returns-clause-copied g c =
     on_ok_weaker c.copy_bytes.result
-    (λ x. let many : length x.more ≡ rows_size c.args.self.now c.args.rows = x.size ∙ ap (λ n. n * c.args.rows) c.bytes_per_row.ensures.size in (
+    (λ x. (
       x.more,
       x.taken,
-      (λ d bytes stride k r is. rows_are d _ bytes stride k c.args.rows r.0 x.more c.copy_bytes.new.self (x.given d (Some bytes) r.0 r.2) r.1
-          (many ∙ rows_same d (Some bytes) _ r.0 c.args.self.now c.args.rows r.2 ∙ ap (λ n. n * c.args.rows) (sym is))),
+      (λ d bytes stride k r is. rows_are g.R.Reader.ahead d bytes stride k c.args.rows x.more c.args.self.now c.copy_bytes.new.self r is x.given x.size),
       x.given,
-      many,
+      x.size,
     ))
-    c.copy_bytes.ensures.copied
+    (returns-clause-copies g c).copied
 
 pub returns-clause-strip : goal.returns-clause-strip
 returns-clause-strip g c d bytes stride k e before r is t =

@@ -1,9 +1,8 @@
 -- All bytes that are left are the rest of the image.
-use Rattle.std.proofs.Common.{◌≡◌, [], ◌++◌, arith, refl, subst}
+use Rattle.std.proofs.Common.{[], ◌++◌, arith, refl, subst}
 use Rattle.std.proofs.lemmas.Result.{on_ok_weaker}
 use Rattle.qoi.specs.Images.{front_image}
 use Rattle.qoi.specs.pieces.Copying.{Copies, Takes}
-use Rattle.qoi.specs.pieces.PixelReader.{unread_bytes}
 use Rattle.qoi.proofs.Copied.{decoded_all, rest_is}
 use Rattle.qoi.proofs.decode.pixel_reader.PixelReader.copy_to.Goals as goal
 
@@ -15,16 +14,14 @@ returns-clause-copies g c =
 pub returns-clause-decoded : goal.returns-clause-decoded
 returns-clause-decoded g c d start given h =
     on_ok_weaker c.copy_bytes.result
-    (λ x. let none : unread_bytes c.copy_bytes.new.self ≡ 0 = omega (arith, x.left, c.left-left.ensures.left) in
-    (x.more, decoded_all d start _ (given ++ x.more) c.copy_bytes.new.self (x.given d start given h) none))
+    (λ x. (x.more, decoded_all d start _ (given ++ x.more) c.copy_bytes.new.self (x.given d start given h) (omega (arith, x.left, c.left-left.ensures.left))))
     c.copy_bytes.ensures.copied
 
 pub returns-clause-rest : goal.returns-clause-rest
 returns-clause-rest g c d start given h bytes more is image =
     on_ok_weaker c.copy_bytes.result
-    (λ x. let none : unread_bytes c.copy_bytes.new.self ≡ 0 = omega (arith, x.left, c.left-left.ensures.left) in
-    subst (λ z. Takes g.W.Write.contents z c.args.writer.now c.copy_bytes.new.writer)
-    (rest_is d start _ bytes given x.more more c.copy_bytes.new.self (x.given d start given h) none is image) x.taken)
+    (λ x. subst (λ z. Takes g.W.Write.contents z c.args.writer.now c.copy_bytes.new.writer)
+    (rest_is d start _ bytes given x.more more c.copy_bytes.new.self (x.given d start given h) (omega (arith, x.left, c.left-left.ensures.left)) is image) x.taken)
     c.copy_bytes.ensures.copied
 
 pub returns-clause-image : goal.returns-clause-image
@@ -34,10 +31,11 @@ returns-clause-image g c d start bytes e before h is t =
 pub returns-clause-copied : goal.returns-clause-copied
 returns-clause-copied g c =
     on_ok_weaker c.copy_bytes.result
-    (λ x. let none : unread_bytes c.copy_bytes.new.self ≡ 0 = omega (arith, x.left, c.left-left.ensures.left) in (
+    (λ x. (
       x.more,
       x.taken,
-      (λ d start bytes h is. rest_is d start _ bytes [] x.more (front_image d.channels d.header bytes) c.copy_bytes.new.self (x.given d start [] h) none is refl),
+      (λ d start bytes h is. rest_is d start _ bytes [] x.more (front_image d.channels d.header bytes) c.copy_bytes.new.self (x.given d start [] h)
+          (omega (arith, x.left, c.left-left.ensures.left)) is refl),
       x.given,
     ))
     c.copy_bytes.ensures.copied

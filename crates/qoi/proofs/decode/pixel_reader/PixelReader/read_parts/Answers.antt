@@ -4,7 +4,8 @@ use Rattle.std.proofs.lemmas.Grind.{common_steps}
 use Rattle.std.proofs.Math.Nat.{mul-suc}
 use Rattle.qoi.proofs.decoding.Refusals.{handed_on}
 use Rattle.qoi.proofs.format.RectangleLaws.{row_end}
-use Rattle.qoi.proofs.Skipped.{gives_both, part_long, part_stored, stops_behind, stops_before}
+use Rattle.qoi.proofs.Copied.{gives_both}
+use Rattle.qoi.proofs.Skipped.{part_long, part_stored, stops_behind}
 use Rattle.qoi.proofs.decode.pixel_reader.PixelReader.read_parts.Goals as goal
 
 pub read_part-requires : goal.read_part-requires
@@ -24,10 +25,8 @@ returns-in_err-read_part-clause-stops g c =
     let rows = ap (λ n. n * c.args.rows) c.bytes_per_row-stride.ensures.size in
     let part = part_long c.args.size row c.loop-row.out (omega (arith, wide, c.requires.filled, c.loop-row.auto.out)) in
     handed_on _ _ _ c.from_residual.ensures.1
-    (stops_before g.R.Reader.in_memory g.R.Reader.ahead _ _ c.args.self.now _ _
-    (omega (arith, part, high, rows, i.count, c.requires.rectangle.0, c.bytes_per_row-stride.ensures.size))
-    (stops_behind g.R.Reader.in_memory g.R.Reader.ahead _ i.more c.args.self.now c.loop-row.self _ _ i.given (omega (arith, i.count, i.left))
-    c.in_err-read_part.ensures.stops))
+    (stops_behind i.more (omega (arith, part, high, rows, i.count, c.requires.rectangle.0, c.bytes_per_row-stride.ensures.size)) i.given (omega (arith, i.count, i.left))
+    c.in_err-read_part.ensures.stops)
 
 pub loop-row-preserved : goal.loop-row-preserved
 loop-row-preserved g c =

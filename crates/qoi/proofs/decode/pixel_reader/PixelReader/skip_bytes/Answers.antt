@@ -1,7 +1,7 @@
 -- The pieces are read one after the other, until one is refused.
 use Rattle.std.proofs.Common.{◌++◌, take, length-append, length-take, arith, rules}
 use Rattle.std.proofs.lemmas.Grind.{common_steps}
-use Rattle.qoi.proofs.Copied.{given_both, refused_sooner}
+use Rattle.qoi.proofs.Copied.{gives_both, refused_sooner}
 use Rattle.qoi.proofs.decoding.Refusals.{handed_on}
 use Rattle.qoi.proofs.decode.pixel_reader.PixelReader.skip_bytes.Goals as goal
 
@@ -34,7 +34,7 @@ loop-rest-preserved g c =
     record {
       more = i.more ++ piece;
       count = omega (arith, i.count, length-append i.more piece, length-take c.in_ok-rest.field-0 c.read.new.buf, c.read.auto.buf, c.in_ok-rest.ensures.size.size, length-take c.min-size.result c.loop-rest.buf, c.min-size.ensures);
-      given = λ d start given h. given_both d start _ given i.more piece c.read.new.self (c.in_ok-rest.ensures.read d start (given ++ i.more) (i.given d start given h));
+      given = gives_both g.R.Reader.ahead i.more piece c.args.self.now c.loop-rest.self c.read.new.self i.given c.in_ok-rest.ensures.read;
       left = first_of (search rules, grind (arith, common_steps));
       same = first_of (search rules, grind (arith, common_steps));
       none = λ h. absurd (omega (arith, h, i.count, c.loop-rest-test.true));

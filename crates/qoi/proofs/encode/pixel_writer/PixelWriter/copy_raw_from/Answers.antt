@@ -1,12 +1,12 @@
 -- The pieces come one after the other, until one is refused; a writer that failed before takes none.
 use Rattle.std.proofs.Common.{refl}
-use Rattle.qoi.proofs.Copied.{handed_and, input_breaks_later}
-use Rattle.qoi.proofs.decoding.Refusals.{handed_on}
+use Rattle.qoi.proofs.Copied.{input_breaks_later}
+use Rattle.qoi.proofs.decoding.Refusals.{handed_as, handed_on}
 use Rattle.qoi.specs.pieces.PixelWriter.{and_raw}
 use Rattle.qoi.proofs.encode.pixel_writer.PixelWriter.copy_raw_from.Goals as goal
 
 pub returns-in_err-check_room-clause-spent : goal.returns-in_err-check_room-clause-spent
-returns-in_err-check_room-clause-spent g c e before f = (handed_and _ _ c.from_residual.ensures.1 (c.in_err-check_room.ensures.spent e before f), refl, refl)
+returns-in_err-check_room-clause-spent g c e before f = rw (handed_as _ c.from_residual.ensures.1 refl) (c.in_err-check_room.ensures.spent e before f, refl, refl)
 
 pub returns-in_err-take_raw_piece-clause-refused : goal.returns-in_err-take_raw_piece-clause-refused
 returns-in_err-take_raw_piece-clause-refused g c e before t =
