@@ -69,6 +69,9 @@ impl<R: Reader> Decoder<R> {
             (R.ahead result.reader) [] result }
         ensures rows { (stride : ℕ)
             → HasRows self (R.ahead self.reader) (R.ahead result.reader) stride 0 result }
+        // The same of the rows as they are: so a search need not guess how many bytes they have.
+        ensures top { HasRows self (R.ahead self.reader) (R.ahead result.reader)
+            (row_size self.channels self.header) 0 result }
         ensures same { as_decoder result ≡ self }
         ensures left { unread_bytes result ≡ output_byte_count self }
     {

@@ -21,6 +21,9 @@ pub returns-clause-rows : goal.returns-clause-rows
 unfolding HasRows
 returns-clause-rows g c stride = ([], omega arith, returns-clause-start g c)
 
+pub returns-clause-top : goal.returns-clause-top
+returns-clause-top g c = returns-clause-rows g c _
+
 pub returns-clause-left : goal.returns-clause-left
 unfolding HasGiven
 returns-clause-left g c = omega (arith, (returns-clause-start g c).left)
