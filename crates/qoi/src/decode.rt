@@ -1,12 +1,11 @@
 //! Decoding, from slices, from streams and from readers with a buffer.
-ghost use Rattle.std.specs.Prelude.{◌≡◌, ℕ, ◌*◌, ◌-◌, ◌<◌, ◌≤◌, List, length, take, drop, Some, ◌+◌, IfOk, IfErr, IsErr, IsErrOf, IsTrue, ◌⊎◌, Ok, Err};
+ghost use Rattle.std.specs.Prelude.{◌≡◌, ℕ, ◌*◌, ◌<◌, ◌≤◌, List, length, take, drop, Some, ◌+◌, IfOk, IfErr, IsErrOf, IsTrue, ◌⊎◌, Ok, Err};
 ghost use Rattle.qoi.specs.Qoi.{Header, Error, header_of, IsValid};
 ghost use Rattle.qoi.specs.Decoding.{RefusesBuffer};
 ghost use Rattle.qoi.specs.DecoderState.{DecoderState, output_byte_count};
 ghost use Rattle.qoi.specs.Decoded.{HasHeader, HasRefusedHeader, HasDecoded, HasRefused, HasDecodedFile, HasRefusedFile};
 ghost use Rattle.qoi.specs.Reading.{IsCutAhead, IsWrongAhead, SaysWhy};
 ghost use Rattle.qoi.specs.Raw.{capped_byte_count, image_byte_count};
-ghost use Rattle.qoi.specs.Sent.{IsFileFor};
 ghost use Rattle.qoi.specs.inner.Chunks.{conversion_of};
 
 mod buffered;
@@ -108,11 +107,6 @@ pub fn decode_to_vec(alloc: Global, data: &[u8]) -> Result<(Header, Vec<u8>)>
     // The refusals: memory runs out after a valid header, or the bytes are refused.
     ensures refused { IfErr result (λ e. HasRefusedFile «data».now e
         ⊎ ((e ≡ Error.OutOfMemory) × (h : Header) × (header_of «data».now ≡ Ok h))) }
-
-    // What `encode_to_vec` made is refused without its last byte.
-    ensures without_last { (raw whole : List ℕ) (width height : ℕ)
-        → IsFileFor raw width height whole → «data».now ≡ take (length whole - 1) whole
-        → IsErr result }
 {
     let mut image = Decoder::<Bytes>::new(data)?;
     let header = *image.header();

@@ -27,6 +27,3 @@ returns-clause-decoded c =
     let accepted = c.in_ok-image.ensures.accepted in
     rw c.header-header.ensures (has_decoded_file c.args.data.now d c.decode_to_vec.new.self.reader c.in_ok-raw.raw.items (λ i. omega (arith, c.type_inv.data i)) accepted.header accepted.channels
     (cc accepted.after) c.in_ok-raw.ensures.decoded)
-
-pub returns-clause-without_last : goal.returns-clause-without_last
-returns-clause-without_last c raw whole width height own part = absurd ((returns-clause-decoded c).not_without_last _ whole own.makes part)
