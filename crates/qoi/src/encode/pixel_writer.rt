@@ -153,10 +153,6 @@ impl<W: Write + Drop> PixelWriter<W> {
         // A success: these raw bytes came, too.
         ensures taken { IfTaken W.contents self.old (λ e before.
             OnOk result (HasTaken W.contents (and_raw e raw.now) before self.new)) }
-        // It follows, behind others that a call before this one took.
-        ensures joined { (e : EncoderState) (before : Option (List ℕ)) (first all : List ℕ)
-            → HasTaken W.contents (and_raw e first) before self.old → all ≡ first ++ raw.now
-            → OnOk result (HasTaken W.contents (and_raw e all) before self.new) }
         ensures left { OnOk result
             (missing_bytes self.new + length raw.now ≡ missing_bytes self.old) }
 

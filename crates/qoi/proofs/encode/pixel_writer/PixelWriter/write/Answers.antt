@@ -83,7 +83,3 @@ returns-clause-taken g c = λ e before taken.
           let start = starts g (goal.at.returns-clause-taken g c).After-deref_mut-workspace e before more (t.writes (raw ++ more) left (bytes_append raw more raw_are are)) in
           image_on Appends-trans more start w.3;
     }
-
-pub returns-clause-joined : goal.returns-clause-joined
-returns-clause-joined g c = λ e before first all taken is.
-    rw (is, sym (append_assoc e.raw first c.args.raw.now)) (returns-clause-taken g c (and_raw e first) before taken)
