@@ -227,14 +227,11 @@ impl<W: Write + Drop> PixelWriter<W> {
     /// nothing is sent; `IoError` as in `write`. After a refusal the writer is dropped, so while
     /// `left` isn't 0 call `into_writer` to get it back.
     pub fn finish(self) -> Result<W>
-        // A success: all raw bytes came, and the file was sent, which `file` says as a function. It
-        // follows from `parts`.
+        // A success: all raw bytes came, and the file was sent. `file` says so by raw bytes, header
+        // and style, which the prover finds also where a call before this one copied.
         ensures sent { IfTaken W.contents self (λ e before.
             IfOk result (λ w. (n : ℕ) × SendsFile e before (W.contents w) n)) }
-        ensures file { IfTaken W.contents self (λ e before. IfOk result (λ w.
-            Appends before (W.contents w) (image_file e.style e.header e.raw))) }
-        // The same by its parts: the prover finds them where a call before this one copied.
-        ensures parts { (raw : List ℕ) (h : Header) (style : Style) (before : Option (List ℕ))
+        ensures file { (raw : List ℕ) (h : Header) (style : Style) (before : Option (List ℕ))
             → HasTaken W.contents (record { raw = raw; header = h; style = style }) before self
             → IfOk result (λ w. Appends before (W.contents w) (image_file style h raw)) }
         ensures some { IfTaken W.contents self (λ e before. IfOk result (λ w.

@@ -21,4 +21,4 @@ returns c =
     let i = c.loop-rest.invariant.taken in
     let rest = c.loop-rest.rest.now in
     let none : rest ≡ [] = nil_from_length rest (eqb-true (length rest) 0 (sym c.is_empty.ensures ∙ c.loop-rest-test.false)) in
-    c.in_ok-file.ensures.file _ _ i.2 ∙ ap (image_file c.args.style c.args.header) (sym (i.1 ∙ ap (λ z. i.0 ++ z) none ∙ append-nil i.0))
+    c.in_ok-file.ensures.file _ _ _ _ i.2 ∙ ap (image_file c.args.style c.args.header) (sym (i.1 ∙ ap (λ z. i.0 ++ z) none ∙ append-nil i.0))
