@@ -207,12 +207,11 @@ unfolding HasGiven
 decoded_all d start now given p h none = h.whole none
 
 -- and what came last is the rest of the image
-pub rest_is : {R : Type 0} (d : DecoderState R) (start now : Option (List ℕ)) (bytes given rest more : List ℕ) (p : PixelsState R) → HasGiven d start now (given ++ rest) p
-    → unread_bytes p ≡ 0 → start ≡ Some bytes → given ++ more ≡ front_image d.channels d.header bytes → rest ≡ more
+pub rest_is : {R : Type 0} (d : DecoderState R) (now : Option (List ℕ)) (bytes given rest more : List ℕ) (p : PixelsState R) → HasGiven d (Some bytes) now (given ++ rest) p
+    → unread_bytes p ≡ 0 → given ++ more ≡ front_image d.channels d.header bytes → rest ≡ more
 unfolding HasGiven
-rest_is d start now bytes given rest more p h none is image =
-    let whole = rw is at (h.whole none).image in
-    sym (drop_at given rest (length given) refl) ∙ ap (drop (length given)) (whole.0 ∙ sym image) ∙ drop_at given more (length given) refl
+rest_is d now bytes given rest more p h none image =
+    sym (drop_at given rest (length given) refl) ∙ ap (drop (length given)) ((h.whole none).image.0 ∙ sym image) ∙ drop_at given more (length given) refl
 
 -- a row of the reader has as many bytes as one of its decoder
 pub row_same : {R : Type 0} (d : DecoderState R) (start now : Option (List ℕ)) (given : List ℕ) (p : PixelsState R) → HasGiven d start now given p

@@ -7,7 +7,7 @@ ghost use Rattle.qoi.specs.Images.{front_image};
 ghost use Rattle.qoi.specs.Qoi.{Error, pixels_max};
 ghost use Rattle.qoi.specs.Rectangles.{rectangle, row_size};
 ghost use Rattle.qoi.specs.pieces.Copying.{rows_size, Gives, Takes, BreaksCopy, Copied, Copies};
-ghost use Rattle.qoi.specs.pieces.PixelReader.{unread_bytes, HasGiven, IfGiven, HasRows, IsSpent};
+ghost use Rattle.qoi.specs.pieces.PixelReader.{unread_bytes, HasGiven, IfGiven, IfGivenOf, HasRows, IsSpent};
 ghost use Rattle.qoi.specs.pieces.PixelWriter.{missing_bytes, and_raw, HasTaken, IfTaken};
 ghost use Rattle.qoi.specs.pieces.Sizes.{copied_at_once};
 
@@ -51,18 +51,18 @@ impl<R: Reader> PixelReader<R> {
         // A success: if no byte was read before, the bytes that were copied are the image. This
         // and the next clause follow from `copies`; a caller's search needs both.
         ensures copied { OnOk result ((rest : List ℕ) × Takes W.contents rest writer.old writer.new
-            × ((d : DecoderState R) (start : Option (List ℕ)) (bytes : List ℕ)
-            → HasGiven d start (R.ahead self.old.reader) [] self.old → start ≡ Some bytes
+            × ((d : DecoderState R) (bytes : List ℕ)
+            → HasGiven d (Some bytes) (R.ahead self.old.reader) [] self.old
             → rest ≡ front_image d.channels d.header bytes)
             × Gives R.ahead rest self.old self.new) }
-        ensures image { (d : DecoderState R) (start : Option (List ℕ)) (bytes : List ℕ)
+        ensures image { (d : DecoderState R) (bytes : List ℕ)
             (e : EncoderState) (before : Option (List ℕ))
-            → HasGiven d start (R.ahead self.old.reader) [] self.old → start ≡ Some bytes
+            → HasGiven d (Some bytes) (R.ahead self.old.reader) [] self.old
             → HasTaken W.contents e before writer.old → OnOk result (HasTaken W.contents
             (and_raw e (front_image d.channels d.header bytes)) before writer.new) }
         // In any case what was read before and the bytes that were copied, `more`, are the image.
-        ensures rest { IfGiven R.ahead self.old (λ d start given. (bytes more : List ℕ)
-            → start ≡ Some bytes → given ++ more ≡ front_image d.channels d.header bytes
+        ensures rest { IfGivenOf R.ahead self.old (λ d bytes given. (more : List ℕ)
+            → given ++ more ≡ front_image d.channels d.header bytes
             → OnOk result (Takes W.contents more writer.old writer.new)) }
         // So the image was decoded, and the reader stands behind its end marker.
         ensures decoded { IfGiven R.ahead self.old (λ d start given. OnOk result ((rest : List ℕ)

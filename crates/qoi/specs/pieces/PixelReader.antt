@@ -1,5 +1,5 @@
 -- What a contract sees of an image that is decoded piece by piece.
-use Rattle.std.specs.Prelude.{◌≡◌, ℕ, ◌+◌, ◌*◌, ◌<◌, ◌≤◌, List, length, take, min, Bool, IsTrue, true, false, Option, Some, IfSome}
+use Rattle.std.specs.Prelude.{◌≡◌, ℕ, ◌+◌, ◌*◌, ◌<◌, ◌≤◌, List, [], length, take, min, Bool, IsTrue, true, false, Option, Some, IfSome}
 use Rattle.std.specs.Io.KnownBytes.{Keeps}
 use Rattle.qoi.specs.Qoi.{Channels, Error, Header, channels_number, pixel_count, chunk_max, marker_size}
 use Rattle.qoi.specs.DecoderState.{DecoderState, output_byte_count, TakesAtMost}
@@ -57,6 +57,14 @@ HasGiven d start now given p = GivesSoFar d start now given p
 -- F holds of each image of which the reader p gave raw bytes: of its decoder, what it began with, and these bytes.
 abbrev pub IfGiven : {R : Type 0} → (R → Option (List ℕ)) → PixelsState R → (DecoderState R → Option (List ℕ) → List ℕ → Type 0) → Type 0
 IfGiven ahead p F = (d : DecoderState _) (start : Option (List ℕ)) (given : List ℕ) → HasGiven d start (ahead p.reader) given p → F d start given
+
+-- F holds of each such image that began with known bytes: of its decoder, of these, and of the raw bytes.
+abbrev pub IfGivenOf : {R : Type 0} → (R → Option (List ℕ)) → PixelsState R → (DecoderState R → List ℕ → List ℕ → Type 0) → Type 0
+IfGivenOf ahead p F = (d : DecoderState _) (bytes given : List ℕ) → HasGiven d (Some bytes) (ahead p.reader) given p → F d bytes given
+
+-- The reader gave no raw bytes yet, and the image is ahead.
+abbrev pub IsFresh : {R : Type 0} → (R → Option (List ℕ)) → PixelsState R → Type 0
+IsFresh ahead p = HasGiven (as_decoder p) (ahead p.reader) (ahead p.reader) [] p
 
 -- Of that image k rows of `stride` bytes were read.
 unfoldable pub HasRows : {R : Type 0} → DecoderState R → Option (List ℕ) → Option (List ℕ) → ℕ → ℕ → PixelsState R → Type 0

@@ -6,7 +6,7 @@ ghost use Rattle.qoi.specs.EncoderState.{EncoderState};
 ghost use Rattle.qoi.specs.Errors.{IsIoError};
 ghost use Rattle.qoi.specs.Images.{front_image};
 ghost use Rattle.qoi.specs.pieces.Copying.{BreaksInput, CopiesRaw};
-ghost use Rattle.qoi.specs.pieces.PixelReader.{unread_bytes, IfGiven};
+ghost use Rattle.qoi.specs.pieces.PixelReader.{unread_bytes, IfGiven, IfGivenOf};
 ghost use Rattle.qoi.specs.pieces.PixelWriter.{missing_bytes, and_raw, HasTaken, IfTaken, HasFailed};
 ghost use Rattle.qoi.specs.pieces.Sizes.{copied_at_once};
 
@@ -37,8 +37,8 @@ impl<R: Reader> PixelReader<R> {
         ensures copies { CopiesRaw R.in_memory R.ahead W.contents (unread_bytes self.old) self.old
             self.new out.old out.new result }
         // A success: what was read before and the bytes that were written, `more`, are the image.
-        ensures rest { IfGiven R.ahead self.old (λ d start given. (bytes more : List ℕ)
-            → start ≡ Some bytes → given ++ more ≡ front_image d.channels d.header bytes
+        ensures rest { IfGivenOf R.ahead self.old (λ d bytes given. (more : List ℕ)
+            → given ++ more ≡ front_image d.channels d.header bytes
             → OnOk result (Appends (W.contents out.old) (W.contents out.new) more)) }
         // So the image was decoded, and the reader stands behind its end marker.
         ensures decoded { IfGiven R.ahead self.old (λ d start given. OnOk result ((rest : List ℕ)

@@ -4,7 +4,7 @@ ghost use Rattle.std.specs.Prelude.{◌*◌, ◌≡◌, ℕ, ◌+◌, ◌-◌, �
 ghost use Rattle.qoi.specs.Decoded.{HasDecoded};
 ghost use Rattle.qoi.specs.DecoderState.{DecoderState, output_byte_count};
 ghost use Rattle.qoi.specs.Images.{front_image, front_rest};
-ghost use Rattle.qoi.specs.pieces.PixelReader.{PixelsState, as_decoder, unread_bytes, HasGiven, IfGiven, HasRows, ReadsUpTo, RefusesPixels, RefusesPiece, StopsAt, IsSpent};
+ghost use Rattle.qoi.specs.pieces.PixelReader.{PixelsState, as_decoder, unread_bytes, HasGiven, IfGiven, IfGivenOf, IsFresh, HasRows, ReadsUpTo, RefusesPixels, RefusesPiece, StopsAt, IsSpent};
 ghost use Rattle.qoi.specs.Qoi.{Error, channels_number, pixels_max};
 ghost use Rattle.qoi.specs.pieces.Unread.{bytes_left, IsRestOf, KeepsPixels, Asks, Steps};
 ghost use Rattle.qoi.specs.Reading.{StandsAhead, IsCutAhead, IsWrongAhead, SaysWhy};
@@ -65,8 +65,7 @@ impl<R: Reader> Decoder<R> {
     /// is read yet.
     pub fn into_pixels(self) -> PixelReader<R>
         ensures start { HasGiven self (R.ahead self.reader) (R.ahead result.reader) [] result }
-        ensures fresh { HasGiven (as_decoder result) (R.ahead result.reader)
-            (R.ahead result.reader) [] result }
+        ensures fresh { IsFresh R.ahead result }
         ensures rows { (stride : ℕ)
             → HasRows self (R.ahead self.reader) (R.ahead result.reader) stride 0 result }
         // The same of the rows as they are: so a search need not guess how many bytes they have.
@@ -178,15 +177,14 @@ impl<R: Reader> PixelReader<R> {
         // If none are left, the decoder's image was decoded, and what was read are its bytes.
         ensures all { IfGiven R.ahead self.now (λ d start given. result ≡ 0
             → HasDecoded d start (R.ahead self.now.reader) given) }
-        ensures image { IfGiven R.ahead self.now (λ d start given. (bytes : List ℕ)
-            → start ≡ Some bytes → result ≡ 0 → given ≡ front_image d.channels d.header bytes) }
+        ensures image { IfGivenOf R.ahead self.now (λ d bytes given.
+            result ≡ 0 → given ≡ front_image d.channels d.header bytes) }
         // Before: what was read and what is left are as many bytes as the image has, and what was
         // read is its front.
         ensures of_image { IfGiven R.ahead self.now (λ d start given.
             length given + result ≡ output_byte_count d) }
-        ensures front { (d : DecoderState R) (bytes given : List ℕ)
-            → HasGiven d (Some bytes) (R.ahead self.now.reader) given self.now
-            → given ≡ take (length given) (front_image d.channels d.header bytes) }
+        ensures front { IfGivenOf R.ahead self.now (λ d bytes given.
+            given ≡ take (length given) (front_image d.channels d.header bytes)) }
     {
         self.unread.left()
     }
@@ -210,10 +208,9 @@ impl<R: Reader> PixelReader<R> {
         ensures read { IfGiven R.ahead self.old (λ d start given. IfOk result (λ size.
             HasGiven d start (R.ahead self.new.reader) (given ++ take size buf.new) self.new)) }
         // In the image they are those behind the bytes that were read before.
-        ensures follows { (d : DecoderState R) (bytes given : List ℕ)
-            → HasGiven d (Some bytes) (R.ahead self.old.reader) given self.old
-            → IfOk result (λ size. take size buf.new
-            ≡ take size (drop (length given) (front_image d.channels d.header bytes))) }
+        ensures follows { IfGivenOf R.ahead self.old (λ d bytes given. IfOk result (λ size.
+            take size buf.new
+            ≡ take size (drop (length given) (front_image d.channels d.header bytes)))) }
         // A buffer of a row that is filled: behind k rows of the image it is row k. These two
         // follow from `strip` and `strip_rows`, for one row.
         ensures rows { (d : DecoderState R) (start : Option (List ℕ)) (stride k : ℕ)
@@ -304,11 +301,10 @@ impl<R: Reader + Drop> PixelReader<R> {
         ensures finished { IfGiven R.ahead self (λ d start given. IfOk result (λ decoder.
             (rest : List ℕ) × HasDecoded d start (R.ahead decoder.reader) (given ++ rest))) }
         // If nothing was read before, the image stood ahead, and the decoder goes on behind it.
-        ensures passed { HasGiven (as_decoder self) (R.ahead self.reader) (R.ahead self.reader) []
-            self → IfOk result (λ decoder. IfSome (R.ahead self.reader) (λ bytes.
-            StandsAhead self.header bytes)) }
-        ensures behind { HasGiven (as_decoder self) (R.ahead self.reader) (R.ahead self.reader) []
-            self → IfOk result (λ decoder. IfSome (R.ahead self.reader) (λ bytes.
+        ensures passed { IsFresh R.ahead self → IfOk result (λ decoder.
+            IfSome (R.ahead self.reader) (λ bytes. StandsAhead self.header bytes)) }
+        ensures behind { IsFresh R.ahead self → IfOk result (λ decoder.
+            IfSome (R.ahead self.reader) (λ bytes.
             R.ahead decoder.reader ≡ Some (front_rest self.header bytes))) }
         ensures same { IfOk result (λ decoder.
             decoder ≡ record (as_decoder self) { reader = decoder.reader }) }
@@ -316,20 +312,16 @@ impl<R: Reader + Drop> PixelReader<R> {
         // The refusals: those of the image, now or before.
         ensures refused { IfGiven R.ahead self (λ d start given. IfErr result (λ e.
             (new : Option (List ℕ)) × RefusesPixels R.in_memory d start new e)) }
-        ensures missing { HasGiven (as_decoder self) (R.ahead self.reader) (R.ahead self.reader) []
-            self → IsTrue R.in_memory → OnErr result (IfSome (R.ahead self.reader) (λ bytes.
-            StandsAhead self.header bytes → ⊥)) }
+        ensures missing { IsFresh R.ahead self → IsTrue R.in_memory → OnErr result
+            (IfSome (R.ahead self.reader) (λ bytes. StandsAhead self.header bytes → ⊥)) }
         ensures again { IsSpent self → IsErrOf result Error.UnexpectedBufferEnd }
         // In memory: bytes that are cut, and bytes that are wrong, and no others.
-        ensures why { (d : DecoderState R) (start given : List ℕ)
-            → HasGiven d (Some start) (R.ahead self.reader) given self → IsTrue R.in_memory
-            → IfErr result (SaysWhy d.header start) }
-        ensures cut { (d : DecoderState R) (start given : List ℕ)
-            → HasGiven d (Some start) (R.ahead self.reader) given self → IsTrue R.in_memory
-            → IsCutAhead d.header start → IsErrOf result Error.UnexpectedBufferEnd }
-        ensures wrong { (d : DecoderState R) (start given : List ℕ)
-            → HasGiven d (Some start) (R.ahead self.reader) given self → IsTrue R.in_memory
-            → IsWrongAhead d.header start → IsErrOf result Error.InvalidPadding }
+        ensures why { IfGivenOf R.ahead self (λ d bytes given. IsTrue R.in_memory
+            → IfErr result (SaysWhy d.header bytes)) }
+        ensures cut { IfGivenOf R.ahead self (λ d bytes given. IsTrue R.in_memory
+            → IsCutAhead d.header bytes → IsErrOf result Error.UnexpectedBufferEnd) }
+        ensures wrong { IfGivenOf R.ahead self (λ d bytes given. IsTrue R.in_memory
+            → IsWrongAhead d.header bytes → IsErrOf result Error.InvalidPadding) }
     {
         let mut buf = [0; 4096];
         while self.left() > 0 {

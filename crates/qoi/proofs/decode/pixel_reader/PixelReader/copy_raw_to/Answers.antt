@@ -1,5 +1,5 @@
 -- The pieces go one after the other, until one is refused.
-use Rattle.std.proofs.Common.{◌≡◌, ◌+◌, ◌<◌, ◌++◌, length, min, arith, refl, subst}
+use Rattle.std.proofs.Common.{◌≡◌, ◌+◌, ◌<◌, ◌++◌, length, min, Some, arith, refl, subst}
 use Rattle.std.specs.Io.KnownBytes.{Appends}
 use Rattle.qoi.specs.pieces.Copying.{CopiesRaw}
 use Rattle.qoi.specs.pieces.PixelReader.{unread_bytes}
@@ -35,8 +35,8 @@ returns-clause-decoded g c d start given h =
     (x.more, decoded_all d start _ (given ++ x.more) c.loop-buf.self (x.given d start given h) (omega (arith, c.left.ensures.left, c.loop-buf-test.false)))
 
 pub returns-clause-rest : goal.returns-clause-rest
-returns-clause-rest g c d start given h bytes more is image =
+returns-clause-rest g c d bytes given h more image =
     let x = c.loop-buf.invariant.copies.copied in
     let none : unread_bytes c.loop-buf.self ≡ 0 = omega (arith, c.left.ensures.left, c.loop-buf-test.false) in
     subst (Appends (g.W.Write.contents c.args.out.now) (g.W.Write.contents c.loop-buf.out))
-    (rest_is d start _ bytes given x.more more c.loop-buf.self (x.given d start given h) none is image) x.written
+    (rest_is d _ bytes given x.more more c.loop-buf.self (x.given d (Some bytes) given h) none image) x.written

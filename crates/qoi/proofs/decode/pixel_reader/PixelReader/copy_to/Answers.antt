@@ -1,5 +1,5 @@
 -- All bytes that are left are the rest of the image.
-use Rattle.std.proofs.Common.{[], ◌++◌, arith, refl, subst}
+use Rattle.std.proofs.Common.{[], ◌++◌, Some, arith, refl, subst}
 use Rattle.std.proofs.lemmas.Result.{on_ok_weaker}
 use Rattle.qoi.specs.Images.{front_image}
 use Rattle.qoi.specs.pieces.Copying.{Copies, Takes}
@@ -18,15 +18,15 @@ returns-clause-decoded g c d start given h =
     c.copy_bytes.ensures.copied
 
 pub returns-clause-rest : goal.returns-clause-rest
-returns-clause-rest g c d start given h bytes more is image =
+returns-clause-rest g c d bytes given h more image =
     on_ok_weaker c.copy_bytes.result
     (λ x. subst (λ z. Takes g.W.Write.contents z c.args.writer.now c.copy_bytes.new.writer)
-    (rest_is d start _ bytes given x.more more c.copy_bytes.new.self (x.given d start given h) (omega (arith, x.left, c.left-left.ensures.left)) is image) x.taken)
+    (rest_is d _ bytes given x.more more c.copy_bytes.new.self (x.given d (Some bytes) given h) (omega (arith, x.left, c.left-left.ensures.left)) image) x.taken)
     c.copy_bytes.ensures.copied
 
 pub returns-clause-image : goal.returns-clause-image
-returns-clause-image g c d start bytes e before h is t =
-    on_ok_weaker c.copy_bytes.result (λ k. k e before t) (returns-clause-rest g c d start [] h bytes (front_image d.channels d.header bytes) is refl)
+returns-clause-image g c d bytes e before h t =
+    on_ok_weaker c.copy_bytes.result (λ k. k e before t) (returns-clause-rest g c d bytes [] h (front_image d.channels d.header bytes) refl)
 
 pub returns-clause-copied : goal.returns-clause-copied
 returns-clause-copied g c =
@@ -34,8 +34,8 @@ returns-clause-copied g c =
     (λ x. (
       x.more,
       x.taken,
-      (λ d start bytes h is. rest_is d start _ bytes [] x.more (front_image d.channels d.header bytes) c.copy_bytes.new.self (x.given d start [] h)
-          (omega (arith, x.left, c.left-left.ensures.left)) is refl),
+      (λ d bytes h. rest_is d _ bytes [] x.more (front_image d.channels d.header bytes) c.copy_bytes.new.self (x.given d (Some bytes) [] h)
+          (omega (arith, x.left, c.left-left.ensures.left)) refl),
       x.given,
     ))
     c.copy_bytes.ensures.copied
