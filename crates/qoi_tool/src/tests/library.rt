@@ -32,7 +32,6 @@ mod reader;
 mod readers_to_writers;
 mod rectangles;
 mod refusals;
-mod row_callers;
 mod row_indexes;
 mod runs;
 mod sheets;

@@ -1,40 +1,23 @@
-//! Callers that cut a rectangle out of a picture, in memory or while its rows are decoded, and that
-//! paste one into a picture. Only the loops have proof files, with their invariants.
-ghost use Rattle.std.specs.Prelude.{◌≡◌, ◌+◌, ◌*◌, ◌≤◌, ◌<◌, ◌^◌, ℕ, List, length, Option, Some, Ok, IsTrue, IfOk, OnOk};
+//! Callers that take a row or cut a rectangle out of a picture, in memory or while its rows are
+//! decoded, and that paste one into a picture. Only the loops have proof files, with their invariants.
+ghost use Rattle.std.specs.Prelude.{◌≡◌, ◌+◌, ◌*◌, ◌≤◌, ℕ, List, length, Some, Ok, IfOk, OnOk};
 ghost use Rattle.qoi.specs.declared.header.Header.{Header};
-ghost use Rattle.qoi.specs.Qoi.{channels_number, header_of};
-ghost use Rattle.qoi.specs.DecoderState.{DecoderState};
+ghost use Rattle.qoi.specs.Qoi.{header_of};
 ghost use Rattle.qoi.specs.Images.{front_image, file_image};
-ghost use Rattle.qoi.specs.pieces.PixelReader.{HasRows};
 ghost use Rattle.qoi.specs.Rectangles.{row_bytes, row_size, rectangle, KeepsOutside};
 
 use crate::tests::library::support::{assert_bytes, assert_cut, assert_given, made};
 use qoi::laws::rectangles::{rows_are_put, rows_that_come};
-use qoi::{Bytes, Decoder, Error, PixelReader, Reader};
+use qoi::{Decoder, Error, Reader};
 use std::alloc::Global;
 
 /// Of each of `rows` rows, from row `top` on, the `size` bytes from byte `left` on.
 #[derive(Clone, Copy)]
 pub struct Area {
-    pub top: usize,
-    pub rows: usize,
+    pub top: u32,
+    pub rows: u32,
     pub left: usize,
     pub size: usize,
-}
-
-impl Area {
-    /// Whether it lies within a picture of `height` rows of `stride` bytes.
-    pub fn lies_within(&self, height: usize, stride: usize) -> bool
-        ensures below { IsTrue result → self.now.top + self.now.rows ≤ height }
-        ensures within { IsTrue result → self.now.left + self.now.size ≤ stride }
-        ensures all { self.now.top + self.now.rows ≤ height
-            → self.now.left + self.now.size ≤ stride → IsTrue result }
-    {
-        self.top <= height
-            && self.rows <= height - self.top
-            && self.left <= stride
-            && self.size <= stride - self.left
-    }
 }
 
 /// Row k of a picture whose rows have `stride` bytes.
@@ -52,7 +35,7 @@ pub fn cut(
     alloc: Global,
     raw: &[u8],
     stride: usize,
-    height: usize,
+    height: u32,
     area: Area,
 ) -> Result<Vec<u8>, Error>
     requires picture { stride * height ≤ length raw.now }
@@ -64,85 +47,59 @@ pub fn cut(
     rows_that_come();
     let mut tile = Vec::new(alloc);
     for k in 0..area.rows {
-        let row = row(raw, stride, area.top + k);
+        let row = row(raw, stride, (area.top + k) as usize);
         tile.extend_from_slice(&row[area.left..area.left + area.size])?;
     }
     Ok(tile)
 }
 
-/// Decodes the next row of an image.
-pub fn next_row<R: Reader>(pixels: &mut PixelReader<R>, row: &mut [u8]) -> Result<(), Error>
-    ensures rows { (d : DecoderState R) (start : Option (List ℕ)) (stride k : ℕ)
-        → HasRows d start (R.ahead pixels.old.reader) stride k pixels.old
-        → length row.old ≡ stride
-        → OnOk result (HasRows d start (R.ahead pixels.new.reader) stride (k + 1) pixels.new) }
-    ensures row { (d : DecoderState R) (bytes : List ℕ) (stride k : ℕ)
-        → HasRows d (Some bytes) (R.ahead pixels.old.reader) stride k pixels.old
-        → length row.old ≡ stride
-        → OnOk result (row.new ≡ row_bytes stride (front_image d.channels d.header bytes) k) }
-{
-    let size = pixels.read(row)?;
-    if size < row.len() {
-        return Err(Error::UnexpectedBufferEnd);
-    }
-    Ok(())
-}
-
-/// Keeps the part of the next row behind k rows of the area.
-pub fn keep(tile: &mut Vec<u8>, row: &[u8], area: Area) -> Result<(), Error>
-    requires { area.left + area.size ≤ length row.now }
-    ensures { (stride k : ℕ) (raw : List ℕ) → row.now ≡ row_bytes stride raw (area.top + k)
-        → tile.old.items ≡ rectangle stride area.top area.left k area.size raw
-        → OnOk result (tile.new.items
-        ≡ rectangle stride area.top area.left (k + 1) area.size raw) }
-{
-    rows_that_come();
-    tile.extend_from_slice(&row[area.left..area.left + area.size])?;
-    Ok(())
-}
-
-/// A tile cut out of an image while its rows, as long as `row`, are decoded.
-pub fn cut_rows(
-    alloc: Global,
-    decoder: Decoder<Bytes<'_>>,
-    row: &mut [u8],
-    area: Area,
-) -> Result<Vec<u8>, Error>
-    requires row { length row.old ≡ row_size decoder.channels decoder.header }
-    requires below { area.top < 2 ^ 32 }
-    requires within { area.left + area.size ≤ length row.old }
-    ensures { IfOk result (λ tile. tile.items ≡ rectangle (length row.old) area.top area.left
-        area.rows area.size
-        (front_image decoder.entry.channels decoder.entry.header decoder.entry.reader)) }
+/// Row k of an image from any reader: the rows above it are decoded, and none of them is kept.
+pub fn row_of<R: Reader + Drop>(decoder: Decoder<R>, k: u32, row: &mut [u8]) -> Result<(), Error>
+    ensures { (bytes : List ℕ) → R.ahead decoder.reader ≡ Some bytes
+        → length row.old ≡ row_size decoder.channels decoder.header
+        → OnOk result (row.new ≡ row_bytes (length row.old)
+        (front_image decoder.channels decoder.header bytes) k) }
 {
     let mut pixels = decoder.into_pixels();
-    pixels.skip_rows(area.top as u32)?;
-    let mut tile = Vec::new(alloc);
-    for k in 0..area.rows {
-        next_row(&mut pixels, row)?;
-        keep(&mut tile, row, area)?;
-    }
-    Ok(tile)
-}
-
-/// A tile cut out of the image of a file, in the memory of one row and the tile.
-pub fn cut_file(alloc: Global, file: &[u8], area: Area) -> Result<Vec<u8>, Error>
-    ensures { (h : Header) → header_of file.now ≡ Ok h
-        → IfOk result (λ tile. tile.items ≡ rectangle (h.width * channels_number h.channels)
-        area.top area.left area.rows area.size (file_image file.now)) }
-{
-    let decoder = Decoder::new(file)?;
-    let stride = decoder.header().bytes_per_row();
-    if !area.lies_within(decoder.header().height as usize, stride) {
+    pixels.skip_rows(k)?;
+    if pixels.read(row)? < row.len() {
         return Err(Error::UnexpectedBufferEnd);
     }
-    let mut row = vec![in alloc; 0u8; stride]?;
-    let tile = cut_rows(alloc, decoder, &mut row, area)?;
+    Ok(())
+}
+
+/// A tile cut out of an image from any reader while that is decoded, in the memory of the tile.
+pub fn cut_rows<R: Reader + Drop>(
+    decoder: Decoder<R>,
+    area: Area,
+    tile: &mut [u8],
+) -> Result<(), Error>
+    requires { length tile.old ≡ area.size * area.rows }
+    ensures { (bytes : List ℕ) → R.ahead decoder.reader ≡ Some bytes → OnOk result
+        (tile.new ≡ rectangle (row_size decoder.channels decoder.header) area.top area.left
+        area.rows area.size (front_image decoder.channels decoder.header bytes)) }
+{
+    let mut pixels = decoder.into_pixels();
+    pixels.skip_rows(area.top)?;
+    pixels.read_rectangle(area.left, area.rows, area.size, tile)
+}
+
+/// A tile cut out of the image of a file, in the memory of the tile.
+pub fn cut_file(alloc: Global, file: &[u8], area: Area) -> Result<Vec<u8>, Error>
+    ensures { (h : Header) → header_of file.now ≡ Ok h
+        → IfOk result (λ tile. tile.items ≡ rectangle (row_size h.channels h)
+        area.top area.left area.rows area.size (file_image file.now)) }
+{
+    let Some(size) = area.size.checked_mul(area.rows as usize) else {
+        return Err(Error::UnexpectedBufferEnd);
+    };
+    let mut tile = vec![in alloc; 0u8; size]?;
+    cut_rows(Decoder::new(file)?, area, &mut tile)?;
     Ok(tile)
 }
 
 /// Puts a tile into a picture, which has `height` rows of `stride` bytes.
-pub fn paste(raw: &mut [u8], stride: usize, height: usize, area: Area, tile: &[u8])
+pub fn paste(raw: &mut [u8], stride: usize, height: u32, area: Area, tile: &[u8])
     requires picture { stride * height ≤ length raw.old }
     requires below { area.top + area.rows ≤ height }
     requires within { area.left + area.size ≤ stride }
@@ -153,8 +110,8 @@ pub fn paste(raw: &mut [u8], stride: usize, height: usize, area: Area, tile: &[u
     rows_that_come();
     rows_are_put();
     for k in 0..area.rows {
-        let at = stride * (area.top + k) + area.left;
-        raw[at..at + area.size].copy_from_slice(row(tile, area.size, k));
+        let at = stride * (area.top + k) as usize + area.left;
+        raw[at..at + area.size].copy_from_slice(row(tile, area.size, k as usize));
     }
 }
 
@@ -189,4 +146,13 @@ fn a_tile_of_a_file(rt: HostRuntime) {
     let wide = Area { size: 4, ..MIDDLE };
     let refused = cut_file(rt.alloc(), &file, wide);
     assert_cut(&rt, refused);
+}
+
+// The second of two rows.
+#[test]
+fn one_row(rt: HostRuntime) {
+    let file = made::encoded(&rt, rt.alloc(), b"first.second", 2, 2);
+    let mut row = [0; 6];
+    row_of(made::slice(&rt, &file), 1, &mut row).expect(&rt, "refused");
+    assert_bytes(&rt, &row, b"second");
 }

@@ -1,45 +1,32 @@
 //! Callers that cut tiles out of a file by an index of its rows, and put a picture together from them.
-//! Only the loops have proof files, with their invariants.
-ghost use Rattle.std.specs.Prelude.{◌≡◌, ℕ, ◌+◌, ◌*◌, ◌≤◌, List, length, drop, Some, Ok, IsTrue, IfOk, OnOk};
-ghost use Rattle.qoi.specs.Images.{front_image, file_image};
-ghost use Rattle.qoi.specs.Qoi.{header_of, header_size};
-ghost use Rattle.qoi.specs.Rectangles.{rectangle, row_bytes};
+//! Only the loop has a proof file, with its invariant.
+ghost use Rattle.std.specs.Prelude.{◌≡◌, ℕ, ◌+◌, ◌*◌, ◌≤◌, List, length, Ok, IsTrue, IfOk, OnOk};
+ghost use Rattle.qoi.specs.Images.{file_image};
+ghost use Rattle.qoi.specs.Qoi.{header_of};
+ghost use Rattle.qoi.specs.Rectangles.{rectangle};
 ghost use Rattle.qoi.specs.declared.header.Header.{Header};
-ghost use Rattle.qoi.specs.pieces.PixelReader.{HasRows};
-ghost use Rattle.qoi.specs.pieces.RowIndex.{file_decoder, row_size, IsRowIndex};
+ghost use Rattle.qoi.specs.pieces.RowIndex.{row_size, IsRowIndex};
 
-use crate::tests::library::rectangles::{Area, keep, next_row, paste};
+use crate::tests::library::rectangles::{Area, paste};
 use crate::tests::library::support::{assert_bytes, assert_count, assert_given, made};
 use qoi::laws::rectangles::{rectangles_are_parts, rows_are_put};
-use qoi::{Bytes, Channels, Error, Header, PixelReader, RowIndex, decode_header};
+use qoi::{Channels, Error, RowIndex, decode_header};
 use std::alloc::Global;
 
-// A tile cut out of the image of a file, whose rows above the tile were read.
-fn tile_rows(
-    alloc: Global,
-    pixels: &mut PixelReader<Bytes<'_>>,
-    file: &[u8],
-    header: Header,
-    row: &mut [u8],
-    area: Area,
-) -> Result<Vec<u8>, Error>
-    requires rows { HasRows (file_decoder header.channels header file.now)
-        (Some (drop header_size file.now)) (Some pixels.old.reader) (length row.old) area.top
-        pixels.old }
-    requires within { area.left + area.size ≤ length row.old }
-    ensures { IfOk result (λ tile. tile.items ≡ rectangle (length row.old) area.top area.left
-        area.rows area.size (front_image header.channels header (drop header_size file.now))) }
+/// Reads a tile of the image of a file by an index of its rows: no row above the index's point is
+/// decoded, and below the tile no more than 3,072 bytes.
+pub fn read_tile(index: &RowIndex, file: &[u8], area: Area, tile: &mut [u8]) -> Result<(), Error>
+    requires index { IsRowIndex file.now index.now }
+    requires size { length tile.old ≡ area.size * area.rows }
+    ensures { (h : Header) → header_of file.now ≡ Ok h → OnOk result (tile.new
+        ≡ rectangle (row_size h.channels h) area.top area.left area.rows area.size
+        (file_image file.now)) }
 {
-    let mut tile = Vec::new(alloc);
-    for k in 0..area.rows {
-        next_row(pixels, row)?;
-        keep(&mut tile, row, area)?;
-    }
-    Ok(tile)
+    let mut pixels = index.rows(file, area.top)?;
+    pixels.read_rectangle(area.left, area.rows, area.size, tile)
 }
 
-/// A tile cut out of the image of a file by an index of its rows, in the memory of one row and the
-/// tile: no row above the index's point is decoded, and below the tile no more than 3,072 bytes.
+/// The same in memory of its own.
 pub fn tile(alloc: Global, index: &RowIndex, file: &[u8], area: Area) -> Result<Vec<u8>, Error>
     requires index { IsRowIndex file.now index.now }
     ensures tile { (h : Header) → header_of file.now ≡ Ok h
@@ -47,42 +34,26 @@ pub fn tile(alloc: Global, index: &RowIndex, file: &[u8], area: Area) -> Result<
         area.top area.left area.rows area.size (file_image file.now)) }
     ensures size { IfOk result (λ tile. length tile.items ≡ area.size * area.rows) }
 {
-    let header = decode_header(file)?;
-    let stride = header.bytes_per_row();
-    if !area.lies_within(header.height as usize, stride) {
+    let Some(size) = area.size.checked_mul(area.rows as usize) else {
         return Err(Error::UnexpectedBufferEnd);
-    }
-    let mut pixels = index.rows(file, area.top as u32)?;
-    let mut row = vec![in alloc; 0u8; stride]?;
-    let tile = tile_rows(alloc, &mut pixels, file, header, &mut row, area)?;
+    };
+    let mut tile = vec![in alloc; 0u8; size]?;
+    read_tile(index, file, area, &mut tile)?;
     Ok(tile)
 }
 
-/// One row of the image of a file, by an index, into a buffer of its size: no method of its own is
-/// needed for it.
-pub fn one_row(index: &RowIndex, file: &[u8], k: u32, row: &mut [u8]) -> Result<usize, Error>
-    requires { IsRowIndex file.now index.now }
-    ensures { (h : Header) → header_of file.now ≡ Ok h → length row.old ≡ row_size h.channels h
-        → IfOk result (λ size. length row.old ≤ size
-        → row.new ≡ row_bytes (row_size h.channels h) (file_image file.now) k) }
-{
-    let mut pixels = index.rows(file, k)?;
-    let size = pixels.read(row)?;
-    Ok(size)
-}
-
 // How many rows a tile has, but for the last one.
-const ROWS: usize = 2;
+const ROWS: u32 = 2;
 
 // Whether these are the raw bytes of so many rows.
-fn has_rows(raw: &[u8], stride: usize, height: usize) -> bool
+fn has_rows(raw: &[u8], stride: usize, height: u32) -> bool
     ensures { IsTrue result → length raw.now ≡ stride * height }
 {
-    stride.checked_mul(height) == Some(raw.len())
+    stride.checked_mul(height as usize) == Some(raw.len())
 }
 
 // Puts a tile of whole rows below those that a picture has of an image already.
-fn put_rows(raw: &mut [u8], height: usize, area: Area, tile: &[u8])
+fn put_rows(raw: &mut [u8], height: u32, area: Area, tile: &[u8])
     requires picture { length raw.old ≡ area.size * height }
     requires below { area.top + area.rows ≤ height }
     requires whole { area.left ≡ 0 }
@@ -104,7 +75,7 @@ pub fn put_together(alloc: Global, file: &[u8], raw: &mut [u8]) -> Result<(), Er
 {
     rectangles_are_parts();
     let header = decode_header(file)?;
-    let (stride, height) = (header.bytes_per_row(), header.height as usize);
+    let (stride, height) = (header.bytes_per_row(), header.height);
     if !has_rows(raw, stride, height) {
         return Err(Error::UnexpectedBufferEnd);
     }
@@ -142,9 +113,6 @@ fn a_tile_by_an_index(rt: HostRuntime) {
     let mut picture = [0; 12];
     put_together(alloc, &file, &mut picture).expect(&rt, "refused");
     assert_bytes(&rt, &picture, &PICTURE);
-    let mut row = [0; 4];
-    assert_count(&rt, one_row(&index, &file, 2, &mut row), 4);
-    assert_bytes(&rt, &row, &PICTURE[8..]);
 }
 
 // Rows of four channels, read in three.

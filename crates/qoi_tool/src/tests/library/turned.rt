@@ -12,9 +12,8 @@ ghost use Rattle.qoi.specs.pieces.PixelWriter.{HasTaken};
 ghost use Rattle.qoi.specs.pieces.RowIndex.{row_size, IsRowIndex};
 ghost use Rattle.qoi_tool.specs.Pictures.{from_below};
 
-use crate::tests::library::rectangles::next_row;
 use crate::tests::library::support::{assert_decoded, made};
-use qoi::{Header, PixelWriter, Result, RowIndex, Style, decode_header};
+use qoi::{Error, Header, PixelWriter, Result, RowIndex, Style, decode_header};
 use std::alloc::Global;
 use std::io::Write;
 
@@ -24,8 +23,10 @@ fn read_row(index: &RowIndex, file: &[u8], k: u32, row: &mut [u8]) -> Result<()>
     ensures { (h : Header) → header_of file.now ≡ Ok h → length row.old ≡ row_size h.channels h
         → OnOk result (row.new ≡ row_bytes (row_size h.channels h) (file_image file.now) k) }
 {
-    let mut pixels = index.rows(file, k)?;
-    next_row(&mut pixels, row)
+    if index.rows(file, k)?.read(row)? < row.len() {
+        return Err(Error::UnexpectedBufferEnd);
+    }
+    Ok(())
 }
 
 /// Row k of a file's image is written behind what a writer took.
