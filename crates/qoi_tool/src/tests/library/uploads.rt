@@ -1,5 +1,5 @@
-//! An upload that is checked before it is kept, without memory for its image: each answer comes
-//! exactly if its clause holds. No proof file.
+//! An upload that is decoded into a buffer, and its refusal: each answer comes exactly if its clause
+//! holds. No proof file.
 ghost use Rattle.std.specs.Prelude.{◌≡◌, ◌↔◌, ◌<◌, ◌≤◌, ◌⊎◌, ℕ, take, drop, length, None, Ok, IsErr, IfSome};
 ghost use Rattle.qoi.specs.declared.header.Header.{Header};
 ghost use Rattle.qoi.specs.Images.{file_image, BeginsWithFile, HasFrontFile};
@@ -20,7 +20,7 @@ pub enum Verdict {
     /// No valid header stands at the front. It may begin with `qoif`, and name no pixels or more than
     /// 400,000,000.
     NotQoi,
-    /// The image has more raw bytes than are wanted.
+    /// The image has more raw bytes than the buffer.
     TooLarge,
     /// Something else stands where the end marker should.
     Broken,
@@ -32,41 +32,8 @@ pub enum Verdict {
     FineWith(usize),
 }
 
-/// What the bytes are, if at most so many raw bytes are wanted.
-pub fn check_upload(bytes: &[u8], most: usize) -> Verdict
-    ensures not_qoi { (result ≡ Verdict.NotQoi) ↔ IsErr (header_of bytes.now) }
-    ensures too_large { (result ≡ Verdict.TooLarge) ↔ ((h : Header)
-        × (header_of bytes.now ≡ Ok h) × (most < image_byte_count h)) }
-    ensures broken { (result ≡ Verdict.Broken) ↔ ((h : Header) × (header_of bytes.now ≡ Ok h)
-        × (image_byte_count h ≤ most) × IsWrongAhead h (drop header_size bytes.now)) }
-    ensures cut { (result ≡ Verdict.Cut) ↔ ((h : Header) × (header_of bytes.now ≡ Ok h)
-        × (image_byte_count h ≤ most) × IsCutAhead h (drop header_size bytes.now)) }
-    ensures fine { (result ≡ Verdict.Fine) ↔ ((h : Header) × HasFrontFile h 0 bytes.now
-        × (image_byte_count h ≤ most)) }
-    ensures fine_with { (n : ℕ) → ((result ≡ Verdict.FineWith n) ↔ ((h : Header)
-        × HasFrontFile h n bytes.now × (0 < n) × (image_byte_count h ≤ most))) }
-{
-    files_are_read();
-    let Ok(decoder) = Decoder::new(bytes) else {
-        return Verdict::NotQoi;
-    };
-    if decoder.required_buf_len() > most {
-        return Verdict::TooLarge;
-    }
-    match decoder.into_pixels().finish() {
-        Ok(decoder) => match decoder.into_data().len() {
-            0 => Verdict::Fine,
-            behind => Verdict::FineWith(behind),
-        },
-        Err(e) => match e {
-            Error::UnexpectedBufferEnd => Verdict::Cut,
-            _ => Verdict::Broken,
-        },
-    }
-}
-
-/// The same of bytes whose image is decoded into the front of a buffer, if they are fine. Later bytes
-/// of the buffer stay.
+/// What the bytes are. If they are fine, their image is decoded into the front of a buffer, whose
+/// later bytes stay.
 pub fn decode_upload(buf: &mut [u8], bytes: &[u8]) -> Verdict
     ensures not_qoi { (result ≡ Verdict.NotQoi) ↔ IsErr (header_of bytes.now) }
     ensures too_large { (result ≡ Verdict.TooLarge) ↔ ((h : Header)
@@ -122,9 +89,8 @@ pub fn refusal(bytes: &[u8]) -> Option<Error>
     }
 }
 
-// Compares what both say of the bytes, if so many raw bytes are wanted.
+// Compares what is said of the bytes, if so many raw bytes have room.
 fn assert_verdict(rt: &impl Abort, bytes: &[u8], most: usize, verdict: Verdict) {
-    assert!(rt; check_upload(bytes, most) == verdict);
     let mut buf = [0; 12];
     assert!(rt; decode_upload(&mut buf[..most.min(12)], bytes) == verdict);
 }
