@@ -1,6 +1,6 @@
 -- The image that stands ahead of a decoder: a file brings it there, it is decoded, and it isn't
 -- refused.
-use Rattle.std.proofs.Common.{◌≡◌, ◌+◌, ◌*◌, ◌<◌, arith, slice_index, ℕ, List, ◌++◌, drop, take, Bool, true, false, Option, Some, None, Ok, refl, ap, sym, ◌∙◌, subst, length-take-le}
+use Rattle.std.proofs.Common.{◌≡◌, ◌+◌, ◌*◌, ◌<◌, arith, slice_index, ℕ, List, ◌++◌, drop, take, Bool, true, false, Option, Some, None, Ok, ap, sym, ◌∙◌, subst, length-take-le}
 use Rattle.qoi.specs.Styles.{Style}
 use Rattle.qoi.specs.Qoi.{Error, Header, Channels, channels_number, header_bytes, header_of, header_size, IsValid, pixel_count, meaning}
 use Rattle.qoi.specs.Raw.{output}
@@ -11,7 +11,7 @@ use Rattle.qoi.specs.Reading.{IsDecoderOf, IsImage, StandsAhead}
 use Rattle.qoi.specs.Errors.{IsReaderFault}
 use Rattle.qoi.proofs.decoding.FrontImage.{decodes_file, file_parts}
 use Rattle.qoi.proofs.decoding.StreamVerdicts.{fourth_is_opaque, read_is_whole, whole_is_io_error}
-use Rattle.qoi.proofs.decoding.Refusals.{whole_not_refused_in}
+use Rattle.qoi.proofs.decoding.Refusals.{whole_not_refused}
 use Rattle.qoi.proofs.format.HeaderBytes.{header_split}
 
 -- an image of which whole bytes are read stands ahead
@@ -48,9 +48,9 @@ pub fault_ahead : (in_memory : Bool) (h : Header) (old new : Option (List ℕ)) 
     → StandsAhead h bytes → old ≡ Some bytes → RefusesImage in_memory (pixel_count h) old new e → IsReaderFault in_memory e
 unfolding StandsAhead
 fault_ahead true h old new e bytes (cs, rest, whole) told refused =
-    absurd (whole_not_refused_in true (pixel_count h) old new e bytes cs rest refl told whole refused)
+    absurd (whole_not_refused (pixel_count h) bytes cs rest e whole (rw told at refused).1)
 fault_ahead false h old new e bytes (cs, rest, whole) told refused =
-    whole_is_io_error (pixel_count h) bytes cs rest new e whole (subst (λ z. RefusesImage false (pixel_count h) z new e) told refused)
+    whole_is_io_error (pixel_count h) bytes cs rest new e whole (rw told at refused)
 
 -- what is read from known bytes is an image at their front, and what follows it is left
 pub image_read : (channels : Channels) (h : Header) (bytes : List ℕ) (left : Option (List ℕ)) (out : List ℕ)

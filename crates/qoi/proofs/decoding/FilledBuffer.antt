@@ -5,7 +5,7 @@ use Rattle.std.proofs.lemmas.Grind.{flat_map-append}
 use Rattle.qoi.specs.Qoi.{RgbaPixel, Past}
 use Rattle.qoi.specs.Raw.{IsChannels, pixel_bytes, output}
 use Rattle.qoi.specs.inner.Filling.{HasWritten, HasFilled}
-use Rattle.qoi.proofs.format.WholePixels.{length-output, take-output, take_whole}
+use Rattle.qoi.proofs.format.WholePixels.{length-output, length-output_reverse, take-output, take_whole}
 use Rattle.qoi.proofs.format.ChunkSteps.{repeats_after, reverse-replicate}
 
 -- if there is room, the offset is after the pixels so far
@@ -36,7 +36,7 @@ filled_list f c n out new at past ps is inside fits size e h =
     let so_far = output f c (reverse past) in
     let end = at + c * length ps in
     let some : length bytes ≡ c * length ps = length-output f c ps is in
-    let many : length so_far ≡ at = length-output f c (reverse past) is ∙ ap (λ k. c * k) (length-reverse past) ∙ sym at_now.now in
+    let many : length so_far ≡ at = length-output_reverse f c past is ∙ sym at_now.now in
     let all : length (so_far ++ bytes) ≡ end = omega (arith, length-append so_far bytes) in
     record {
       room = size ∙ h.room;
@@ -57,7 +57,7 @@ filled_full f c n out at past more is h full =
       room = h.room;
       at_is = h.at_is ∙ ap (λ k. c * k) (sym min_is);
       same = h.same ∙ sym (ap (take at) (output-append f c more past) ∙ take-append-le at (output f c (reverse past)) (output f c (reverse more))
-          (grind (arith, is, h.room, h.at_is, full, length-output f c (reverse past) is, length-reverse past)));
+          (grind (arith, is, h.room, h.at_is, full, length-output_reverse f c past is)));
     }
 
 -- copies of a pixel that were written count as filled

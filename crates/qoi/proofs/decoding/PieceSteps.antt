@@ -1,6 +1,6 @@
 -- A piece more: what is unread, before and after chunks are decoded.
 use Rattle.std.proofs.Common.{◌≡◌, ℕ, ◌+◌, ◌-◌, ◌*◌, ◌/◌, ◌%◌, ◌<◌, ◌≤◌, List, [], ◌∷◌, ◌++◌, length, take, drop, replicate, reverse, min, inl, inr, Option, arith, refl, sym, ap, ◌∙◌, subst, append_assoc, append-nil, length-append, take-add}
-use Rattle.std.proofs.lemmas.List.{length-replicate, length-reverse, reverse-append, length-take, length-take-le, length-drop, take-append-le, take-take, take_all, drop-drop}
+use Rattle.std.proofs.lemmas.List.{length-replicate, reverse-append, length-take, length-take-le, length-drop, take-append-le, take-take, take_all, drop-drop}
 use Rattle.std.proofs.lemmas.Bool.{cases_lt}
 use borrow.Rule.Slice.PartMut.{put_mid}
 use Rattle.std.proofs.lemmas.Grind.{flat_map-append}
@@ -12,7 +12,7 @@ use Rattle.qoi.specs.inner.Hashed.{pixel_of_lanes}
 use Rattle.qoi.specs.pieces.Unread.{Unread, kept_count, kept_raw, bytes_left, KeepsWithin, KeepsNothing, KeepsPixels, IsUnread, LacksRun}
 use Rattle.qoi.proofs.format.ChunkSteps.{times_some, reverse-replicate, length-then_chunk, length-then_chunks}
 use Rattle.qoi.proofs.format.LaneBytes.{front_put}
-use Rattle.qoi.proofs.format.WholePixels.{whole_pixels, length-output, take_whole}
+use Rattle.qoi.proofs.format.WholePixels.{whole_pixels, length-output, length-output_reverse, take_whole}
 use Rattle.qoi.proofs.decoding.Progress.{fewer, none_written}
 
 -- as many copies of a pixel as have so many bytes
@@ -39,8 +39,8 @@ pub closes : {f c : ℕ} {gone : Past} {m : ℕ} {start ahead : Option (List ℕ
 closes {f} {c} {gone} {m} {start} {ahead} {table} {now} given out is s inside so_far =
     let recent = s.recent in
     let few : length recent < m = fewer is s.filled inside in
-    let many : length (output f c (reverse recent)) ≡ now.at =
-    length-output f c (reverse recent) is ∙ ap (λ k. c * k) (length-reverse recent ∙ omega (arith, few)) ∙ sym s.filled.at_is in
+    let least : length recent ≡ min m (length recent) = omega (arith, few) in
+    let many : length (output f c (reverse recent)) ≡ now.at = length-output_reverse f c recent is ∙ ap (λ k. c * k) least ∙ sym s.filled.at_is in
     let front : take now.at out ≡ output f c (reverse recent) = s.filled.same ∙ take_whole now.at (output f c (reverse recent)) many in (
       recent ++ gone,
       s.after,
@@ -62,15 +62,13 @@ none_kept p given same = ap (λ k. given ++ take k (drop p.from p.bytes)) same �
 pub gone_count : (f c n m : ℕ) (gone : Past) (given : List ℕ) (undecoded : ℕ) → IsChannels c → given ≡ output f c (reverse gone)
     → length given + undecoded ≡ c * n → (undecoded ≡ c * m → length gone + m ≡ n) × (c * m ≤ undecoded → length gone + m ≤ n)
 gone_count f c n m gone given undecoded is so_far all =
-    let size : length given ≡ c * length gone = ap length so_far ∙ length-output f c (reverse gone) is ∙ ap (λ k. c * k) (length-reverse gone) in
+    let size : length given ≡ c * length gone = ap length so_far ∙ length-output_reverse f c gone is in
     (λ d. grind (arith, is, size, all), λ d. grind (arith, is, size, all))
 
 -- and with those of an output as many as its bytes, too
 gone_bytes : (f c m : ℕ) (gone : Past) (given out : List ℕ) → IsChannels c → given ≡ output f c (reverse gone) → length out ≡ c * m
     → c * (length gone + m) ≡ length given + length out
-gone_bytes f c m gone given out is so_far many =
-    let size : length given ≡ c * length gone = ap length so_far ∙ length-output f c (reverse gone) is ∙ ap (λ k. c * k) (length-reverse gone) in
-    grind (arith, is, size, many)
+gone_bytes f c m gone given out is so_far many = grind (arith, is, ap length so_far, length-output_reverse f c gone is, many)
 
 -- no bytes, no copies
 pub no_copies : (c run last : ℕ) (gone : Past) → IsChannels c → run ≡ 0 → copies c run last ++ gone ≡ gone
@@ -259,7 +257,7 @@ pub rest_whole : {f c n : ℕ} {start now : Option (List ℕ)} {given : List ℕ
     → 0 < p.undecoded → p.undecoded ≡ c * (p.undecoded / c)
 rest_whole {f} {c} {n} {start} {now} {given} {p} is h same some =
     let (gone, stands, all) = h.goes_on some in
-    let size : length given ≡ c * length gone = ap length (sym (none_kept p given same) ∙ all) ∙ length-output f c (reverse gone) is ∙ ap (λ k. c * k) (length-reverse gone) in
+    let size : length given ≡ c * length gone = ap length (sym (none_kept p given same) ∙ all) ∙ length-output_reverse f c gone is in
     let all = h.size in
     grind (arith, is, size, all, same)
 
@@ -309,8 +307,7 @@ still_goes {f} {c} {n} {start} {now} {given} p is h whole some =
     let one = output f c (replicate k px) in
     let bytes : given ++ (kept_raw p ++ one) ≡ output f c (reverse (replicate k px ++ gone)) =
     sym (append_assoc given (kept_raw p) one) ∙ ap (λ z. z ++ one) e ∙ sym (output_copies f c k px gone) in
-    let size : length given + length (kept_raw p) ≡ c * length gone =
-    sym (length-append given (kept_raw p)) ∙ ap length e ∙ length-output f c (reverse gone) is ∙ ap (λ k. c * k) (length-reverse gone) in
+    let size : length given + length (kept_raw p) ≡ c * length gone = sym (length-append given (kept_raw p)) ∙ ap length e ∙ length-output_reverse f c gone is in
     let count : length (replicate k px ++ gone) ≡ k + length gone = length-append (replicate k px) gone ∙ ap (λ m. m + length gone) (length-replicate k px) in
     record {
       all = replicate k px ++ gone;

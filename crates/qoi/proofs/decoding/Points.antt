@@ -1,6 +1,6 @@
 -- Points in the image of a file, and the readers that go on there.
 use Rattle.std.proofs.Common.{◌≡◌, ◌≤◌, ◌<◌, ◌+◌, ◌*◌, ◌/◌, ◌%◌, ◌∙◌, ℕ, List, ◌++◌, length, drop, reverse, replicate, Some, Result, Ok, Err, IfOk, refl, sym, ap, subst, arith, [], append_assoc, length-append, length-drop, length-take}
-use Rattle.std.proofs.lemmas.List.{length-reverse, drop_at, drop-drop, drop-append-le}
+use Rattle.std.proofs.lemmas.List.{drop_at, drop-drop, drop-append-le}
 use Rattle.qoi.specs.Qoi.{Error, Header, Channels, RgbaPixel, previous, channels_number, pixel_count, header_of, header_size, chunk_bytes, then_chunks}
 use Rattle.qoi.specs.Raw.{IsChannels, output}
 use Rattle.qoi.specs.inner.Hashed.{pixel_of_lanes, HoldsSeen}
@@ -9,7 +9,7 @@ use Rattle.qoi.specs.pieces.Unread.{kept_raw, IsUnread}
 use Rattle.qoi.specs.inner.Filling.{DecoderAfter}
 use Rattle.qoi.specs.pieces.RowIndex.{PointState, StandsAt, ReadsFile, IsPointOf, GoesOnAt, file_decoder}
 use Rattle.qoi.proofs.format.HeaderBytes.{header_front}
-use Rattle.qoi.proofs.format.WholePixels.{whole_pixels, length-output}
+use Rattle.qoi.proofs.format.WholePixels.{whole_pixels, length-output_reverse}
 use Rattle.qoi.proofs.decoding.ImageSize.{channels_are}
 use Rattle.qoi.proofs.decoding.PieceSteps.{copies, none_kept, kept_long, gone_count}
 use Rattle.qoi.proofs.decoding.PixelPieces.{byte_bounds, has_given}
@@ -87,7 +87,7 @@ point_resumes channels h file m q s is p =
       taken = p.split ∙ ap (λ z. chunk_bytes p.cs ++ z) (sym reader);
       has_seen = record { table_is = subst (HoldsSeen q.unread.table) all (s.table (then_chunks [] p.cs) p.table); last_is = s.last ∙ p.last ∙ ap previous all };
     } in
-    let size : length given ≡ c * length p.gone = length-output f c (reverse p.gone) is_c ∙ ap (λ k. c * k) (length-reverse p.gone) in
+    let size : length given ≡ c * length p.gone = length-output_reverse f c p.gone is_c in
     let more : q.unread.run < q.unread.undecoded = fewer_bytes c m.run m.left q.unread.run q.unread.undecoded is_c s.run s.left s.behind in
     let unread : IsUnread f c n start (Some q.reader) given q.unread = record {
       size = omega (arith, all_bytes c (length p.gone) m.left n (length given) q.unread.undecoded is_c size s.left p.left, s.none);

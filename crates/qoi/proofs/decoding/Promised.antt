@@ -127,7 +127,7 @@ pub has_refused : {R : Type 0} (in_memory : Bool) (d : DecoderState R) (old new 
     → RefusesImage in_memory (pixel_count d.header) old new e → HasRefused in_memory d old new e
 has_refused in_memory d old new e r = record {
   why = r;
-  not_whole = λ memory bytes rest cs told whole. whole_not_refused_in in_memory _ old new e bytes cs rest memory told whole r;
+  not_whole = λ memory bytes rest cs told whole. whole_not_refused_in in_memory _ bytes new e cs rest memory whole (rw told at r);
   fault = if_known old _ (λ bytes told stands. fault_ahead in_memory d.header old new e bytes stands told r);
   cut = λ bytes told. (says_of in_memory _ bytes new e (rw told at r)).0;
   wrong = λ bytes told. (says_of in_memory _ bytes new e (rw told at r)).1;

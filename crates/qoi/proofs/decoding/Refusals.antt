@@ -1,5 +1,5 @@
 -- What refusals exclude, and what is handed on of them.
-use Rattle.std.proofs.Common.{◌≡◌, ℕ, List, Bool, true, false, Option, Some, None, Result, Err, MatchResult, IsErrAnd, ◌∙◌, ap, subst}
+use Rattle.std.proofs.Common.{◌≡◌, ℕ, List, Bool, true, false, Option, Some, Result, Err, MatchResult, IsErrAnd, ◌∙◌, ap}
 use Rattle.std.proofs.lemmas.Result.{err_from_is_err_and}
 use Rattle.qoi.specs.Qoi.{Error, UnexpectedBufferEnd, InvalidPadding, Chunk}
 use Rattle.qoi.specs.Verdicts.{IsWhole}
@@ -13,14 +13,10 @@ whole_not_refused n bytes cs rest InvalidPadding whole (after, wrong) = whole_no
 whole_not_refused n bytes cs rest _ whole no_reason = no_reason
 
 -- the same for a refusal of a reader whose bytes stand in memory
-pub whole_not_refused_in : (in_memory : Bool) (n : ℕ) (old new : Option (List ℕ)) (e : Error) (bytes : List ℕ) (cs : List Chunk) (rest : List ℕ)
-    → in_memory ≡ true → old ≡ Some bytes
-    → IsWhole n bytes cs rest → RefusesImage in_memory n old new e → ⊥
-whole_not_refused_in true n (Some xs) new e bytes cs rest memory told whole refused =
-    let same : xs ≡ bytes = cc in
-    whole_not_refused n bytes cs rest e whole (subst (λ z. RefusesBytes n z e) same refused.1)
-whole_not_refused_in true n None new e bytes cs rest memory told whole refused = cc
-whole_not_refused_in false n old new e bytes cs rest memory told whole refused = cc
+pub whole_not_refused_in : (in_memory : Bool) (n : ℕ) (bytes : List ℕ) (new : Option (List ℕ)) (e : Error) (cs : List Chunk) (rest : List ℕ) → in_memory ≡ true
+    → IsWhole n bytes cs rest → RefusesImage in_memory n (Some bytes) new e → ⊥
+whole_not_refused_in true n bytes new e cs rest memory whole refused = whole_not_refused n bytes cs rest e whole refused.1
+whole_not_refused_in false n bytes new e cs rest memory whole refused = cc
 
 -- what holds of the error that a `?` hands on holds of what is returned
 pub handed_on : {T E : Type 0} (P : T → Type 0) (Q : E → Type 0) {e : E} (r : Result T E) → IsErrAnd r (λ y. y ≡ e) → Q e → MatchResult r P Q

@@ -1,6 +1,7 @@
 -- What holds of three channels and of four, and the bytes of whole pixels.
-use Rattle.std.proofs.Common.{◌≡◌, ℕ, zero, suc, ◌+◌, ◌*◌, ◌/◌, ◌%◌, ◌≤◌, inl, inr, List, [], ◌∷◌, ◌++◌, length, take, arith, refl, sym, ap, ◌∙◌, subst, length-append, mul-suc}
+use Rattle.std.proofs.Common.{◌≡◌, ℕ, zero, suc, ◌+◌, ◌*◌, ◌/◌, ◌%◌, ◌≤◌, inl, inr, List, [], ◌∷◌, ◌++◌, length, reverse, take, arith, refl, sym, ap, ◌∙◌, subst, length-append, mul-suc}
 use Rattle.std.proofs.Math.Seq.{take-length, take-append-add}
+use Rattle.std.proofs.lemmas.List.{length-reverse}
 use Rattle.qoi.specs.Qoi.{RgbaPixel}
 use Rattle.qoi.specs.Raw.{IsChannels, pixel_bytes, output}
 
@@ -23,6 +24,10 @@ pub length-output : (f c : ℕ) (ps : List RgbaPixel) → IsChannels c → lengt
 length-output f c [] is = omega arith
 length-output f c (p ∷ ps) is =
     grind (arith, mul-suc c (length ps), length-append (pixel_bytes f c p) (output f c ps), length-pixel_bytes f c p is, length-output f c ps is)
+
+-- in reverse, too
+pub length-output_reverse : (f c : ℕ) (ps : List RgbaPixel) → IsChannels c → length (output f c (reverse ps)) ≡ c * length ps
+length-output_reverse f c ps is = length-output f c (reverse ps) is ∙ ap (λ k. c * k) (length-reverse ps)
 
 -- the bytes of the first n pixels
 pub take-output : (f c n : ℕ) (ps : List RgbaPixel) → IsChannels c → n ≤ length ps → take (c * n) (output f c ps) ≡ output f c (take n ps)

@@ -53,6 +53,7 @@ impl<const N: usize, const F: usize, const TAG: u8> Series<N, F, TAG> {
 // Stores the pixel of the chunk that the bytes begin with, whose first byte is `TAG`, by the chunk's
 // own bytes, if those are the output's. The pixel before the series is for the contract alone.
 #[inline(always)]
+#[tactic(auto, using(crate::proofs::decoding::FastSteps::in_vector))]
 fn store_full<const N: usize, const F: usize, const TAG: u8>(
     out: &mut [u8],
     at: usize,

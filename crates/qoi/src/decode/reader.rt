@@ -239,6 +239,7 @@ impl<R: Read> Reader for R {
 
     ghost stated = { λ _ no. cc no };
 
+    #[tactic(auto, using(crate::proofs::format::HeaderBytes::stream_header))]
     fn decode_header(&mut self) -> Result<Header> {
         let mut bytes = [0; QOI_HEADER_SIZE];
         read_exact(self, &mut bytes)?;
