@@ -7,7 +7,7 @@ use Rattle.std.specs.List.{slice_get}
 use Rattle.qoi.specs.declared.encode.block.planes.Planes.{Planes}
 use Rattle.qoi.specs.declared.encode.block.spelling.Spelled.{Spelled}
 use Rattle.qoi.specs.Qoi.{RgbaPixel, pixel_eq, seen, hash}
-use Rattle.qoi.specs.Styles.{Style, Reference, Places, Tight, names}
+use Rattle.qoi.specs.Styles.{Style, Places, Tight, names}
 use Rattle.qoi.specs.inner.block.Lanes.{fresh_marks, mask, State, lanes_of, is_rep, group_bytes, block_bytes, NoneBlank, next_by, goes_on}
 use Rattle.qoi.specs.inner.BlockLoop.{InBlocks, Carry}
 use Rattle.qoi.specs.inner.block.Vectors.{counts, HasSpelled}
@@ -69,9 +69,8 @@ pub record Ready (style : Style) (ahead : List ℕ) (s : State) (ps pixels : Lis
 
 -- only in style Places it matters what the chunk before a group names
 same_group : (style : Style) (a b : Bool) (q : RgbaPixel) (n : ℕ) → (style ≡ Places → a ≡ b) → group_bytes style a q n ≡ group_bytes style b q n
-same_group Reference a b q n e = refl
 same_group Places a b q n e = ap (λ z. group_bytes Places z q n) (e refl)
-same_group Tight a b q n e = refl
+same_group style a b q n e = refl
 
 -- From the state before the block: the byte of its repeats is stored at `at`, and counts if it ends at
 -- `end`.

@@ -95,10 +95,9 @@ still_begun n past b = ap (list_any (λ p. true)) (fresh_repeats n past) ∙ b
 -- repeats change nothing that is seen
 pub repeats_held : (style : Style) (n : ℕ) (past : Past) → some_fresh past ≡ true → (i : ℕ)
     → seen (put_in style (replicate n (previous past) ++ past)) i ≡ seen (put_in style past) i
-repeats_held Reference n past b i = ap (λ x. seen x i) (fresh_repeats n past)
-repeats_held Places n past b i = ap (λ x. seen x i) (fresh_repeats n past)
 repeats_held Tight zero past b i = refl
 repeats_held Tight (suc n) past b i = seen_copies (suc n) (previous past) past i (omega arith) ∙ put_again (previous past) past (seen_last past b) i
+repeats_held style n past b i = ap (λ x. seen x i) (fresh_repeats n past)
 
 -- after a fresh pixel one came
 fresh_begun : (past : Past) (p : RgbaPixel) → p ≢ previous past → some_fresh (p ∷ past) ≡ true

@@ -4,7 +4,7 @@ use Rattle.std.specs.Prelude.{max, min}
 use Rattle.std.specs.List.{AllByRecursion}
 use Rattle.std.proofs.lemmas.Nat.{and_le_l}
 use Rattle.std.proofs.lemmas.Bool.{true≢false}
-use Rattle.qoi.specs.Styles.{Style, Reference, Places, Tight}
+use Rattle.qoi.specs.Styles.{Style, Places}
 use Rattle.qoi.specs.Qoi.{Run, RgbaPixel, IsPixel, pixel_eq, hash, seen, bytes_of}
 use Rattle.qoi.proofs.format.SamePixels.{hash_below}
 use Rattle.qoi.proofs.encoding.lists.GroupRuns.{not_one}
@@ -18,10 +18,9 @@ use Rattle.qoi.proofs.encoding.stores.StoredBlock.{chunk_pixels, second_small, o
 
 -- a fresh lane's byte stays
 pub fresh_stays : (style : Style) (q : Bool) (h f : ℕ) → h < 64 → f < 256 → named_in style false q h 0 f ≡ f
-fresh_stays Reference q h f lh lf = refl
 fresh_stays Places true h f lh lf = (let o : bit_or h 255 ≡ 255 = or_mask h false (omega arith) in omega arith)
 fresh_stays Places false h f lh lf = (let o : bit_or h 255 ≡ 255 = or_mask h false (omega arith) in omega arith)
-fresh_stays Tight q h f lh lf = refl
+fresh_stays style q h f lh lf = refl
 
 -- the byte of a group of repeats in style Places
 group_byte : (h c f : ℕ) (q : Bool) (p : RgbaPixel) → h ≡ hash p → f ≡ suc c + 191 → suc c < 62
@@ -56,9 +55,8 @@ run_first (suc c) f is = run (suc c) is ∙ sym (ap (λ b. bytes_of (if b then R
 
 -- in each style
 group_first : (style : Style) (c f : ℕ) (q : Bool) (p : RgbaPixel) → f ≡ suc c + 191 → suc c < 62 → named_in style true q (hash p) (suc c) f ∷ [] ≡ group_bytes style q p (suc c)
-group_first Reference c f q p is few = run_first c f is
 group_first Places c f q p is few = group_byte (hash p) c f q p refl is few
-group_first Tight c f q p is few = run_first c f is
+group_first style c f q p is few = run_first c f is
 
 -- only for a single repeat it matters what the chunk before names
 same_group : (style : Style) (c : ℕ) (q placed : Bool) (p : RgbaPixel) → (c ≡ 0 → q ≡ placed) → group_bytes style q p (suc c) ≡ group_bytes style placed p (suc c)
@@ -100,9 +98,8 @@ firsts_anew style q r c (l ∷ ls) e =
 -- the first bytes after a lane, from the state after it
 firsts_next : (style : Style) (s : State) (p : RgbaPixel) (q b m : Bool) (ls : List Lane) → goes_on ls ≡ m
     → firsts_in style q (if b then suc s.carry else 0) ls ≡ firsts_in style q (next_by b m s p).carry ls
-firsts_next style s p q true true ls e = refl
 firsts_next style s p q true false ls e = firsts_anew style q q (suc s.carry) ls e
-firsts_next style s p q false m ls e = refl
+firsts_next style s p q b m ls e = refl
 
 -- whether the chunk before names the position, after a lane
 still_placed : (s : State) (p : RgbaPixel) (b m : Bool) (ls : List Lane) → goes_on ls ≡ m → (next_by b m s p).carry ≡ 0 → goes_on ls ≡ true
@@ -138,9 +135,8 @@ firsts_long style q c (l ∷ ls) = ap (λ n. suc n) (firsts_long style l.stands 
 
 -- each is a byte
 first_below : (style : Style) (b q : Bool) (l : Lane) (n : ℕ) → first_in style b q l n < 256
-first_below Reference b q l n = over_byte l (mask b) (n + 191)
 first_below Places b q l n = omega (arith, over_byte l (mask b) (n + 191))
-first_below Tight b q l n = over_byte l (mask b) (n + 191)
+first_below style b q l n = over_byte l (mask b) (n + 191)
 
 -- so first bytes and lanes make pixels
 pub pixels_in : (style : Style) (q : Bool) (c : ℕ) (ls : List Lane) → AllByRecursion IsLane ls → AllByRecursion IsPixel (chunk_pixels ls (firsts_in style q c ls))

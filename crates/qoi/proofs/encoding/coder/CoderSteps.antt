@@ -5,7 +5,7 @@ use Rattle.std.specs.List.{AllByRecursion, slice_get}
 use Rattle.std.proofs.lemmas.Grind.{flat_map-append}
 use Rattle.qoi.specs.Qoi.{Chunk, Run, AreBytes, RgbaPixel, IsPixel, Past, previous, hash, IsChunk, bytes_of, chunk_bytes}
 use Rattle.qoi.specs.Runs.{runs_by}
-use Rattle.qoi.specs.Styles.{Style, Reference, Places, Tight, fresh_next, some_fresh, names, choice_in, styled}
+use Rattle.qoi.specs.Styles.{Style, Reference, Places, fresh_next, some_fresh, names, choice_in, styled}
 use Rattle.qoi.specs.WrittenList.{chosen, list_after, written_list}
 use Rattle.qoi.specs.inner.Coder.{single_chunk, last_chunk, Ahead, CoderAfter, CoderBetween, LastPixel}
 use Rattle.qoi.proofs.format.ChunkSteps.{previous_repeats, all_back}
@@ -169,9 +169,8 @@ coder_starts style image front table last are none state = record {
 -- what is known of the chunk before matters in style Places alone
 single_same : (style : Style) (begun placed named : Bool) (place n : ℕ) → (style ≡ Places → placed ≡ named)
     → single_chunk style begun placed place n ≡ single_chunk style begun named place n
-single_same Reference begun placed named place n is = refl
 single_same Places begun placed named place n is = ap (λ b. single_chunk Places begun b place n) (is refl)
-single_same Tight begun placed named place n is = refl
+single_same style begun placed named place n is = refl
 
 module _ {style : Style} {ahead : List ℕ} {pixels : List RgbaPixel} {table : List RgbaPixel} {last : LastPixel} {bytes : List ℕ}
     (b : CoderBetween style ahead pixels table last bytes) where

@@ -21,16 +21,14 @@ use Rattle.qoi.proofs.shortness.RegularLists.{written_regular}
 
 -- each style's choice has what a choice has to offer
 pub chooses_in : (style : Style) → Chooses (choice_in style) (chosen style)
-chooses_in Reference = chooses
-chooses_in Places = chooses
 chooses_in Tight = tight_chooses
+chooses_in style = chooses
 
 -- what holds of the list of each style holds of each list that is written
 by_style : (P : List Chunk → Type 0) (style : Style) (image : List RgbaPixel) (cs : List Chunk) → (w : WrittenIn style image cs) → P w.list
     → P (placed_after [] None w.list) → P cs
-by_style P Reference image cs w one two = subst P (sym w.is) one
 by_style P Places image cs w one two = subst P (sym w.is) two
-by_style P Tight image cs w one two = subst P (sym w.is) one
+by_style P style image cs w one two = subst P (sym w.is) one
 
 -- the chunks are chunks
 pub style_chunks : (style : Style) (image : List RgbaPixel) (cs : List Chunk) → WrittenIn style image cs → AreChunks cs
@@ -87,9 +85,8 @@ style_upper style image channels cs has w = subst (λ k. k ≤ floor image + sla
     (go style w.list w.written)
   where
     go : (style : Style) (list : List Chunk) → WrittenBy (choice_in style) image list → length (chunk_bytes list) ≤ floor image + slack image channels
-    go Reference list v = upper image channels list has v
-    go Places list v = upper image channels list has v
     go Tight list v = omega (arith, tight_exact image list v, floor0_high image)
+    go style list v = upper image channels list has v
 
 -- the list of an image is written for it
 pub list_written : (style : Style) (image : List RgbaPixel) → AllByRecursion IsPixel image → WrittenIn style image (written_list style image)

@@ -5,7 +5,7 @@ use Rattle.std.proofs.lemmas.Bool.{lt-ltb, ne_eqb}
 use Rattle.std.specs.List.{list_any}
 use Rattle.qoi.specs.Qoi.{Chunk, Place, Run, RgbaPixel, Past, previous, hash, pixel_after, then_chunk}
 use Rattle.qoi.specs.Runs.{last_by, runs_by}
-use Rattle.qoi.specs.Styles.{Style, Reference, Places, Tight, is_run, fresh_next, some_fresh, names, place_for, placed_after, styled}
+use Rattle.qoi.specs.Styles.{Style, Places, is_run, fresh_next, some_fresh, names, place_for, placed_after, styled}
 use Rattle.qoi.specs.inner.Coder.{single_chunk, last_chunk}
 use Rattle.qoi.proofs.format.ChunkSteps.{previous_repeats, repeats_after, then_other}
 use Rattle.qoi.proofs.encoding.coder.CoderTable.{fresh_repeats}
@@ -57,9 +57,8 @@ single_is past before (suc k) =
 
 -- the rest of a group that isn't single is a run, whichever chunk stands for a single one
 last_same : (r : ℕ) (c d : Chunk) → (r ≡ 1 → c ≡ d) → last_by c r ≡ last_by d r
-last_same zero c d e = refl
 last_same (suc zero) c d e = ap (λ x. x ∷ []) (e refl)
-last_same (suc (suc r)) c d e = refl
+last_same r c d e = refl
 
 -- the same of a group's runs
 plain : (n : ℕ) (one : Chunk) → (n % 62 ≡ 1 → one ≡ Run 1) → runs_by (Run 1) n ≡ runs_by one n
@@ -102,8 +101,6 @@ pub styled_runs : (style : Style) (past : Past) (before : Option Chunk) (n : ℕ
     → styled style past before (runs_by (Run 1) n ++ left)
     ≡ runs_by one n ++ styled style (replicate n (previous past) ++ past) (last_chunk before (runs_by (Run 1) n)) left
 unfolding runs_by
-styled_runs Reference past before n left one is = ap (λ x. x ++ left) (plain n one (λ e. elim (is e) [ inl p ↦ p.1 | inr p ↦ p.1 ]))
-styled_runs Tight past before n left one is = ap (λ x. x ++ left) (plain n one (λ e. elim (is e) [ inl p ↦ p.1 | inr p ↦ p.1 ]))
 styled_runs Places past before n left one is =
     let q = previous past in
     let k = n / 62 in
@@ -125,6 +122,7 @@ styled_runs Places past before n left one is =
     ∙ (λ i. last_by one r ++ placed_after (group i) (sym (last_fulls k before (last_by (Run 1) r)) i) left))
     ∙ sym (append_assoc (replicate k (Run 62)) (last_by one r)
     (placed_after (replicate n q ++ past) (last_chunk before (replicate k (Run 62) ++ last_by (Run 1) r)) left))
+styled_runs style past before n left one is = ap (λ x. x ++ left) (plain n one (λ e. elim (is e) [ inl p ↦ p.1 | inr p ↦ p.1 ]))
 
 -- the chunk of a fresh pixel, and what follows it
 pub styled_chunk : (style : Style) (past : Past) (before : Option Chunk) (p : RgbaPixel) (c : Chunk) (left : List Chunk) → is_run c ≡ false

@@ -8,7 +8,7 @@ use Rattle.qoi.specs.Raw.{IsChannels, AreOpaque}
 use Rattle.qoi.specs.Styles.{Places, names, style_in}
 use Rattle.qoi.specs.inner.block.Lanes.{State, group_bytes, lanes_of, mask, step_of, same_alpha, size_of, lane_of, is_rep, goes_on}
 use Rattle.qoi.specs.inner.block.Vectors.{sizes}
-use Rattle.qoi.specs.inner.Coder.{put_in, kept_bytes, Ahead}
+use Rattle.qoi.specs.inner.Coder.{put_in}
 use Rattle.qoi.specs.inner.block.Planes.{block_pixels, last_pixel}
 use Rattle.qoi.specs.inner.block.Positions.{stand_tests}
 use Rattle.qoi.proofs.encoding.blocks.BlockStep.{ready, block_step}
@@ -84,8 +84,7 @@ returns g c = λ ahead n rest more fits b.
     let start : Carrying b.last.begun style ahead s (all ++ later) (take c.args.piece.piece.end c.args.piece.piece.bytes.now) = record {
       past = now.past;
       before = now.before;
-      to_write = subst (λ k. Ahead style ahead now.past now.before k (all ++ later) (kept_bytes c.args.piece.piece)) (sym b.is.count_is)
-          (subst (λ ps. Ahead style ahead now.past now.before b.last.repeats ps (kept_bytes c.args.piece.piece)) assoc now.to_write);
+      to_write = rw (b.is.count_is, ← assoc) now.to_write;
       last_is = sym q_is;
       begun_is = sym now.state.begun_is;
       opens = λ no. (b.is.count_is ∙ (b.goes.opens no).0, λ e. (b.goes.opens no).1 (sym first ∙ e ∙ ap Some b.is.px_is));

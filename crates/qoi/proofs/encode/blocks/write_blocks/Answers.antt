@@ -1,9 +1,8 @@
 -- By blocks, from the last pixel to what is carried, and back.
-use Rattle.std.proofs.Common.{◌≡◌, ℕ, List, inl, inr, ◌<◌, length, refl, sym, ap, ◌∙◌, arith, subst}
+use Rattle.std.proofs.Common.{◌≡◌, inl, inr, ◌<◌, length, refl, sym, ap, ◌∙◌, arith, subst}
 use Rattle.std.proofs.lemmas.Bool.{true≢false}
-use Rattle.qoi.specs.inner.BlockLoop.{InBlocks}
-use Rattle.qoi.specs.Styles.{Style, style_in}
-use Rattle.qoi.specs.inner.Coder.{Pixels, pixels_in, kept_bytes}
+use Rattle.qoi.specs.Styles.{style_in}
+use Rattle.qoi.specs.inner.Coder.{pixels_in}
 use Rattle.qoi.specs.inner.Sending.{FillsPiece, ImageState}
 use Rattle.qoi.proofs.encoding.coder.CoderLink.{still_between}
 use Rattle.qoi.proofs.encoding.piece.ImagePieces.{fills}
@@ -33,13 +32,8 @@ loop-rest-preserved g c =
     record {
       same = ap (λ (s : ImageState). record s { table = c.write_front_block.new.table }) i.same;
       less = inl (elim i.less [ inl less ↦ omega (arith, step.less, size, less) | inr same ↦ omega (arith, step.less, size, same.0) ]);
-      written = λ ahead more b.
-          let n = length (pixels_in c.args.raw) in
-          let In = λ (s : Style) (r : Pixels g.row.N) (kept : List ℕ). InBlocks s ahead n (pixels_in r) more c.loop-rest.state.table c.loop-rest.carry kept in
-          let was : In style c.in_loop.result.rest (kept_bytes c.open.result.piece) =
-          subst (λ r. In style r (kept_bytes c.open.result.piece)) (sym front) (subst (In style c.loop-rest.rest) (sym c.open.ensures) (i.written ahead more b)) in
-          subst (λ s. InBlocks s ahead n (pixels_in c.write_front_block.result.0) more c.write_front_block.new.table c.write_front_block.result.1 (kept_bytes c.write_front_block.result.2)) same
-          (step.written ahead _ more (omega (arith, ap (λ w. length (pixels_in w)) c.in_loop.ensures.whole)) (subst (λ s. In s c.in_loop.result.rest (kept_bytes c.open.result.piece)) (sym same) was));
+      written = λ ahead more b. rw same at
+          (step.written ahead (length (pixels_in c.args.raw)) more (omega (arith, ap (λ w. length (pixels_in w)) c.in_loop.ensures.whole)) (rw (same, front, c.open.ensures) (i.written ahead more b)));
     }
 
 pub returns : goal.returns

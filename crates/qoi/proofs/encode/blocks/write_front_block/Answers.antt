@@ -1,11 +1,11 @@
 -- A block, or a group. Before its groups a fresh pixel came, since the call wrote one.
-use Rattle.std.proofs.Common.{◌≡◌, ◌≤◌, ◌%◌, inl, inr, Option, None, Some, List, ◌++◌, take, drop, sym, ap, ◌∙◌, arith, subst, take-append-drop}
+use Rattle.std.proofs.Common.{◌≡◌, ◌≤◌, ◌%◌, inl, inr, Option, None, Some, ◌++◌, take, drop, sym, ap, ◌∙◌, arith, subst, take-append-drop}
 use Rattle.std.specs.List.{slice_get}
 use Rattle.qoi.specs.Qoi.{RgbaPixel}
 use Rattle.qoi.specs.inner.block.Vectors.{FitsBlock}
-use Rattle.qoi.specs.inner.BlockLoop.{InBlocks, IsCarried, FRONT_CARRIED}
-use Rattle.qoi.specs.Styles.{Style, style_in}
-use Rattle.qoi.specs.inner.Coder.{LastPixel, pixels_in, kept_bytes}
+use Rattle.qoi.specs.inner.BlockLoop.{IsCarried, FRONT_CARRIED}
+use Rattle.qoi.specs.Styles.{style_in}
+use Rattle.qoi.specs.inner.Coder.{LastPixel, pixels_in}
 use Rattle.qoi.specs.inner.block.Planes.{block_pixels, last_pixel}
 use Rattle.qoi.specs.inner.block.Lanes.{fresh_marks}
 use Rattle.qoi.proofs.encoding.coder.CoderLink.{in_style, still_between, goes_on}
@@ -88,7 +88,5 @@ returns g c =
     record {
       less = omega (arith, c.skip.ensures.size);
       written = λ ahead n more whole b.
-          let In = λ (s : Style) (ps : List RgbaPixel). InBlocks s ahead n ps more c.args.table.now c.args.carry (kept_bytes c.args.piece.piece) in
-          let next = c.write_in_lanes-piece.ensures ahead n after more fits (subst (λ s. In s (ps ++ after)) (sym same) (subst (In (style_in g.row.STYLE c.args.pixels.style)) front b)) in
-          rw c.skip.ensures.rest (subst (λ s. InBlocks s ahead n after more c.write_in_lanes-piece.new.table c.write_in_lanes-piece.result.0 (kept_bytes c.write_in_lanes-piece.result.1)) same next);
+          rw (c.skip.ensures.rest, ← same) (c.write_in_lanes-piece.ensures ahead n after more fits (rw (same, ← front) b));
     }

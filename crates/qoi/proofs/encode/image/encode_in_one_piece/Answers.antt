@@ -63,11 +63,6 @@ open-requires g c =
     let i = c.loop-state.invariant in
     (omega arith, (omega arith, not_full g (goal.at.open-requires g c).After-new-state _ c.loop-state.piece _ i.goes i.same))
 
-pub fill_piece-requires : goal.fill_piece-requires
-fill_piece-requires g c =
-    let i = c.loop-state.invariant in
-    (omega arith, (omega arith, (i.whole, omega (arith, c.if-left-block.true, c.block_size-block.ensures, ap channels_number i.stays.0))))
-
 pub loop-state-preserved : goal.loop-state-preserved
 loop-state-preserved g c =
     let i = c.loop-state.invariant in

@@ -1,7 +1,6 @@
 -- A piece at a time.
-use Rattle.std.proofs.Common.{◌-◌, sym, ap, ◌∙◌, arith, subst}
+use Rattle.std.proofs.Common.{◌-◌, sym, ◌∙◌, arith, subst}
 use Rattle.std.proofs.lemmas.Result.{err_from_is_err_and}
-use Rattle.qoi.specs.Qoi.{channels_number}
 use Rattle.qoi.specs.Writers.{WroteBut}
 use Rattle.qoi.specs.inner.Coder.{kept_bytes}
 use Rattle.qoi.proofs.encoding.piece.BytesAhead.{then_on, then_breaks, sent_on, sent_part, room_kept, still_ready}
@@ -9,11 +8,6 @@ use Rattle.qoi.proofs.encoding.piece.PieceSent.{kept_length, sent_but}
 use Rattle.qoi.proofs.encoding.piece.WriterProgress.{none_but}
 use Rattle.qoi.proofs.encode.image.write_pixels.Goals.{then-is_full+in_ok-send, else-is_full}
 use Rattle.qoi.proofs.encode.image.write_pixels.Goals as goal
-
-pub fill_piece-next_piece-requires : goal.fill_piece-next_piece-requires
-fill_piece-next_piece-requires g c =
-    let was = c.loop-rest.invariant in
-    (omega arith, (omega arith, (was.ready.whole, omega (arith, c.loop-rest-test.true, c.block_size-block.ensures, ap channels_number was.stays.0))))
 
 pub send-requires : goal.send-requires
 send-requires g c =

@@ -55,10 +55,6 @@ returns-clause-rest g c =
     let sixteen : (16 - lanes) + lanes ≡ 16 = omega (arith, i.lanes_few) in
     c.skip.ensures.rest ∙ ap (drop lanes) i.rest_is ∙ drop-drop lanes (16 - lanes) raw ∙ ap (λ k. drop k raw) sixteen
 
-pub returns-clause-less : goal.returns-clause-less
-returns-clause-less g c =
-    omega (arith, c.skip.ensures.size, ap length c.loop-left.invariant.rest_is, length-drop (16 - c.loop-left.count) (pixels_in c.args.pixels.rest), c.args.pixels.enough, c.loop-left.invariant.lanes_few)
-
 pub returns-clause-written : goal.returns-clause-written
 returns-clause-written g c = record {
   style = c.loop-left.invariant.written.style;

@@ -1,8 +1,8 @@
 -- Repeats and a fresh pixel further, until no pixel is left; then the last run.
-use Rattle.std.proofs.Common.{◌≡◌, ◌≢◌, ◌≤◌, ◌+◌, ◌*◌, ◌++◌, inl, inr, [], length, refl, sym, ◌∙◌, arith, subst, append-nil}
+use Rattle.std.proofs.Common.{◌≡◌, ◌≢◌, ◌≤◌, ◌+◌, ◌*◌, inl, inr, [], length, refl, sym, ◌∙◌, arith, append-nil}
 use Rattle.std.proofs.lemmas.Bool.{true≢false, cases_lt}
 use Rattle.qoi.specs.Qoi.{Run, chunk_max}
-use Rattle.qoi.specs.inner.Coder.{pixels_in, kept_bytes, CoderBetween, RUNS_AT_ONCE}
+use Rattle.qoi.specs.inner.Coder.{pixels_in, RUNS_AT_ONCE}
 use Rattle.qoi.proofs.encoding.coder.CoderLink.{then_passes}
 use Rattle.qoi.proofs.encoding.coder.CoderSteps.{last_run}
 use Rattle.qoi.proofs.encode.coder.Coder.write_last_groups.Goals as goal
@@ -29,7 +29,6 @@ returns g c = record {
   all = λ ahead b.
       let now = c.loop-rest in
       let none : pixels_in now.rest ≡ [] = c.is_empty.ensures.0 c.loop-rest-test.false in
-      let start = subst (λ ps. CoderBetween c.args.self.now.style ahead ps c.args.table.now c.args.self.now.last (kept_bytes c.args.piece.now)) (sym (append-nil (pixels_in c.args.raw))) b in
-      let end = subst (λ ps. CoderBetween now.self.style ahead (ps ++ []) now.table now.self.last (kept_bytes now.piece)) none (now.invariant.written.on ahead [] start) in
+      let end = rw none at (now.invariant.written.on ahead [] (rw (append-nil (pixels_in c.args.raw)) b)) in
       last_run end.to_write ∙ sym (c.append_run.ensures.kept (Run 1) refl);
 }

@@ -42,9 +42,6 @@ ahead_is : (g : Over) (c : After-repeats_of-ahead g) (more : List RgbaPixel)
     → pixels_in c.args.raw ++ more ≡ replicate c.repeats_of-ahead.result c.args.self.now.last.px ++ (drop c.repeats_of-ahead.result (pixels_in c.args.raw) ++ more)
 ahead_is g c more = ap (λ ps. ps ++ more) (near g c).same ∙ append_assoc (replicate c.repeats_of-ahead.result c.args.self.now.last.px) (drop c.repeats_of-ahead.result (pixels_in c.args.raw)) more
 
-pub returns-then-is_empty-clause-none : goal.returns-then-is_empty-clause-none
-returns-then-is_empty-clause-none g c = λ some. absurd (some (sym c.skip.ensures.rest ∙ c.is_empty.ensures.0 c.if-is_empty.true))
-
 pub returns-then-is_empty-clause-written : goal.returns-then-is_empty-clause-written
 returns-then-is_empty-clause-written g c = record {
   style = c.update_after_repeats.ensures.style;

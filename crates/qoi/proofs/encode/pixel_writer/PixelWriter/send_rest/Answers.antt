@@ -1,10 +1,9 @@
 -- All raw bytes came, and the rest of the file, or a beginning of it, is sent.
-use Rattle.std.proofs.Common.{◌≡◌, ◌++◌, [], refl, sym, ap, ◌∙◌, subst, arith, append-nil, inr, rules}
+use Rattle.std.proofs.Common.{◌≡◌, [], refl, sym, ap, ◌∙◌, subst, arith, append-nil, inr, rules}
 use Rattle.std.proofs.lemmas.Result.{MatchResult-weaker}
 use Rattle.std.proofs.KnownBytes.{Appends-trans}
 use Rattle.qoi.specs.Encoded.{IsFileOf, image_file}
 use Rattle.qoi.specs.Qoi.{IsValid}
-use Rattle.qoi.specs.declared.encode.pixel_writer.workspace.Workspace.{Workspace}
 use Rattle.qoi.specs.inner.Sending.{appended, ImageBetween}
 use Rattle.qoi.specs.EncoderState.{EncoderState}
 use Rattle.qoi.specs.pieces.PixelWriter.{HasTaken}
@@ -21,14 +20,9 @@ starts : (g : Over) (c : After-write_end g) (e : EncoderState) (before : _) → 
     × IsFileOf e.style e.header e.raw (image_file e.style e.header e.raw)
 unfolding HasTaken
 starts g c e before none taken =
-    let p = c.self.inside in
-    let workspace = p.workspace.value in
-    let now = g.W.Write.contents p.writer in
     let t = subst (HasTaken g.W.Write.contents e before) (sym c.self.view_is) taken in
-    let last = t.writes [] (sym none) (λ i. omega arith) in
-    let same = subst (λ x. ImageBetween appended (record e { raw = x }) before now workspace.state [] (workspace.held ++ [])) (append-nil e.raw) last in (
-      subst (λ (k : Workspace). ImageBetween appended e before now k.state [] k.held) (sym c.deref_mut-workspace.ensures.value)
-          (subst (ImageBetween appended e before now workspace.state []) (append-nil workspace.held) same),
+    let last = t.writes [] (sym none) (λ i. omega arith) in (
+      rw c.deref_mut-workspace.ensures.value (rw (append-nil e.raw, append-nil c.self.inside.workspace.value.held) at last),
       file_of_image e.style e.header e.raw (subst IsValid t.header_is c.self.invariant.0) (omega (arith, t.size, none)) t.are,
     )
 

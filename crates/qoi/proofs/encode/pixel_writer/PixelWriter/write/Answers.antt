@@ -22,12 +22,7 @@ starts : (g : Over) (c : After-deref_mut-workspace g) (e : EncoderState) (before
     → ImageBetween appended (and_raw (and_raw e c.args.raw.now) more) before (g.W.Write.contents c.self.inside.writer) c.deref_mut-workspace.result.now.state []
     ((c.deref_mut-workspace.result.now.held ++ c.args.raw.now) ++ more)
 starts g c e before more b =
-    let now = g.W.Write.contents c.self.inside.writer in
-    let workspace = c.self.inside.workspace.value in
-    let raw = c.args.raw.now in
-    subst (λ (k : Workspace). ImageBetween appended (and_raw (and_raw e raw) more) before now k.state [] ((k.held ++ raw) ++ more)) (sym c.deref_mut-workspace.ensures.value)
-    (subst (λ x. ImageBetween appended (record e { raw = x }) before now workspace.state [] ((workspace.held ++ raw) ++ more)) (sym (append_assoc e.raw raw more))
-    (subst (ImageBetween appended (and_raw e (raw ++ more)) before now workspace.state []) (sym (append_assoc workspace.held raw more)) b))
+    rw (c.deref_mut-workspace.ensures.value, append_assoc e.raw c.args.raw.now more, append_assoc c.self.inside.workspace.value.held c.args.raw.now more) b
 
 pub returns-in_err-take_raw-clause-refused : goal.returns-in_err-take_raw-clause-refused
 unfolding HasTaken

@@ -1,10 +1,7 @@
 -- What came is written or held.
-use Rattle.std.proofs.Common.{rules, ◌++◌, [], refl, sym, ◌∙◌, arith, subst, append-nil}
+use Rattle.std.proofs.Common.{rules, refl, sym, ◌∙◌, arith, append-nil}
 use Rattle.std.proofs.KnownBytes.{Appends-trans}
-use Rattle.qoi.specs.Writers.{AppendsBeginning}
-use Rattle.std.specs.Io.KnownBytes.{Appends}
 use Rattle.qoi.specs.inner.Coder.{kept_bytes}
-use Rattle.qoi.specs.inner.Sending.{appended, GoesOn}
 use Rattle.qoi.proofs.encoding.piece.BytesAhead.{then_on, then_breaks, stands, sent_on, sent_part}
 use Rattle.qoi.proofs.encoding.piece.StreamSent.{on_sent_to, off_sent_to}
 use Rattle.qoi.proofs.decoding.Refusals.{handed_on}
@@ -29,7 +26,7 @@ loop-writer-preserved g c =
 pub returns-in_err-send_bytes-clause-written : goal.returns-in_err-send_bytes-clause-written
 returns-in_err-send_bytes-clause-written g c =
     let r = c.in_err-send_bytes.ensures.refused in
-    let some = subst (AppendsBeginning (g.W.Write.contents c.loop-writer.writer) (g.W.Write.contents c.send_bytes.new.writer)) c.front.ensures r.1 in
+    let some = rw c.front.ensures at r.1 in
     handed_on _ _ _ c.from_residual-in_err-send_bytes.ensures.1 (
       r.0,
       then_breaks Appends-trans c.loop-writer.invariant.written
@@ -38,10 +35,7 @@ returns-in_err-send_bytes-clause-written g c =
 
 pub returns-clause-written : goal.returns-clause-written
 returns-clause-written g c =
-    let contents = g.W.Write.contents in
-    let old = c.args.workspace.now in
-    let workspace = kept_bytes c.loop-writer.piece.piece in
-    let all = subst (Appends (contents c.loop-writer.writer) (contents c.send_bytes.new.writer)) c.front.ensures c.in_ok-send_bytes.ensures.written in
-    subst (λ x. GoesOn appended (contents c.args.writer.now) old.state [] (old.held ++ c.args.raw.now) (contents c.send_bytes.new.writer) c.loop-writer.workspace.1.0 [] x) (sym c.push.ensures)
-    (then_on Appends-trans c.loop-writer.invariant.written
-    (sent_on stands c.loop-writer.invariant.written.opaque refl (record { front = workspace; split = sym (append-nil workspace); went = all })))
+    let kept = kept_bytes c.loop-writer.piece.piece in
+    let all = rw c.front.ensures at c.in_ok-send_bytes.ensures.written in
+    rw c.push.ensures (then_on Appends-trans c.loop-writer.invariant.written
+    (sent_on stands c.loop-writer.invariant.written.opaque refl (record { front = kept; split = sym (append-nil kept); went = all })))
