@@ -36,7 +36,8 @@ impl<R: Reader> PixelReader<R> {
     /// writer failed, of at most 4,096 bytes, perhaps within a row: `left` says where. It goes on
     /// there, to another writer.
     ///
-    /// Whose an `IoError` is, `writer.write(&[])` tells: it is one, too, if the writer failed.
+    /// Whose an `IoError` is, `writer.write(&[])` tells: that call returns one, too, if the writer
+    /// failed.
     ///
     /// ```
     /// let mut pixels = Decoder::from_buf_read(reader)?.into_pixels();
@@ -60,7 +61,7 @@ impl<R: Reader> PixelReader<R> {
             → HasGiven d (Some bytes) (R.ahead self.old.reader) [] self.old
             → HasTaken W.contents e before writer.old → OnOk result (HasTaken W.contents
             (and_raw e (front_image d.channels d.header bytes)) before writer.new) }
-        // In any case what was read before and the bytes that were copied, `more`, are the image.
+        // Whatever was read before: that and the bytes that were copied, `more`, are the image.
         ensures rest { IfGivenOf R.ahead self.old (λ d bytes given. (more : List ℕ)
             → given ++ more ≡ front_image d.channels d.header bytes
             → OnOk result (Takes W.contents more writer.old writer.new)) }

@@ -28,8 +28,8 @@ pub record InBlocks {N : ℕ} (style : Style) (ahead : List ℕ) (n : ℕ) (rest
   pub between : CoderBetween style ahead (rest ++ more) table last kept
   pub goes : GoesByBlocks style last n rest
 
--- Some pixels are written, which leads from the first pixels, table, carry and piece to the second, of a
--- call's `least` or more.
+-- Some pixels are written: from `raw`, table, carry and piece to the primed ones, in a call that has
+-- `least` pixels or more.
 pub record WritesBlocks {N ROOM : ℕ} (style : Style) (least : ℕ) (raw : Pixels N) (table : List RgbaPixel) (carry : Carry N) (piece : Piece ROOM)
     (raw' : Pixels N) (table' : List RgbaPixel) (carry' : Carry N) (piece' : Piece ROOM) : Type 0 where
   pub less : length (pixels_in raw') < length (pixels_in raw)

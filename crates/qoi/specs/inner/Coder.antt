@@ -83,7 +83,7 @@ pub record CoderPasses {N size : ℕ} (c : Coder N) (table : List RgbaPixel) (pi
 pub record CoderEnds {N size : ℕ} (c : Coder N) (table : List RgbaPixel) (piece : Piece size) (pixels : List RgbaPixel) (piece' : Piece size) : Type 0 where
   pub all : (ahead : List ℕ) → CoderBetween c.style ahead pixels table c.last (kept_bytes piece) → ahead ≡ kept_bytes piece'
 
--- Some pixels are written, which leads from the first pixels, table, last pixel and piece to the second,
+-- Some pixels are written: from `raw`, table, last pixel and piece to `rest` and the primed ones,
 -- whatever others follow.
 pub record WritesSome {N ROOM : ℕ} (style : Style) (raw : Pixels N) (table : List RgbaPixel) (last : LastPixel) (piece : Piece ROOM)
     (rest : List ℕ) (table' : List RgbaPixel) (last' : LastPixel) (piece' : Piece ROOM) : Type 0 where

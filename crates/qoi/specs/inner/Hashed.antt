@@ -20,7 +20,8 @@ IsHashed s = s / 2 ^ 56 ≡ 4 * hash (pixel_of_lanes s)
 abbrev pub step : ℕ → ℕ → ℕ → ℕ
 step r g b = r + g * 2 ^ 16 + b * 2 ^ 32 + 4 * (3 * r + 5 * g + 7 * b) % 2 ^ 8 * 2 ^ 56
 
--- t is what the first byte b of a difference, a luma or a run adds to the number of the last pixel
+-- t is what a first byte b but an index position adds to the number of the last pixel: of a run,
+-- RGB or RGBA nothing
 pub record IsAdded (b t : ℕ) : Type 0 where
   pub diff : diff_tag ≤ b → b < luma_tag → t ≡ step (b / 16 % 4 + 254) (b / 4 % 4 + 254) (b % 4 + 254)
   pub luma : luma_tag ≤ b → b < run_tag → t ≡ step (b % 64 + 216) (b % 64 + 224) (b % 64 + 216)

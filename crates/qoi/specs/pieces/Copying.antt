@@ -35,7 +35,7 @@ pub record StopsBehind {R : Type 0} (in_memory : Bool) (ahead : R → Option (Li
   pub spent : IsSpent p
   pub left : unread_bytes p ≡ unread_bytes was
   pub kept : IsTrue in_memory → Keeps (ahead was.reader) (ahead p.reader)
-  -- In memory no more counts than one more piece and what may be decoded ahead of it: the bytes are
+  -- In memory no more counts than one more piece and what may be decoded behind it: the bytes are
   -- refused as an image of n pixels, too, if n pixels have that many bytes, or are all.
   pub early : IsTrue in_memory → (bytes : List ℕ) (n : ℕ) → start ≡ Some bytes → n ≤ pixel_count d.header
       → min (length given + length more + copied_at_once + decoded_ahead) (output_byte_count d) ≤ n * channels_number d.channels
@@ -53,8 +53,9 @@ pub record FailsBehind {R : Type 0} (ahead : R → Option (List ℕ)) (d : Decod
   pub left : unread_bytes p ≡ unread_bytes was + length piece
   pub short : length piece ≤ copied_at_once
 
--- A copy to a pixel writer broke off: the image was refused, behind bytes that the writer took, or the
--- writer failed, and the reader goes on behind the bytes that the writer was given, of which a piece may be lost.
+-- A copy to a pixel writer broke off: the image was refused, behind bytes that the writer took, or the writer
+-- failed, and the reader goes on behind the bytes that the writer was given: the last piece of them counts as
+-- missing (`came`), and what was held isn't sent either.
 abbrev pub BreaksCopy : {R W : Type 0} → Bool → (R → Option (List ℕ)) → (W → Option (List ℕ)) → DecoderState R → Option (List ℕ) → List ℕ → EncoderState → Option (List ℕ) → PixelsState R → WriterState W → Error → Type 0
 BreaksCopy in_memory ahead contents d start given e before p w error = (more : List ℕ)
     × ((StopsBehind in_memory ahead d start given more p error × HasTaken contents (and_raw e more) before w)

@@ -88,8 +88,8 @@ pub record ReadsUpTo {R : Type 0} (n : ℕ) (p q : PixelsState R) (count : ℕ) 
 -- Behind the raw bytes `given` n more were to be read, and the image was refused with the error e.
 pub record RefusesPiece {R : Type 0} (in_memory : Bool) (d : DecoderState R) (start : Option (List ℕ)) (given : List ℕ) (n : ℕ) (new : Option (List ℕ)) (e : Error) : Type 0 where
   pub why : RefusesPixels in_memory d start new e
-  -- In memory no more than what may be decoded ahead counts: the bytes are refused as an image of k pixels, too,
-  -- if k pixels have that many bytes, or are all.
+  -- In memory no more counts than what was read, the n bytes, and what may be decoded behind them: the bytes are
+  -- refused as an image of k pixels, too, if k pixels have that many bytes, or are all.
   pub early : IsTrue in_memory → (bytes : List ℕ) (k : ℕ) → start ≡ Some bytes → k ≤ pixel_count d.header
       → min (length given + n + decoded_ahead) (output_byte_count d) ≤ k * channels_number d.channels → RefusesBytes k bytes e
   -- In memory an image that stands whole isn't refused.

@@ -29,7 +29,7 @@ missing_bytes p = p.left
 abbrev pub raw_left : {W : Type 0} → WriterState W → ℕ
 raw_left p = missing_bytes p
 
--- the same with these raw bytes more
+-- the encoder with these raw bytes more
 abbrev pub and_raw : EncoderState → List ℕ → EncoderState
 and_raw e raw = record e { raw = e.raw ++ raw }
 

@@ -35,8 +35,8 @@ abbrev pub KeepsPixels : ℕ → Unread → Type 0
 KeepsPixels channels p = KeepsWithin p × (p.undecoded % channels ≡ 0) × (p.run % channels ≡ 0) × (p.run ≤ channels * run_max)
     × (0 < p.run → p.run < p.undecoded)
 
--- it is of an image of this header in these channels: no more than all of it, whole pixels unless it was
--- refused, and `fault` has no error
+-- what is unread of an image of this header in these channels: no more than all of it, as `KeepsPixels`
+-- says unless the image was refused, and `fault` has no error
 abbrev pub IsRestOf : Header → Channels → Bool → Unread → Type 0
 IsRestOf h channels refused p = IsValid h × KeepsWithin p × (bytes_left p ≤ byte_count h (channels_number channels))
     × (refused ≡ false → KeepsPixels (channels_number channels) p) × (p.fault ≡ None)

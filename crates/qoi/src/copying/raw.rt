@@ -79,8 +79,9 @@ impl<W: Write + Drop> PixelWriter<W> {
     ///
     /// Refusals: `IoError` if the reader reports a fault, also an interruption, or ends before. The
     /// writer took all bytes that came, and a further call goes on behind them. And `IoError` as in
-    /// `write`: the last bytes that came, at most 4,096, may then be lost, and no further call reads
-    /// any. `self.write(&[])` tells whose it is: it is one, too, if the writer failed.
+    /// `write`: the last bytes that came, at most 4,096, and those that were held may then be lost,
+    /// and no further call reads any. `self.write(&[])` tells whose it is: that call returns one,
+    /// too, if the writer failed.
     ///
     /// ```
     /// let mut pixels = PixelWriter::new(alloc, header, Style::Reference, writer)?;

@@ -27,8 +27,8 @@ pub(super) trait Chunks<const N: usize, const F: usize>: Sized {
     ghost in_memory: { Bool };
 
     /// Decodes chunks, after what others reached, at least as long as any run's vectors have room
-    /// in `out` (`RUN_ROOM`); those that a slice or a reader's buffer shows are taken nearer to its
-    /// end. Returns what it reached.
+    /// in `out` (`RUN_ROOM`); those that a slice or a reader's buffer shows are taken nearer to the
+    /// end of `out`. Returns what it reached.
     ///
     /// Chunks that are refused are refused for any image of more pixels than fit, too.
     fn some_chunks(

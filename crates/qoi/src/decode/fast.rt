@@ -22,7 +22,7 @@ pub(super) const OUTPUT_ROOM: usize = 144;
 
 /// An output of fewer bytes that isn't the end of an image is short for `fast_chunks` over a slice
 /// (`LEAVES_SHORT`): to enter `fast_loop` for its chunks would take longer than to decode them with
-/// every test. A piece that is decoded in place (`IN_PLACE`) isn't compared with it.
+/// every test. `take_in_place` doesn't compare a piece with it; `some_chunks` does.
 pub(super) const SHORT_OUTPUT: usize = 528;
 
 /// What `fast_loop` has between two chunks, in `N` channels of output, of a file of `F` channels:

@@ -101,7 +101,8 @@ impl<R: Reader> Decoder<R> {
         Ok(())
     }
 
-    // Fills `out` with the next bytes of the image: with what is kept, and else by the reader.
+    // Fills `out` with the next bytes of the image: with what is kept, and else by the reader. It
+    // may end within a pixel: only what is undecoded are whole pixels.
     #[inline(always)]
     fn next_piece(&mut self, unread: &mut Unread, out: &mut [u8]) -> PieceResult<()>
         requires fits { length out.old ≤ bytes_left unread.old }

@@ -9,8 +9,8 @@ use crate::decode::hashed::Hashed;
 use std::marker::Model;
 
 /// What the decoders' sum takes by the first byte of a chunk: the pixel at the index position that
-/// it names, or what another byte adds. For bytes from `SIZE` on, `added` knows the number. The
-/// table is kept from piece to piece, and with it whether chunks were dense (`stretches`).
+/// it names, or what another first byte adds. For bytes from `SIZE` on, `added` knows the number.
+/// The table is kept from piece to piece, and with it whether chunks were dense (`stretches`).
 ///
 /// A contract sees the list of the numbers.
 #[derive(Drop)]

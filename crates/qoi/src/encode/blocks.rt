@@ -53,8 +53,8 @@ fn is_rgba(table: &PixelTable, before: Packed, px: Packed) -> bool {
 // With fewer raw bytes, to ask whether they go by a loop of their own takes longer than it brings.
 const MANY_BYTES: usize = 1024;
 
-/// Whether RGBA chunks give the first three pixels, and so may give most of those that follow, if
-/// these are many.
+/// Whether RGBA chunks seem to give the first three pixels (by the table as it stands before them),
+/// and so may give most of those that follow, if these are many.
 #[inline(always)]
 pub(super) fn begin_with_rgba<const N: usize>(
     table: &PixelTable,
@@ -196,9 +196,10 @@ pub(super) fn write_blocks<
     (piece, rest.bytes)
 }
 
-/// Writes the opening of these pixels, a block or more that don't go by blocks (`goes_by_blocks`):
-/// the repeats that wait, those at the front and the fresh pixel after them. Returns the piece, and
-/// the rest. It isn't inlined: in one function with it the loop over blocks would be slower.
+/// Writes the front of these pixels, a block or more that don't go by blocks (`goes_by_blocks`),
+/// also in mid-image: the repeats that wait, those at the front and the fresh pixel after them, or
+/// of over 992 repeats only full runs. Returns the piece, and the rest. It isn't inlined: in one
+/// function with it the loop over blocks would be slower.
 #[inline(never)]
 pub(super) fn write_opening<'a, 'p, const N: usize, const ROOM: usize>(
     state: &mut ImageState,

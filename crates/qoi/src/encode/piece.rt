@@ -25,7 +25,7 @@ pub(super) const SPARE: usize = 128;
 pub(super) const LARGE_BATCH: usize = 4096;
 
 /// The room of a piece for large images to memory, for images to a stream from `LEAST_BLOCK` raw
-/// bytes on, and for images in parts.
+/// bytes on, and for a `PixelWriter`.
 pub(super) const LARGE_ROOM: usize = LARGE_BATCH + SPARE;
 
 /// The room of a piece that sends 512 bytes at once, for a small image that goes to memory: zeroing

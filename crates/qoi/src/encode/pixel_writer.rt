@@ -207,7 +207,7 @@ impl<W: Write + Drop> PixelWriter<W> {
         Ok(())
     }
 
-    // The refusal whose `size` is what came before and these bytes; none are more at the end.
+    // The refusal whose `size` is what came before and these bytes; `finish` passes 0.
     fn wrong_length(&self, more: usize) -> Error
         requires { image_byte_count self.now.header - self.now.left + more < 2 ^ 64 }
         ensures { result ≡ Error.InvalidImageLength

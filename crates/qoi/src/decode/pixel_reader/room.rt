@@ -17,9 +17,10 @@ use crate::error::Result;
 /// of fuzz/session.h, and the numbers in comments and on the pages.
 pub(super) const DECODED_AHEAD: usize = 3072;
 
-/// A piece with at least so many bytes open behind kept ones is decoded in place, if `RUN_ROOM` of
-/// the image follows it: what a slice or a reader's buffer shows by `take_in_place`, which doesn't
-/// ask for `SHORT_OUTPUT`, else by `some_chunks`.
+/// A piece with at least so many bytes open behind kept ones is long. If `RUN_ROOM` of the image
+/// follows it, what a slice or a reader's buffer shows is decoded in place (`take_in_place`, which
+/// doesn't ask for `SHORT_OUTPUT`). What is open then, or all if less follows, is decoded into it
+/// by `some_chunks`.
 pub(super) const IN_PLACE: usize = 512;
 
 /// The room to decode ahead into, if as much is left of the image, for so many bytes that a piece

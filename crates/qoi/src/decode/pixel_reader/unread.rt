@@ -16,9 +16,9 @@ use crate::decode::table::TermTable;
 use crate::error::Error;
 
 /// What is unread of an image: the stored `bytes` from `from` to `to`, and `undecoded` raw bytes,
-/// of which the first `run` are copies of the last pixel, the rest of its run; `run` and
-/// `undecoded` are whole pixels. While some are undecoded, table and last pixel are those behind
-/// all chunks so far. After a refusal its error stands in `fault`, until it is returned.
+/// of which the first `run` are copies of the last pixel, the rest of its run; `run` and, until a
+/// refusal, `undecoded` are whole pixels. While some are undecoded, table and last pixel are those
+/// behind all chunks so far. After a refusal its error stands in `fault`, until it is returned.
 #[derive(Drop)]
 pub struct Unread {
     pub(super) table: TermTable,
@@ -188,8 +188,9 @@ impl Unread {
 
     // Gives the rest of a run and, if `out` isn't short and `RUN_ROOM` of the image follows `out`
     // (so that any run ends in the image), the chunks behind the run that a slice or a reader's
-    // buffer shows (of others `decode_while_runs_fit` may). Returns how many bytes, and keeps what
-    // has no room of that run; the last one that is decoded may go on past the piece (`run`).
+    // buffer shows (those of other readers `decode_while_runs_fit` may take). Returns how many
+    // bytes, and keeps what has no room of the first run; the last one that is decoded may go on
+    // past the piece (`run`).
     #[inline(always)]
     fn piece_front<R: Chunks<N, F>, const N: usize, const F: usize>(
         &mut self,
@@ -228,7 +229,7 @@ impl Unread {
 
     // Decodes chunks into `out`, a piece without its first `done` bytes, as long as any run has
     // room, and returns how many bytes: 0 below `RUN_ROOM` (as mostly from a slice), or below
-    // `IN_PLACE` if nothing was decoded yet, since a short piece is given from kept bytes.
+    // `IN_PLACE` if `done` is 0, since a short piece is given from kept bytes.
     #[inline]
     fn decode_while_runs_fit<R: Chunks<N, F>, const N: usize, const F: usize>(
         &mut self,

@@ -10,9 +10,8 @@ use std::marker::Model;
 /// How many raw bytes are held at most: whole blocks of three channels, and of four.
 pub(super) const HELD_MOST: usize = 8256;
 
-/// What is there between two calls: the coder's state after the raw bytes that are encoded, the raw
-/// bytes that are held since they came after those, and the bytes of a piece, which mean nothing
-/// then.
+/// What is there between two calls: the encoder's state after the raw bytes that are encoded, the
+/// raw bytes that came after those and are held, and the bytes of a piece, which mean nothing then.
 #[derive(Drop)]
 pub(super) struct Workspace {
     pub(super) state: ImageState,
