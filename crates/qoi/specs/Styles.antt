@@ -7,9 +7,9 @@ use Rattle.qoi.specs.Qoi.{Chunk, Place, Run, RgbaPixel, Past, previous, hash, th
 use Rattle.qoi.specs.Written.{fresh, IsChoice, WrittenBy}
 use Rattle.qoi.specs.Tight.{IsTightChoice}
 
--- the style of a loop over blocks, by its number: Reference, or the one that it is told
+-- the style of a loop over blocks, by its number: the one that it is told, or Reference
 abbrev pub style_in : ℕ → Style → Style
-style_in n told = if n == 0 then Reference else told
+style_in n told = if n == 1 then told else Reference
 
 -- the chunk is a run
 abbrev pub is_run : Chunk → Bool

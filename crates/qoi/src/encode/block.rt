@@ -31,7 +31,7 @@ use crate::encode::block::steps::{Changes, find_changes};
 use crate::encode::block::storing::store_sixteen;
 use crate::encode::carry::Carry;
 use crate::encode::piece::{OpenPiece, Piece};
-use crate::encode::pixels::{LoopPixels, style_in};
+use crate::encode::pixels::{ALL_RGBA, LoopPixels, style_in};
 use crate::encode::table::PixelTable;
 use crate::packed::Packed;
 use crate::types::Style::{self, Places, Reference, Tight};
@@ -110,7 +110,7 @@ impl Block {
 
     // The block's chunks. `stands` marks the pixels that stand at their index positions, `indices`.
     #[inline(always)]
-    fn spell<const N: usize, const STYLE: u8, const ALL_RGBA: bool>(
+    fn spell<const N: usize, const STYLE: u8>(
         self,
         stands: u8x16,
         indices: u8x16,
@@ -123,7 +123,7 @@ impl Block {
             → IsBlock s (block_pixels self.words) self.planes.r stands indices
             → HasSpelled (style_in STYLE self.told_style) s (block_pixels self.words) result }
     {
-        if ALL_RGBA && are_all_rgba(self.changes.steps.a, stands) {
+        if STYLE == ALL_RGBA && are_all_rgba(self.changes.steps.a, stands) {
             return spell_rgba(self.changes.rep, self.planes.r);
         }
         let x = spell_block(self.changes, self.planes.r, stands, indices, carry.count);
@@ -167,13 +167,7 @@ impl Block {
 /// table's stores keep pace with its reads: where a read runs ahead of a store to the same
 /// position, the processor does both and all after them again.
 #[inline]
-pub(super) fn write_in_lanes<
-    'p,
-    const N: usize,
-    const STYLE: u8,
-    const ROOM: usize,
-    const ALL_RGBA: bool,
->(
+pub(super) fn write_in_lanes<'p, const N: usize, const STYLE: u8, const ROOM: usize>(
     table: &mut PixelTable,
     piece: OpenPiece<'p, ROOM>,
     block: Block,
@@ -194,15 +188,12 @@ pub(super) fn write_in_lanes<
     let indices = index_positions(block.planes);
     // `store_run` stands between `store_indices` and `read_indices`, so that the compiler reads the
     // index positions from memory (`store_indices`).
-    store_indices::<ROOM, ALL_RGBA>(bytes, indices);
+    store_indices::<ROOM, STYLE>(bytes, indices);
     carry.store_run(style, bytes, end);
     let in_vector = indices.to_array();
-    let stands = put_block(
-        table,
-        read_indices::<ROOM, ALL_RGBA>(bytes, &in_vector),
-        block.words,
-    );
-    let x = block.spell::<N, STYLE, ALL_RGBA>(stands, indices, carry);
+    let read = read_indices::<ROOM, STYLE>(bytes, &in_vector);
+    let stands = put_block(table, read, block.words);
+    let x = block.spell::<N, STYLE>(stands, indices, carry);
     // The run's byte is dropped if there are no repeats, or if the first pixel is one (255, not 0).
     let start = end + usize::from(carry.count > x.rep.to_array()[0]);
     let end = store_sixteen::<N>(bytes, start, x, block);

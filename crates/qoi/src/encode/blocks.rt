@@ -107,14 +107,7 @@ fn write_full_runs<'a, 'p, const N: usize, const ROOM: usize>(
 // The repeats at the end of what it wrote are carried. Returns the rest, what is carried, and the
 // piece.
 #[inline(always)]
-fn write_front_block<
-    'a,
-    'p,
-    const N: usize,
-    const STYLE: u8,
-    const ROOM: usize,
-    const ALL_RGBA: bool,
->(
+fn write_front_block<'a, 'p, const N: usize, const STYLE: u8, const ROOM: usize>(
     table: &mut PixelTable,
     piece: OpenPiece<'p, ROOM>,
     pixels: LoopPixels<'a, N>,
@@ -143,9 +136,7 @@ fn write_front_block<
         let rest = coder.write_next_group(table, &mut piece, pixels.rest);
         return (rest, Carry::of(coder.last), piece);
     }
-    let (next_carry, piece) = write_in_lanes::<N, STYLE, ROOM, ALL_RGBA>(
-        table, piece, block, carry,
-    );
+    let (next_carry, piece) = write_in_lanes::<N, STYLE, ROOM>(table, piece, block, carry);
     (pixels.rest.skip(16), next_carry, piece)
 }
 
@@ -159,14 +150,7 @@ fn write_front_block<
 /// `LoopPixels`, which would be stored for the call: a small image takes longer for it. The piece
 /// is a value, so that the compiler keeps its fields in registers.
 #[inline(never)]
-pub(super) fn write_blocks<
-    'a,
-    'p,
-    const N: usize,
-    const STYLE: u8,
-    const ROOM: usize,
-    const ALL_RGBA: bool,
->(
+pub(super) fn write_blocks<'a, 'p, const N: usize, const STYLE: u8, const ROOM: usize>(
     state: &mut ImageState,
     piece: OpenPiece<'p, ROOM>,
     raw: Pixels<'a, N>,
@@ -184,7 +168,7 @@ pub(super) fn write_blocks<
     let mut piece = piece.piece;
     let mut rest = raw;
     while !piece.is_full() && rest.has_block() {
-        (rest, carry, piece) = write_front_block::<N, STYLE, ROOM, ALL_RGBA>(
+        (rest, carry, piece) = write_front_block::<N, STYLE, ROOM>(
             &mut state.table,
             piece.open(),
             rest.in_loop(raw, style),

@@ -12,7 +12,7 @@ use crate::encode::coder::{Coder, LastPixel};
 use crate::encode::piece::{
     LARGE_BATCH, LARGE_ROOM, LEAST_ROOM, OpenPiece, Piece, SMALL_ROOM, TINY_ROOM,
 };
-use crate::encode::pixels::{AS_REFERENCE, AS_TOLD, Pixels};
+use crate::encode::pixels::{ALL_RGBA, AS_REFERENCE, AS_TOLD, Pixels};
 use crate::encode::table::PixelTable;
 use crate::error::Result;
 use crate::types::Channels::{self, Rgb, Rgba};
@@ -71,13 +71,13 @@ fn fill_in_channels<'a, 'p, const N: usize, const ROOM: usize>(
     }
     match state.style {
         Reference => {}
-        Places | Tight => return write_blocks::<N, AS_TOLD, ROOM, false>(state, piece, raw),
+        Places | Tight => return write_blocks::<N, AS_TOLD, ROOM>(state, piece, raw),
     }
     // A file in `TINY_ROOM` has too few pixels.
     if ROOM != TINY_ROOM && begin_with_rgba(&state.table, state.last.px, raw) {
-        return write_blocks::<N, AS_REFERENCE, ROOM, true>(state, piece, raw);
+        return write_blocks::<N, ALL_RGBA, ROOM>(state, piece, raw);
     }
-    write_blocks::<N, AS_REFERENCE, ROOM, false>(state, piece, raw)
+    write_blocks::<N, AS_REFERENCE, ROOM>(state, piece, raw)
 }
 
 // Writes the front of whole pixels, which are a block or more, into the piece: by blocks, until it
@@ -128,6 +128,7 @@ pub(super) fn write_pixels<'a, 'p, W: Writer, const ROOM: usize>(
 }
 
 // `write_last_pixels` in `N` channels.
+#[tactic(auto, using(crate::proofs::encoding::piece::ImagePieces::few_pixels))]
 #[inline(always)]
 fn write_last_in_channels<const N: usize, const ROOM: usize>(
     mut coder: Coder<N>,

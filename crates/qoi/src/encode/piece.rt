@@ -124,6 +124,7 @@ impl<'a, const ROOM: usize> Piece<'a, ROOM> {
     }
 
     /// Appends the run of fewer than 62 repeats, if there are any; a single one is the byte `one`.
+    #[tactic(auto, using(crate::proofs::encoding::lists::RunBytes::run_written))]
     #[inline(always)]
     pub(super) fn append_run(&mut self, count: usize, one: u8)
         requires room { self.old.end + marker_size < ROOM }
@@ -137,6 +138,7 @@ impl<'a, const ROOM: usize> Piece<'a, ROOM> {
     }
 
     /// Appends runs of 62 repeats, at most sixteen.
+    #[tactic(auto, using(crate::proofs::encoding::lists::RunBytes::filled_front, crate::proofs::encoding::lists::RunBytes::full_text))]
     #[inline(always)]
     pub(super) fn append_full_runs(&mut self, runs: usize)
         requires room { self.old.end + (RUNS_AT_ONCE + marker_size) ≤ ROOM }
@@ -153,6 +155,7 @@ impl<'a, const ROOM: usize> Piece<'a, ROOM> {
     }
 
     /// Sends the first `ROOM - SPARE` bytes of a full piece to a writer; those after them are kept.
+    #[tactic(auto, using(crate::proofs::encoding::piece::PieceSent::moved_front))]
     #[inline(always)]
     pub(super) fn send<W: Writer>(&mut self, writer: &mut W) -> Result<()>
         requires full { ROOM - SPARE ≤ self.old.end }

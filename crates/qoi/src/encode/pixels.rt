@@ -40,17 +40,16 @@ pub(super) const AS_REFERENCE: u8 = 0;
 /// `STYLE` of a loop over blocks that is told its style.
 pub(super) const AS_TOLD: u8 = 1;
 
+/// `STYLE` of a loop as `AS_REFERENCE` where an RGBA chunk is expected to give each pixel.
+pub(super) const ALL_RGBA: u8 = 2;
+
 /// The style of a loop over blocks, which is the image's: a constant for the compiler, or the one
 /// that the loop is told.
 #[inline(always)]
 pub(super) fn style_in<const STYLE: u8>(told: Style) -> Style
     ensures { result ≡ style_in STYLE told }
 {
-    if STYLE == AS_REFERENCE {
-        Reference
-    } else {
-        told
-    }
+    if STYLE == AS_TOLD { told } else { Reference }
 }
 
 impl<'a, const N: usize> Pixels<'a, N> {

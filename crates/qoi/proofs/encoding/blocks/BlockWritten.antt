@@ -164,7 +164,7 @@ module _ {begun : Bool} {style : Style} {ahead : List ℕ} (s : State) (p : Rgba
       after d is choice bytes named = record {
         past = p ∷ c.past;
         before = Some d;
-        to_write = subst (λ b. Ahead style ahead (p ∷ c.past) (Some d) 0 tail (kept ++ b)) (sym bytes) (over_fresh p tail d start differs is choice);
+        to_write = rw bytes (over_fresh p tail d start differs is choice);
         last_is = refl;
         begun_is = fresh_begun c.past p differs;
         opens = λ no. absurd (true≢false no);
@@ -246,9 +246,8 @@ module _ (style : Style) (ahead : List ℕ) (s : State) (p : RgbaPixel) (kept : 
   over_same (q ∷ qs) rest c e = go (cases_pixel q p)
     where
       go : (q ≡ p) ⊎ (q ≢ p) → After true (pixel_eq q p) (q ∷ (qs ++ rest))
-      go (inl same) = subst (λ m. After true m (q ∷ (qs ++ rest))) (sym (pixel_eq-from q p same)) (repeat_on s p (q ∷ (qs ++ rest)) c e)
-      go (inr other) = subst (λ m. After true m (q ∷ (qs ++ rest))) (sym (pixel_eq-ne q p other))
-          (repeat_end s p (q ∷ (qs ++ rest)) c e q (qs ++ rest) refl other few)
+      go (inl same) = rw (pixel_eq-from q p same) (repeat_on s p (q ∷ (qs ++ rest)) c e)
+      go (inr other) = rw (pixel_eq-ne q p other) (repeat_end s p (q ∷ (qs ++ rest)) c e q (qs ++ rest) refl other few)
 
   -- over a lane's pixel
   over_lane : {begun : Bool} (ps rest : List RgbaPixel) → Carrying begun style ahead s (p ∷ (ps ++ rest)) kept → (0 < s.carry → p ≡ s.last)
@@ -256,8 +255,8 @@ module _ (style : Style) (ahead : List ℕ) (s : State) (p : RgbaPixel) (kept : 
   over_lane ps rest c on none = go (cases_pixel p s.last)
     where
       go : (p ≡ s.last) ⊎ (p ≢ s.last) → After (pixel_eq p s.last) (goes_on (lanes_of (p ∷ s.held) p ps)) (ps ++ rest)
-      go (inl e) = subst (λ b. After b (goes_on (lanes_of (p ∷ s.held) p ps)) (ps ++ rest)) (sym (pixel_eq-from p s.last e)) (over_same ps rest c e)
-      go (inr n) = subst (λ b. After b (goes_on (lanes_of (p ∷ s.held) p ps)) (ps ++ rest)) (sym (pixel_eq-ne p s.last n))
+      go (inl e) = rw (pixel_eq-from p s.last e) (over_same ps rest c e)
+      go (inr n) = rw (pixel_eq-ne p s.last n)
           (fresh_one s p (ps ++ rest) c n (none_at s.carry (λ some. n (on some))) (λ t away. none t n away) (goes_on (lanes_of (p ∷ s.held) p ps)))
 
 -- A block's pixels are written, but for the repeats at their end.

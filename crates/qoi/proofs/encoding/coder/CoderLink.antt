@@ -1,5 +1,5 @@
 -- A coder between two calls, what is carried between two blocks, and a piece that is sent.
-use Rattle.std.proofs.Common.{◌≡◌, ◌≢◌, ◌⊎◌, inl, inr, ◌<◌, ◌≤◌, length, ℕ, true, List, [], ◌∷◌, Some, ◌++◌, refl, sym, ap, ◌∙◌, arith, subst}
+use Rattle.std.proofs.Common.{◌≡◌, ◌≢◌, ◌⊎◌, inl, inr, ◌<◌, ◌≤◌, length, ℕ, true, List, [], ◌∷◌, Some, ◌++◌, refl, sym, ap, ◌∙◌, arith}
 use Rattle.std.proofs.lemmas.Bool.{true≢false, true_from_ne_false}
 use Rattle.std.specs.List.{slice_get}
 use Rattle.qoi.specs.Styles.{Style, Tight}
@@ -27,7 +27,7 @@ then_passes p q = record { style = q.style ∙ p.style; on = λ ahead more b. q.
 -- a coder with this style and last pixel stands ahead of these
 pub of_coder : {ahead kept : List ℕ} {rest table : List RgbaPixel} {s t : Style} {q l : LastPixel} → t ≡ s → l ≡ q
     → CoderBetween s ahead rest table q kept → CoderBetween t ahead rest table l kept
-of_coder {ahead} {kept} {rest} {table} {t = t} {q = q} style last b = subst (λ l. CoderBetween t ahead rest table l kept) (sym last) (subst (λ s. CoderBetween s ahead rest table q kept) (sym style) b)
+of_coder style last b = rw (style, last) b
 
 module _ {N size : ℕ} {style : Style} {ahead : List ℕ} {pixels rest table table' : List RgbaPixel} {c c' : Coder N} {piece piece' : Piece size} where
   -- a coder keeps its style

@@ -239,7 +239,7 @@ module _ {style : Style} {ahead : List ℕ} {pixels : List RgbaPixel} {table : L
   fulls_written n k rest {next_table} {next} {next_bytes} split sum written state = record {
     past = replicate (62 * k) (previous b.past) ++ b.past;
     before = last_chunk b.before (runs_by (Run 1) (62 * k));
-    to_write = rw written (over_full_runs k next.repeats rest (subst (λ m. Ahead style ahead b.past b.before m rest bytes) sum (joined n rest split)));
+    to_write = rw written (over_full_runs k next.repeats rest (rw sum at (joined n rest split)));
     state = state b.past b.before b.state;
   }
 
@@ -251,7 +251,6 @@ pub fresh_written : {style : Style} {ahead : List ℕ} {p : RgbaPixel} {rest : L
 fresh_written {style} {ahead} {p} {rest} {bytes = bytes} b c differs none is choice written left state = record {
   past = p ∷ b.past;
   before = Some c;
-  to_write = rw (left, written) (over_fresh p rest c (subst (λ n. Ahead style ahead b.past b.before n (p ∷ rest) bytes) none b.to_write)
-      (λ e. differs (e ∙ sym b.state.last_is)) is choice);
+  to_write = rw (left, written) (over_fresh p rest c (rw none at b.to_write) (λ e. differs (e ∙ sym b.state.last_is)) is choice);
   state = state;
 }

@@ -58,7 +58,7 @@ module _ (Choice : Past → RgbaPixel → Chunk → Type 0) where
       record {
         chunks = all_append IsChunk cs ds w.chunks are;
         means = ap reverse (then_chunks-append [] cs ds ∙ ap (λ x. then_chunks x ds) before ∙ means);
-        allowed = each_append (IsAllowedAfter Choice) [] cs ds w.allowed (subst (λ x. Each (IsAllowedAfter Choice) x ds) (sym before) right);
+        allowed = each_append (IsAllowedAfter Choice) [] cs ds w.allowed (rw before right);
         full = full;
       }
 

@@ -121,9 +121,7 @@ fills {N} {style = style} {table} {last} p piece bytes raw result size is same w
     let Goes = λ (n : ℕ) (s : Style). (ahead more : List ℕ) → CoderBetween s ahead (pixels_of n (raw.bytes.now ++ more)) p.table p.last (kept_bytes piece.piece)
     → CoderBetween s ahead (pixels_of n (result.1.now ++ more)) table last (kept_bytes result.0) in
     let here : Goes N style = λ ahead more s.
-    subst (λ ps. CoderBetween style ahead ps table last (kept_bytes result.0)) (sym (whole_ahead N result.1.now more raw.channels w.whole))
-    (w.on ahead (pixels_of N more)
-    (subst (λ ps. CoderBetween style ahead ps p.table p.last (kept_bytes piece.piece)) (whole_ahead N raw.bytes.now more raw.channels raw.whole) s)) in
+    rw (whole_ahead N result.1.now more raw.channels w.whole) (w.on ahead (pixels_of N more) (rw (whole_ahead N raw.bytes.now more raw.channels raw.whole) at s)) in
     subst (λ d. FillsPiece p piece d (record p { table = table; last = last }) result) same (record {
       stays = (refl, refl);
       goes = record { on = subst (λ n. Goes n p.style) (sym size) (subst (Goes N) (sym is) here) };

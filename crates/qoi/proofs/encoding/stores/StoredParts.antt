@@ -1,6 +1,9 @@
--- Parts that are stored one after the other.
-use lib.Lanes.{sum_l}
-use Rattle.std.proofs.Common.{◌≡◌, ℕ, zero, suc, ◌+◌, ◌<◌, List, [], ◌∷◌, ◌++◌, take, slice_index, append_assoc, ap, ◌∙◌, arith}
+-- Parts that are stored one after the other, and sixteen bytes at the end.
+use lib.Lanes.{sum_l, put_chunk}
+use Rattle.std.proofs.Common.{◌≡◌, ℕ, zero, suc, ◌+◌, ◌-◌, ◌<◌, ◌≤◌, List, [], ◌∷◌, ◌++◌, length, take, drop, slice_index, append_assoc, ap, ◌∙◌, arith, take_at, drop_at}
+use Rattle.std.proofs.lemmas.List.{length-take-le, length-drop, append-nil}
+use Rattle.std.proofs.Math.ListN.{drop_of_length-le}
+use Rattle.std.proofs.lemmas.Simd.{put_chunk_is}
 
 -- four parts
 pub four_stored : (at e0 e1 e2 e3 : ℕ) (b0 b1 b2 b3 b4 c0 c1 c2 c3 : List ℕ)
@@ -43,3 +46,20 @@ pub two_fours : (at r b t : ℕ) (o0 o1 o2 c d : List ℕ) → take (at + b) o1 
 two_fours at r b t o0 o1 o2 c d e f same =
     let zero : at + 0 ≡ at = omega arith in
     ap (λ z. take (at + z) o2) same ∙ f ∙ ap (λ z. z ++ d) (e ∙ ap (λ z. take z o0 ++ c) zero) ∙ append_assoc (take at o0) c d
+
+-- the bytes before the sixteen stay
+pub front_stays : (room : ℕ) (out v : List ℕ) → length out ≡ room → 16 ≤ room → length v ≡ 16
+    → take (room - 16) (put_chunk (room - 16) out v) ≡ take (room - 16) out
+front_stays room out v size few long =
+    let end = room - 16 in
+    ap (take end) (put_chunk_is end out v (omega arith)) ∙ take_at (take end out) (v ++ drop (length v) (drop end out)) end (length-take-le end out (omega arith))
+
+-- the sixteen bytes
+pub end_stored : (room : ℕ) (out v : List ℕ) → length out ≡ room → 16 ≤ room → length v ≡ 16
+    → drop (room - 16) (put_chunk (room - 16) out v) ≡ v
+end_stored room out v size few long =
+    let end = room - 16 in
+    let rest = drop (length v) (drop end out) in
+    let none : rest ≡ [] = drop_of_length-le (drop end out) (omega (arith, length-drop end out)) in
+    ap (drop end) (put_chunk_is end out v (omega arith))
+    ∙ drop_at (take end out) (v ++ rest) end (length-take-le end out (omega arith)) ∙ ap (λ z. v ++ z) none ∙ append-nil v

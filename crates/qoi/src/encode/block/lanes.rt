@@ -32,6 +32,7 @@ pub(in crate::encode) fn greater(v: u8x16, w: u8x16) -> u8x16
 }
 
 /// Eight lanes each, as the bytes of a number.
+#[tactic(auto, using(crate::proofs::encoding::stores::PrefixSums::as_halves))]
 #[inline(always)]
 pub(in crate::encode) fn halves(v: u8x16) -> [u64; 2]
     ensures { result ≡ number_l 256 (take 8 v) ∷ number_l 256 (drop 8 v) ∷ [] }

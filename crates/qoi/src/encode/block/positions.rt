@@ -1,14 +1,16 @@
 //! The index positions of sixteen pixels, and which of these pixels the table held there already
 //! (QOI specification 1.0, "Chunks").
 ghost use lib.Lanes.{zip2};
-ghost use Rattle.std.specs.Prelude.{◌≡◌, ◌<◌, ◌≤◌, ◌-◌, ℕ, false, List, ◌++◌, map, length, take, drop, slice_index, Bool};
+ghost use Rattle.std.specs.Prelude.{◌≡◌, ◌≢◌, ◌<◌, ◌≤◌, ◌-◌, ℕ, List, ◌++◌, map, length, take, drop, slice_index, Bool};
 ghost use Rattle.qoi.specs.Qoi.{RgbaPixel, pixel_eq, hash, Past};
+ghost use Rattle.qoi.specs.declared.encode.pixels.TheConstants.{ALL_RGBA};
 ghost use Rattle.qoi.specs.inner.Table.{Holds};
 ghost use Rattle.qoi.specs.inner.block.Lanes.{mask};
 ghost use Rattle.qoi.specs.inner.block.Planes.{AreSixteen, ArePlanes, AreFourWords, AreBlockWords};
 ghost use Rattle.qoi.specs.inner.block.Positions.{four_times, HasPutBlock};
 
 use crate::encode::block::planes::{Planes, Words};
+use crate::encode::pixels::ALL_RGBA;
 use crate::encode::table::PixelTable;
 use std::simd::prelude::*;
 
@@ -29,8 +31,9 @@ pub(in crate::encode) fn index_positions(p: Planes) -> u8x16
 /// (`read_indices`) is faster than to take it out of the vector. The compiler would take it out of
 /// the vector if it knew that the bytes still are the same; but in between `Carry::store_run` stores
 /// a byte, which might be one of them.
+#[tactic(auto, using(crate::proofs::encoding::stores::StoredParts::front_stays, crate::proofs::encoding::stores::StoredParts::end_stored))]
 #[inline(always)]
-pub(in crate::encode) fn store_indices<const ROOM: usize, const ALL_RGBA: bool>(
+pub(in crate::encode) fn store_indices<const ROOM: usize, const STYLE: u8>(
     out: &mut [u8],
     indices: u8x16,
 )
@@ -38,9 +41,9 @@ pub(in crate::encode) fn store_indices<const ROOM: usize, const ALL_RGBA: bool>(
     requires room { 16 ≤ ROOM }
     ensures same { length out.new ≡ length out.old }
     ensures front { take (ROOM - 16) out.new ≡ take (ROOM - 16) out.old }
-    ensures lanes { ALL_RGBA ≡ false → drop (ROOM - 16) out.new ≡ indices }
+    ensures lanes { STYLE ≢ ALL_RGBA → drop (ROOM - 16) out.new ≡ indices }
 {
-    if ALL_RGBA {
+    if STYLE == ALL_RGBA {
         return;
     }
     indices.copy_to_slice(&mut out[ROOM - 16..]);
@@ -49,16 +52,16 @@ pub(in crate::encode) fn store_indices<const ROOM: usize, const ALL_RGBA: bool>(
 /// The index positions: as `store_indices` stored them in `out`; but if `ALL_RGBA`, when it didn't,
 /// those that were taken out of the vector, `in_vector`.
 #[inline(always)]
-pub(in crate::encode) fn read_indices<'a, const ROOM: usize, const ALL_RGBA: bool>(
+pub(in crate::encode) fn read_indices<'a, const ROOM: usize, const STYLE: u8>(
     out: &'a [u8],
     in_vector: &'a [u8; 16],
 ) -> &'a [u8]
     requires size { length out.now ≡ ROOM }
     requires room { 16 ≤ ROOM }
-    requires stored { ALL_RGBA ≡ false → drop (ROOM - 16) out.now ≡ in_vector.now }
+    requires stored { STYLE ≢ ALL_RGBA → drop (ROOM - 16) out.now ≡ in_vector.now }
     ensures { result.now ≡ in_vector.now }
 {
-    if ALL_RGBA {
+    if STYLE == ALL_RGBA {
         return in_vector;
     }
     &out[ROOM - 16..]

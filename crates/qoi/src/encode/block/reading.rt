@@ -26,6 +26,7 @@ pub(super) fn first_sixteen<const N: usize>(bytes: &[u8]) -> Words
 
 // The first four pixels. Sixteen bytes are read, in three channels too, where the pixels have only
 // twelve.
+#[tactic(auto, using(crate::proofs::format::LaneWords::four_of_4, crate::proofs::format::LaneWords::four_of_3))]
 #[inline(always)]
 fn read_four<const N: usize>(bytes: &[u8]) -> u32x4
     requires channels { IsChannels N }

@@ -53,8 +53,8 @@ sizes_in : (n : ℕ) (s : State) (q : RgbaPixel) (ps : List RgbaPixel) (xs : Lis
 sizes_in n s q ps xs (inl three) opaque last e k = omega (arith, sizes_opaque s.held q ps (last three) (opaque three) k, ap (λ z. slice_index z k) e)
 sizes_in n s q ps xs (inr four) opaque last e k = omega (arith, sizes_few (lanes_of s.held q ps) k, ap (λ z. slice_index z k) e)
 
-pub read_indices-requires-clause-stored : goal.read_indices-requires-clause-stored
-read_indices-requires-clause-stored g c = λ no.
+pub read_indices-read-requires-clause-stored : goal.read_indices-read-requires-clause-stored
+read_indices-read-requires-clause-stored g c = λ no.
     end_stays g.row.ROOM c.args.piece.piece.end c.store_indices.new.out c.store_run.new.out c.index_positions-indices.result
     (omega (arith, c.args.piece.not_full)) c.store_run.ensures.later (c.store_indices.ensures.lanes no)
 
@@ -62,7 +62,7 @@ pub put_block-stands-requires-clause-below : goal.put_block-stands-requires-clau
 put_block-stands-requires-clause-below g c = λ k lt.
     let w = c.args.block.words in
     let at = c.index_positions-indices.ensures (block_pixels w) (block_sixteen w c.args.block.packed) c.args.block.planes_are in
-    omega (arith, hashes_below (block_pixels w) k, ap (λ z. slice_index z k) (c.read_indices.ensures ∙ at))
+    omega (arith, hashes_below (block_pixels w) k, ap (λ z. slice_index z k) (c.read_indices-read.ensures ∙ at))
 
 pub returns : goal.returns
 returns g c = λ ahead n rest more fits b.
@@ -96,9 +96,9 @@ returns g c = λ ahead n rest more fits b.
     let front : take end c.store_indices.new.out ≡ take end c.args.piece.piece.bytes.now =
     sym (take-take end (g.row.ROOM - 16) c.store_indices.new.out low) ∙ ap (take end) c.store_indices.ensures.front ∙ take-take end (g.row.ROOM - 16) c.args.piece.piece.bytes.now low in
     let at : c.index_positions-indices.result ≡ map hash all = c.index_positions-indices.ensures all sixteen planes in
-    let put = c.put_block-stands.ensures s.held all now.state.table_is sixteen (block_words words c.args.block.packed) (c.read_indices.ensures ∙ at) in
+    let put = c.put_block-stands.ensures s.held all now.state.table_is sixteen (block_words words c.args.block.packed) (c.read_indices-read.ensures ∙ at) in
     let run : 0 < carry.count → take (end + 1) c.store_run.new.out ≡ take end c.store_indices.new.out ++ group_bytes style carry.placed q carry.count =
-    λ some. subst (λ s. take (end + 1) c.store_run.new.out ≡ take end c.store_indices.new.out ++ group_bytes s carry.placed q carry.count) c.style_in-style.ensures (c.store_run.ensures.run some) in
+    λ some. rw c.style_in-style.ensures at (c.store_run.ensures.run some) in
     let placed : style ≡ Places → s.placed ≡ carry.placed = λ is. ap (λ p. names now.before (hash p)) q_is ∙ sym (b.is.placed_is ∙ now.state.placed_is is) in
     let spelled = c.spell-x.ensures s (fits.changes s.held) refl placed
     (record { sixteen = sixteen; last_is = last; red_is = planes.r_is; stands_are = put.stands_are; indices_are = at }) in

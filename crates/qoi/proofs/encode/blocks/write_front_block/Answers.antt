@@ -1,5 +1,5 @@
 -- A block, or a group. Before its groups a fresh pixel came, since the call wrote one.
-use Rattle.std.proofs.Common.{◌≡◌, ◌≤◌, ◌%◌, inl, inr, Option, None, Some, ◌++◌, take, drop, sym, ap, ◌∙◌, arith, subst, take-append-drop}
+use Rattle.std.proofs.Common.{◌≡◌, ◌≤◌, ◌%◌, inl, inr, Option, None, Some, ◌++◌, take, drop, sym, ap, ◌∙◌, arith, take-append-drop}
 use Rattle.std.specs.List.{slice_get}
 use Rattle.qoi.specs.Qoi.{RgbaPixel}
 use Rattle.qoi.specs.inner.block.Vectors.{FitsBlock}
@@ -29,7 +29,7 @@ write_marked_pixels-rest-requires g c =
     let raw = pixels_in c.args.pixels.rest in
     let last = c.new-coder.result.last in
     let bits = c.marks-marks.result in
-    let is : IsCarried last c.args.carry = subst (λ l. IsCarried l c.args.carry) (sym c.new-coder.ensures.last) c.last_pixel.ensures.carried in
+    let is : IsCarried last c.args.carry = rw c.new-coder.ensures.last c.last_pixel.ensures.carried in
     let marks : bits ≡ fresh_marks last.px (take 16 raw) =
     c.marks-marks.ensures c.args.carry.before c.first-block.ensures.changes ∙ (λ i. fresh_marks (is.px_is i) (c.first-block.ensures.pixels i)) in
     let few : slice_get raw 0 ≡ Some last.px → last.repeats ≤ FRONT_CARRIED = λ e.

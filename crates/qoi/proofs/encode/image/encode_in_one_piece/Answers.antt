@@ -67,7 +67,7 @@ pub loop-state-preserved : goal.loop-state-preserved
 loop-state-preserved g c =
     let i = c.loop-state.invariant in
     let filled = c.fill_piece.ensures in
-    let goes = subst (λ k. CoderGoes c.loop-state.state k c.loop-state.left.now c.fill_piece.new.state (kept_bytes c.fill_piece.result.0) c.fill_piece.result.1.now) c.open.ensures filled.goes in
+    let goes = rw c.open.ensures at filled.goes in
     record {
       stays = (filled.stays.0 ∙ i.stays.0, filled.stays.1 ∙ i.stays.1);
       goes = record { on = λ ahead more s. goes.on ahead more (i.goes.on ahead more s) };

@@ -47,14 +47,6 @@ loop-left-preserved g c =
       written = then_passes i.written step.written;
     }
 
-pub returns-clause-rest : goal.returns-clause-rest
-returns-clause-rest g c =
-    let i = c.loop-left.invariant in
-    let lanes = c.loop-left.count in
-    let raw = pixels_in c.args.pixels.rest in
-    let sixteen : (16 - lanes) + lanes ≡ 16 = omega (arith, i.lanes_few) in
-    c.skip.ensures.rest ∙ ap (drop lanes) i.rest_is ∙ drop-drop lanes (16 - lanes) raw ∙ ap (λ k. drop k raw) sixteen
-
 pub returns-clause-written : goal.returns-clause-written
 returns-clause-written g c = record {
   style = c.loop-left.invariant.written.style;

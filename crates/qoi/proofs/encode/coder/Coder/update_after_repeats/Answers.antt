@@ -17,8 +17,7 @@ returns-clause-state g c past before s =
     let pixels = replicate n (previous past) ++ past in
     record {
       table_is = elim c.match-self.branch [
-        | in-Reference w ↦ subst (λ t. Holds t (put_in style pixels)) (sym w.table-is)
-            (repeats_unput style n past c.args.table.now w.in-Reference.is s.table_is)
+        | in-Reference w ↦ rw w.table-is (repeats_unput style n past c.args.table.now w.in-Reference.is s.table_is)
         | in-Tight w ↦ (let held = rw w.in-Tight.is at s.table_is in
             let puts : IsTrue (nat_lt 0 n) → (held : Past) → Holds c.args.table.now held → Holds w.put_if.new.self (previous past ∷ held)
             = λ t held h. subst (λ p. Holds w.put_if.new.self (p ∷ held)) s.last_is (w.put_if.ensures.puts t held h) in

@@ -1,7 +1,7 @@
 -- Before the first raw byte.
 use Rattle.std.proofs.Common.{[], ◌++◌, ◌≡◌, length, refl, sym, ap, ◌∙◌, subst, arith, append-nil}
 use Rattle.std.specs.Io.KnownBytes.{Appends}
-use Rattle.qoi.specs.Qoi.{Header, header_bytes, IsValid}
+use Rattle.qoi.specs.Qoi.{header_bytes, IsValid}
 use Rattle.qoi.specs.Raw.{image_byte_count}
 use Rattle.qoi.specs.declared.encode.pixel_writer.workspace.Workspace.{Workspace}
 use Rattle.qoi.specs.inner.Sending.{appended, ImageBetween, IsNew}
@@ -20,7 +20,7 @@ says g c = tried_says _ _ _ _ c.in_ok-header.header (sym c.try_new.ensures ∙ c
 
 -- nothing came yet
 nothing : (g : Over) (c : After-n_bytes g) → IsNew c.in_ok-header.header.channels c.args.style c.in_ok-workspace.workspace.value.state
-nothing g c = subst (λ (k : Workspace). IsNew c.in_ok-header.header.channels c.args.style k.state) (sym c.in_ok-workspace.ensures.ok) c.new.ensures
+nothing g c = rw c.in_ok-workspace.ensures.ok c.new.ensures
 
 -- and nothing is held
 none : (g : Over) (c : After-n_bytes g) → c.in_ok-workspace.workspace.value.held ≡ []
@@ -44,7 +44,7 @@ returns-clause-made g c =
     let before = g.W.Write.contents c.args.writer in
     let now = g.W.Write.contents c.send_bytes.new.writer in
     let state = c.in_ok-workspace.workspace.value.state in
-    let is : IsNew c.args.header.channels c.args.style state = subst (λ (h : Header). IsNew h.channels c.args.style state) (sym said.0) (nothing g here) in
+    let is : IsNew c.args.header.channels c.args.style state = rw said.0 (nothing g here) in
     let sent : Appends before now (header_bytes c.args.header) = subst (Appends before now) (c.encode.ensures ∙ ap header_bytes (sym said.0)) c.in_ok-send_bytes.ensures.written in
     record {
       header_is = sym said.0;
