@@ -55,7 +55,7 @@ pub record FailsBehind {R : Type 0} (ahead : R → Option (List ℕ)) (d : Decod
 
 -- A copy to a pixel writer broke off: the image was refused, behind bytes that the writer took, or the writer
 -- failed, and the reader goes on behind the bytes that the writer was given: the last piece of them counts as
--- missing (`came`), and what was held isn't sent either.
+-- missing (`came`), and of it and of what was held perhaps only a part was sent, or nothing.
 abbrev pub BreaksCopy : {R W : Type 0} → Bool → (R → Option (List ℕ)) → (W → Option (List ℕ)) → DecoderState R → Option (List ℕ) → List ℕ → EncoderState → Option (List ℕ) → PixelsState R → WriterState W → Error → Type 0
 BreaksCopy in_memory ahead contents d start given e before p w error = (more : List ℕ)
     × ((StopsBehind in_memory ahead d start given more p error × HasTaken contents (and_raw e more) before w)

@@ -9,8 +9,8 @@ use Rattle.qoi.specs.EncoderState.{EncoderState}
 use Rattle.qoi.specs.inner.Sending.{appended, ImageBetween, ImageState}
 
 -- the writer as it stands, header and style of the file, how many raw bytes haven't come, how many came with
--- the last call, whether the writer reported a fault, the raw bytes that are held, and what stands between two
--- blocks
+-- the last call that wasn't refused at once, whether the writer reported a fault, the raw bytes that are
+-- held, and what stands between two blocks
 pub record WriterState (W : Type 0) : Type 0 where
   pub writer : W
   pub header : Header

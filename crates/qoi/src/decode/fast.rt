@@ -20,9 +20,10 @@ pub(super) const INPUT_ROOM: usize = 22;
 /// Bytes of room for the vectors of eight short chunks and of a full one.
 pub(super) const OUTPUT_ROOM: usize = 144;
 
-/// An output of fewer bytes that isn't the end of an image is short for `fast_chunks` over a slice
-/// (`LEAVES_SHORT`): to enter `fast_loop` for its chunks would take longer than to decode them with
-/// every test. `take_in_place` doesn't compare a piece with it; `some_chunks` does.
+/// An output of fewer bytes, in which any run is to have room, is short for `fast_chunks` over a
+/// slice (`LEAVES_SHORT`): to enter `fast_loop` for its chunks would take longer than to decode
+/// them with every test. `take_in_place` doesn't compare a piece with it; `some_chunks` of a slice
+/// does.
 pub(super) const SHORT_OUTPUT: usize = 528;
 
 /// What `fast_loop` has between two chunks, in `N` channels of output, of a file of `F` channels:
@@ -228,7 +229,7 @@ impl<const N: usize, const F: usize> Progress<N, F> {
     }
 
     /// Decodes chunks while `INPUT_ROOM` is ahead and the output has room for `AT_ONCE` short ones
-    /// and a full one, up to a run that has none.
+    /// and a full one, up to a run that would fill it or has no room.
     #[inline(always)]
     pub(super) fn fast_loop<const AT_ONCE: usize>(
         self,

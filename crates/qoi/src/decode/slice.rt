@@ -30,10 +30,10 @@ struct ChunksEnd<'a> {
     rest: &'a [u8],
 }
 
-// Decodes chunks one by one, with every test, after what others reached. If `WHILE_RUNS_FIT`, the
-// image goes on behind `out`, and this stops once `out` has no room for any run's vectors
-// (`RUN_ROOM`); else once `out` is full. `None` if fewer than eight bytes of the file are left
-// before it stops: the file is cut, since its end marker alone has eight.
+// Decodes chunks one by one, with every test, after what others reached. If `WHILE_RUNS_FIT`, this
+// stops once `out` has no room for any run's vectors (`RUN_ROOM`), and so before the image's end,
+// which may be that of `out`; else once `out` is full. `None` if fewer than eight bytes of the file
+// are left before it stops: the file is cut, since its end marker alone has eight.
 #[inline(never)]
 fn careful_chunks<
     'a,
@@ -86,7 +86,7 @@ fn slice_chunks<'a, const N: usize, const F: usize, const WHILE_RUNS_FIT: bool>(
         (Some «data».entry.now) (Some «data».entry.now)
         (filling table.old from out.old) Error.UnexpectedBufferEnd) }
 {
-    // Where the image goes on behind `out`, this leaves a short output as it was (`SHORT_OUTPUT`).
+    // If `WHILE_RUNS_FIT`, this leaves a short output as it was (`SHORT_OUTPUT`).
     let now = fast_chunks::<N, F, WHILE_RUNS_FIT>(table, from, data, out);
     let (_, rest) = data.split_at(now.taken);
     careful_chunks::<N, F, WHILE_RUNS_FIT, _>(table, now.reached, rest, out)

@@ -95,7 +95,7 @@ fn chunks_by_stretches<const N: usize, const F: usize, const AT_ONCE: usize>(
 }
 
 /// Decodes chunks while `INPUT_ROOM` is ahead and the output has room for `AT_ONCE` short ones and
-/// a full one, up to a run that has none, from where other chunks stopped.
+/// a full one, up to a run that would fill it or has no room, from where other chunks stopped.
 #[inline(always)]
 pub(super) fn chunks_ahead<const N: usize, const F: usize, const AT_ONCE: usize>(
     table: &mut TermTable,

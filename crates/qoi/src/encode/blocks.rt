@@ -31,8 +31,8 @@ pub(super) fn goes_by_blocks<const N: usize>(style: Style, last: LastPixel, raw:
     ensures { IsTrue result
         → GoesByBlocks style last (length (pixels_in raw.entry)) (pixels_in raw.entry) }
 {
-    // Not in `Tight`: there `write_front_block` may make a coder even for the first block, and a
-    // coder claims that a fresh pixel came (`begun` of `Carry::last_pixel`).
+    // Not in `Tight`: there `write_front_block` may make a coder even for the first block, from
+    // `Carry::last_pixel`, which claims that a fresh pixel came (`begun`).
     let may_open = match style {
         Reference | Places => last.repeats == 0,
         Tight => false,

@@ -58,7 +58,8 @@ pub(super) struct Piece<'a, const ROOM: usize> {
     ghost room: { length bytes.now ≡ ROOM },
 }
 
-/// A piece that isn't full: there is room for the chunks of a block, or of fewer pixels.
+/// A piece that isn't full: there is room (`SPARE`) for the chunks of a block or of fewer pixels,
+/// or for sixteen runs and a fresh pixel.
 #[derive(Drop)]
 pub(super) struct OpenPiece<'a, const ROOM: usize> {
     pub(super) piece: Piece<'a, ROOM>,

@@ -32,8 +32,8 @@ use std::marker::Model;
 /// them, in memory that doesn't grow with the image.
 ///
 /// A contract sees the writer, header and style of the file, how many raw bytes haven't come, how
-/// many came with the last call, whether the writer reported a fault, the raw bytes that are held,
-/// and the state between two blocks.
+/// many came with the last call that wasn't refused at once, whether the writer reported a fault,
+/// the raw bytes that are held, and the state between two blocks.
 ///
 /// ```
 /// let header = Header::try_new(640, 480, Channels::Rgb, ColorSpace::Srgb)?;
@@ -139,10 +139,10 @@ impl<W: Write + Drop> PixelWriter<W> {
     }
 
     /// Takes the next raw bytes, any number of them. Up to 8,256 are held, so that several short
-    /// rows are encoded at once. If there is no room for a call's bytes, those that are held are
-    /// encoded and sent, but for fewer pixels than a block has. A call of more than 4,128 keeps
-    /// back some 4,200 of its own at most. Repeats whose run may go on aren't sent yet. It doesn't
-    /// flush.
+    /// rows are encoded at once. If there is no room for a call's bytes, or they are more than
+    /// 4,128, those that are held are encoded and sent, with as many of the call's as their last
+    /// block needs, but for fewer pixels than a block has. Of a call of more than 4,128 some 4,200
+    /// are held at most. Repeats whose run may go on aren't sent yet. It doesn't flush.
     ///
     /// `InvalidImageLength`, with the number of all bytes that came, if there are more than the
     /// image has; then none of them is taken, and nothing is sent. `IoError` if the writer reports
