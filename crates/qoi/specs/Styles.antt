@@ -57,7 +57,7 @@ abbrev pub styled : Style → Past → Option Chunk → List Chunk → List Chun
 styled Places past before cs = placed_after past before cs
 styled _ past before cs = cs
 
--- what a style makes of that list
+-- the same of a whole image's list, before which nothing stands
 abbrev pub in_style : Style → List Chunk → List Chunk
 in_style style cs = styled style [] None cs
 

@@ -19,8 +19,9 @@ use crate::error::{Error, Result};
 use std::io::Write;
 
 // How many raw bytes go at once: no more than `copied_at_once`, by `early` of `StopsBehind`,
-// `short` of `FailsBehind` and `BreaksCopy`. By hand have to follow PIECE of fuzz/session.h, the
-// numbers in comments and on the pages, and the tests of readers and writers that fail.
+// `short` of `FailsBehind`, `BreaksCopy` and `BreaksInput`. By hand have to follow PIECE of
+// fuzz/session.h, the numbers in comments and on the pages, and the tests of readers and writers
+// that fail.
 const PIECE: usize = 4096;
 
 impl<R: Reader> PixelReader<R> {

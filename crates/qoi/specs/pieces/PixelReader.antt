@@ -62,7 +62,7 @@ IfGiven ahead p F = (d : DecoderState _) (start : Option (List ℕ)) (given : Li
 abbrev pub IfGivenOf : {R : Type 0} → (R → Option (List ℕ)) → PixelsState R → (DecoderState R → List ℕ → List ℕ → Type 0) → Type 0
 IfGivenOf ahead p F = (d : DecoderState _) (bytes given : List ℕ) → HasGiven d (Some bytes) (ahead p.reader) given p → F d bytes given
 
--- The reader gave no raw bytes yet, and the image is ahead.
+-- The reader gave no raw bytes yet: its image begins with what is ahead, whatever that is.
 abbrev pub IsFresh : {R : Type 0} → (R → Option (List ℕ)) → PixelsState R → Type 0
 IsFresh ahead p = HasGiven (as_decoder p) (ahead p.reader) (ahead p.reader) [] p
 

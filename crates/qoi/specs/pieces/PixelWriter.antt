@@ -10,7 +10,7 @@ use Rattle.qoi.specs.inner.Sending.{appended, ImageBetween, ImageState}
 
 -- the writer as it stands, header and style of the file, how many raw bytes haven't come, how many came with
 -- the last call that wasn't refused at once, whether the writer reported a fault, the raw bytes that are
--- held, and what stands between two blocks
+-- held, and what stands between two pixels
 pub record WriterState (W : Type 0) : Type 0 where
   pub writer : W
   pub header : Header

@@ -82,9 +82,9 @@ impl<R: Reader> Decoder<R> {
         }
     }
 
-    // `next_piece` once nothing is kept: asks the reader for bytes that are decoded in place, and for
-    // more that are then kept, and gives these. Not inlined: what `read` does for bytes that are kept is
-    // then a few instructions.
+    // `next_piece` once nothing is kept: asks the reader for bytes that are decoded into `out`, and
+    // for more that are then kept, and gives of these what `out` lacks. Not inlined: what `read`
+    // does for bytes that are kept is then a few instructions.
     #[inline(never)]
     fn ask_reader(&mut self, unread: &mut Unread, out: &mut [u8]) -> PieceResult<()>
         requires { Asks (channels_number self.old.channels) unread.old (length out.old) }
@@ -196,13 +196,13 @@ impl<R: Reader> PixelReader<R> {
     /// taken, and no byte past it.
     ///
     /// Refusals are those of `Decoder::decode_to_buf`, but for `OutputBufferTooSmall`. They come at
-    /// the latest with the last bytes, and earlier if what is decoded ahead is broken, or the reader
-    /// fails there: sound bytes before that aren't given either. A slice that is cut is refused
-    /// once fewer than eight bytes are left: up to seven runs, of 1,736 raw bytes in all, aren't read
-    /// then. After a refusal the bytes of `buf` may be overwritten, as many as would
-    /// have been read; a slice's tail is as before the call, and a stream stands after the bytes that
-    /// were read. `left` is as before, and no more of the image can be read: each further `read` into
-    /// a buffer that isn't empty returns `UnexpectedBufferEnd`.
+    /// the latest with the last bytes, and earlier if what is decoded ahead is broken, or the
+    /// reader fails there: sound bytes before that aren't given either. A slice that is cut may be
+    /// refused once fewer than eight bytes are left: up to seven runs, of 1,736 raw bytes in all,
+    /// aren't read then. After a refusal the bytes of `buf` may be overwritten, as many as would
+    /// have been read; a slice's tail is as before the call, and a stream stands after the bytes
+    /// that were read. `left` is as before, and no more of the image can be read: each further
+    /// `read` into a buffer that isn't empty returns `UnexpectedBufferEnd`.
     #[tactic(auto, unfolding(crate::specs::pieces::PixelReader::unread_bytes))]
     pub fn read(&mut self, buf: &mut [u8]) -> Result<usize>
         // A success: the bytes follow those that were read before.

@@ -75,13 +75,13 @@ impl<const SIZE: usize> SizedTerms<SIZE> {
         }
     }
 
-    /// Whether the last chunks were dense.
+    /// Whether the chunks that were judged last were dense (`stretches`).
     #[inline(always)]
     pub(super) fn is_dense(&self) -> bool {
         self.is_dense
     }
 
-    /// Notes whether the last chunks were dense.
+    /// Notes whether the chunks that are judged were dense.
     #[inline(always)]
     pub(super) fn note_dense(&mut self, is_dense: bool)
         ensures { self.new ≡ self.old }

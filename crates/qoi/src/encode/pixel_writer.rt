@@ -33,7 +33,7 @@ use std::marker::Model;
 ///
 /// A contract sees the writer, header and style of the file, how many raw bytes haven't come, how
 /// many came with the last call that wasn't refused at once, whether the writer reported a fault,
-/// the raw bytes that are held, and the state between two blocks.
+/// the raw bytes that are held, and the encoder's state behind the bytes that are encoded.
 ///
 /// ```
 /// let header = Header::try_new(640, 480, Channels::Rgb, ColorSpace::Srgb)?;

@@ -19,8 +19,8 @@ pub(super) const DECODED_AHEAD: usize = 3072;
 
 /// A piece with at least so many bytes open behind kept ones is long. If `RUN_ROOM` of the image
 /// follows it, what a slice or a reader's buffer shows is decoded in place (`take_in_place`, which
-/// doesn't ask for `SHORT_OUTPUT`). What is open then, or all if less follows, is decoded into it
-/// by `some_chunks`.
+/// doesn't ask for `SHORT_OUTPUT`). Into what is open then, or all if less follows, `some_chunks`
+/// decodes as long as any run fits (`RUN_ROOM`).
 pub(super) const IN_PLACE: usize = 512;
 
 /// The room to decode ahead into, if as much is left of the image, for so many bytes that a piece

@@ -32,7 +32,8 @@ pub(crate) fn send_bytes<W: Write>(writer: &mut W, bytes: &[u8]) -> Result<()>
 
 // If raw bytes are held, writes them and as many of `raw` as their last block needs, else whole
 // pixels of `raw`. Holds the pixels that are left, fewer than a block has (even of whole blocks
-// some may be), and returns the rest. There always is `room`: a `GenericWriter` has `usize::MAX`.
+// some may be), and returns the rest. There always is `room`: a new `GenericWriter` has
+// `usize::MAX`.
 #[inline(always)]
 fn write_held_or_raw<'a, 'p, W: Writer>(
     writer: &mut W,

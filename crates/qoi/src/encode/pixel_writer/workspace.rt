@@ -47,8 +47,8 @@ impl Held {
         }
     }
 
-    /// Whether so many more are held: there is room for them, and they take at most half of all the
-    /// room, since it takes time to copy them.
+    /// Whether so many more are to be held: there is room for them, and they take at most half of
+    /// all the room, since it takes time to copy them.
     #[inline(always)]
     pub(super) fn takes(&self, count: usize) -> bool
         ensures most { length self.now ≤ HELD_MOST }
