@@ -9,14 +9,14 @@ use Rattle.qoi.specs.Raw.{IsChannels, raw_per_byte}
 use Rattle.qoi.specs.inner.Filling.{Reached, HasWritten, reached, filling}
 use Rattle.qoi.specs.inner.Hashed.{pixel_of_lanes}
 use Rattle.qoi.specs.pieces.Sizes.{decoded_ahead}
-use Rattle.qoi.specs.pieces.Unread.{Refused, Unread, kept_raw, bytes_left, KeepsPixels, IsUnread, GivesMore, RefusesMore, Asks, Steps, TakesInPlace, IsInPlace}
+use Rattle.qoi.specs.pieces.Unread.{Refused, Unread, kept_raw, bytes_left, OwesWholePixels, IsUnread, GivesMore, RefusesMore, Asks, Steps, TakesInPlace, IsInPlace}
 use Rattle.qoi.proofs.decoding.PieceSteps.{Lent, gives, kept_long, minus_whole, piece_lent, piece_read, read_two, whole_within}
 use Rattle.qoi.proofs.decoding.PixelPieces.{in_three}
 
 -- a step that gives none
 pub gives_none : {f c : ℕ} {ahead rest : Option (List ℕ)} {old new : Unread}
     → ((n : ℕ) (start : Option (List ℕ)) (given : List ℕ) → IsUnread f c n start ahead given old → IsUnread f c n start rest given new)
-    → KeepsPixels c new → bytes_left new ≡ bytes_left old → new.fault ≡ old.fault → GivesMore f c ahead rest old new [] 0
+    → OwesWholePixels c new → bytes_left new ≡ bytes_left old → new.fault ≡ old.fault → GivesMore f c ahead rest old new [] 0
 gives_none {f} {c} {ahead} {rest} {old} {new} read pixels left fault = record {
   read = λ n start given h. subst (λ z. IsUnread f c n start rest z new) (sym (append-nil given)) (read n start given h);
   within = omega arith;
@@ -138,7 +138,7 @@ gives_placed {f} {c} {ahead} {rest} {p} {before} {out} {table} {to} {run} now be
     }
 
 -- kept bytes are given
-pub gives_kept : {f c : ℕ} {ahead : Option (List ℕ)} (p new : Unread) (old out : List ℕ) (k : ℕ) → KeepsPixels c p → k ≡ min (length old) (p.to - p.from)
+pub gives_kept : {f c : ℕ} {ahead : Option (List ℕ)} (p new : Unread) (old out : List ℕ) (k : ℕ) → OwesWholePixels c p → k ≡ min (length old) (p.to - p.from)
     → out ≡ take k (kept_raw p) ++ drop k old → new ≡ record p { from = p.from + k } → GivesMore f c ahead ahead p new out k
 gives_kept {f} {c} {ahead} p new old out k pixels few out_is is =
     let within = pixels.0 in

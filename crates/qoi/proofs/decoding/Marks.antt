@@ -5,7 +5,7 @@ use Rattle.std.specs.Io.KnownBytes.{Consumes}
 use Rattle.qoi.specs.Qoi.{channels_number, chunk_bytes, end_marker, IsValid, header_size}
 use Rattle.qoi.specs.DecoderState.{DecoderState}
 use Rattle.qoi.specs.pieces.PixelReader.{PixelsState, HasGiven}
-use Rattle.qoi.specs.pieces.Unread.{Unread, KeepsPixels, IsUnread}
+use Rattle.qoi.specs.pieces.Unread.{Unread, OwesWholePixels, IsUnread}
 use Rattle.qoi.proofs.decoding.PixelPieces.{byte_bounds, has_given}
 use Rattle.qoi.specs.Decoded.{HasHeader}
 use Rattle.qoi.specs.pieces.Mark.{MarkState, mark_of, reader_at, MarksGiven}
@@ -33,12 +33,12 @@ unread_then bytes rest more h = record {
 -- so much was given
 pub given_then : (d : DecoderState (List ℕ)) (bytes rest given more : List ℕ) (p q : PixelsState (List ℕ)) → IsValid p.header
     → q.header ≡ p.header → q.channels ≡ p.channels → q.unread ≡ p.unread → q.refused ≡ p.refused
-    → (p.refused ≡ false → KeepsPixels (channels_number p.channels) p.unread) → HasGiven d (Some bytes) (Some rest) given p → HasGiven d (Some (bytes ++ more)) (Some (rest ++ more)) given q
+    → (p.refused ≡ false → OwesWholePixels (channels_number p.channels) p.unread) → HasGiven d (Some bytes) (Some rest) given p → HasGiven d (Some (bytes ++ more)) (Some (rest ++ more)) given q
 unfolding HasGiven
 given_then d bytes rest given more p q valid header channels unread refused keeps h =
     let own : IsValid d.header = rw (sym h.header) valid in
     has_given d (Some (bytes ++ more)) (Some (rest ++ more)) given q (rw unread (unread_then bytes rest more h.unread))
-    (subst (λ k. KeepsPixels (channels_number k) q.unread) h.channels (rw unread (keeps h.going))) (header ∙ h.header) (channels ∙ h.channels)
+    (subst (λ k. OwesWholePixels (channels_number k) q.unread) h.channels (rw unread (keeps h.going))) (header ∙ h.header) (channels ∙ h.channels)
     (refused ∙ h.going) (byte_bounds d.header d.channels own).0
 
 -- the image stands behind the header, and the reader in it
@@ -64,7 +64,7 @@ marks_given d e file bytes given p m is made h =
 
 -- the same if bytes are appended
 pub marks_then : (d e : DecoderState (List ℕ)) (file bytes given more : List ℕ) (p : PixelsState (List ℕ)) (m : MarkState) → m ≡ mark_of (length file - length p.reader) p
-    → IsValid p.header → (p.refused ≡ false → KeepsPixels (channels_number p.channels) p.unread)
+    → IsValid p.header → (p.refused ≡ false → OwesWholePixels (channels_number p.channels) p.unread)
     → HasHeader e (Some file) (Some bytes) → HasGiven d (Some bytes) (Some p.reader) given p → MarksGiven d (bytes ++ more) given m
 unfolding MarksGiven
 marks_then d e file bytes given more p m is valid keeps made h =

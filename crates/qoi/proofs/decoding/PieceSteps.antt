@@ -9,7 +9,7 @@ use Rattle.qoi.specs.Raw.{IsChannels, pixel_bytes, output}
 use Rattle.qoi.specs.Decoding.{ReadsImage}
 use Rattle.qoi.specs.inner.Filling.{Reached, HasWritten, reached, filling, DecoderAfter, DecoderBetween}
 use Rattle.qoi.specs.inner.Hashed.{pixel_of_lanes}
-use Rattle.qoi.specs.pieces.Unread.{Unread, kept_count, kept_raw, bytes_left, KeepsWithin, KeepsNothing, KeepsPixels, IsUnread, LacksRun}
+use Rattle.qoi.specs.pieces.Unread.{Unread, kept_count, kept_raw, bytes_left, KeepsWithin, KeepsNothing, OwesWholePixels, IsUnread, LacksRun}
 use Rattle.qoi.proofs.format.ChunkSteps.{times_some, reverse-replicate, length-then_chunk, length-then_chunks}
 use Rattle.qoi.proofs.format.LaneBytes.{front_put}
 use Rattle.qoi.proofs.format.WholePixels.{whole_pixels, length-output, length-output_reverse, take_whole}
@@ -132,7 +132,7 @@ lent {f} {c} {n} {start} {old} {given} {p} m out is h none some size fits =
 
 -- the whole pixels of an output with a run in front are lent
 pub piece_lent : {f c n : ℕ} {start old : Option (List ℕ)} {given : List ℕ} (p : Unread) (before out : List ℕ) → IsChannels c → IsUnread f c n start old given p
-    → kept_count p ≡ 0 → KeepsPixels c p → 512 ≤ length before → length before + 256 ≤ p.undecoded → length out ≡ length before
+    → kept_count p ≡ 0 → OwesWholePixels c p → 512 ≤ length before → length before + 256 ≤ p.undecoded → length out ≡ length before
     → HasWritten f c before 0 out (0 + c * (p.run / c)) (replicate (p.run / c) (pixel_of_lanes p.last))
     → Lent f c n (length before / c) start old given p (take (length before / c * c) out) p.run
 piece_lent {c = c} p before out is h same whole long fits same_size written =
@@ -146,7 +146,7 @@ piece_lent {c = c} p before out is h same whole long fits same_size written =
 
 -- the rest of a run is kept
 pub run_kept : {f c n : ℕ} {start now : Option (List ℕ)} {given : List ℕ} (p : Unread) (bytes : List ℕ) → IsChannels c → IsUnread f c n start now given p
-    → kept_count p ≡ 0 → 0 < p.run → KeepsPixels c p → 256 ≤ length bytes
+    → kept_count p ≡ 0 → 0 < p.run → OwesWholePixels c p → 256 ≤ length bytes
     → HasWritten f c p.bytes 0 bytes (0 + c * (p.run / c)) (replicate (p.run / c) (pixel_of_lanes p.last))
     → IsUnread f c n start now given (record p { bytes = bytes; from = 0; to = p.run; run = 0; undecoded = p.undecoded - p.run })
 run_kept {f} {c} {n} {start} {now} {given} p bytes is h same some whole room written =
@@ -294,10 +294,10 @@ pub record GoesOn (f c n : ℕ) (start ahead : Option (List ℕ)) (table : List 
   pub fewer : length all < n
 
 -- pixels are missing behind a run
-run_short : (c : ℕ) (p : Unread) → KeepsPixels c p → 0 < p.undecoded → p.run < p.undecoded
+run_short : (c : ℕ) (p : Unread) → OwesWholePixels c p → 0 < p.undecoded → p.run < p.undecoded
 run_short c p whole some = elim (cases_lt 0 p.run) [ inl run ↦ whole.4 run | inr none ↦ omega (arith, none, some) ]
 
-pub still_goes : {f c n : ℕ} {start now : Option (List ℕ)} {given : List ℕ} (p : Unread) → IsChannels c → IsUnread f c n start now given p → KeepsPixels c p → 0 < p.undecoded
+pub still_goes : {f c n : ℕ} {start now : Option (List ℕ)} {given : List ℕ} (p : Unread) → IsChannels c → IsUnread f c n start now given p → OwesWholePixels c p → 0 < p.undecoded
     → GoesOn f c n start now p.table p.last given
 still_goes {f} {c} {n} {start} {now} {given} p is h whole some =
     let (gone, stands, e) = h.goes_on some in

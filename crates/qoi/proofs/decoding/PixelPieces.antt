@@ -9,7 +9,7 @@ use Rattle.qoi.specs.Qoi.{Chunk, Header, Channels, Error, Past, chunk_bytes, the
 use Rattle.qoi.specs.Raw.{IsChannels, pixel_bytes, output, byte_count}
 use Rattle.qoi.specs.Images.{front_image}
 use Rattle.qoi.specs.DecoderState.{TakesAtMost, DecoderState, output_byte_count}
-use Rattle.qoi.specs.pieces.Unread.{Unread, kept_count, kept_raw, IsUnread, bytes_left, KeepsPixels}
+use Rattle.qoi.specs.pieces.Unread.{Unread, kept_count, kept_raw, IsUnread, bytes_left, OwesWholePixels}
 use Rattle.qoi.proofs.format.ChunkSteps.{given as pixels_after, then_chunks_given, then_chunks-append}
 use Rattle.qoi.proofs.decoding.Ahead.{image_read}
 use Rattle.qoi.proofs.decoding.FrontImage.{image_begins, image_is}
@@ -30,7 +30,7 @@ seam : {A : Type 0} (xs ys zs : List A) → zs ≡ xs ++ ys → xs ≡ take (len
 seam xs ys zs e = sym (ap (take (length xs)) e ∙ take-append_seam xs ys)
 
 -- for n pixels at most 5n + 8 bytes were taken
-pub unread_within : (f c n : ℕ) (start now : Option (List ℕ)) (given : List ℕ) (p : Unread) → IsChannels c → IsUnread f c n start now given p → KeepsPixels c p
+pub unread_within : (f c n : ℕ) (start now : Option (List ℕ)) (given : List ℕ) (p : Unread) → IsChannels c → IsUnread f c n start now given p → OwesWholePixels c p
     → TakesAtMost (5 * n + 8) start now
 unread_within f c n start now given p is h whole =
     elim (cases_lt 0 p.undecoded) [
@@ -53,7 +53,7 @@ more_pixels n cs more gone is few =
 
 -- the pieces so far are the beginning of the image
 pub front_given : (channels : Channels) (h : Header) (start now : Option (List ℕ)) (given : List ℕ) (p : Unread)
-    → IsUnread (channels_number h.channels) (channels_number channels) (pixel_count h) start now given p → KeepsPixels (channels_number channels) p
+    → IsUnread (channels_number h.channels) (channels_number channels) (pixel_count h) start now given p → OwesWholePixels (channels_number channels) p
     → IfSome start (λ bytes. given ≡ take (length given) (front_image channels h bytes))
 front_given channels h None now given p s whole = tt
 front_given channels h (Some bytes) now given p s whole =
@@ -64,7 +64,7 @@ front_given channels h (Some bytes) now given p s whole =
     ]
   where
     going : (now : Option (List ℕ)) (given : List ℕ) (p : Unread) → IsUnread (channels_number h.channels) (channels_number channels) (pixel_count h) (Some bytes) now given p
-        → KeepsPixels (channels_number channels) p → 0 < p.undecoded → given ≡ take (length given) (front_image channels h bytes)
+        → OwesWholePixels (channels_number channels) p → 0 < p.undecoded → given ≡ take (length given) (front_image channels h bytes)
     going None given p s whole some = let (gone, stands, e) = s.goes_on some in absurd stands.taken
     going (Some left) given p s whole some =
         let f = channels_number h.channels in
@@ -89,7 +89,7 @@ byte_bounds h Rgba valid = (omega (arith, valid), omega (arith, valid))
 -- what was given
 pub has_given : {R : Type 0} (d : DecoderState R) (start now : Option (List ℕ)) (given : List ℕ) (p : PixelsState R)
     → IsUnread (channels_number d.header.channels) (channels_number d.channels) (pixel_count d.header) start now given p.unread
-    → KeepsPixels (channels_number d.channels) p.unread → p.header ≡ d.header → p.channels ≡ d.channels → p.refused ≡ false → 3 ≤ output_byte_count d → HasGiven d start now given p
+    → OwesWholePixels (channels_number d.channels) p.unread → p.header ≡ d.header → p.channels ≡ d.channels → p.refused ≡ false → 3 ≤ output_byte_count d → HasGiven d start now given p
 unfolding unread_bytes HasGiven
 has_given d start now given p h pixels same chosen going some =
     let n = pixel_count d.header in

@@ -11,7 +11,7 @@ use Rattle.qoi.specs.inner.block.Planes.{last_pixel}
 pub record IsCarried {N : ℕ} (last : LastPixel) (carry : Carry N) : Type 0 where
   pub px_is : last_pixel carry.before ≡ last.px
   pub count_is : carry.count ≡ last.repeats
-  pub placed_is : carry.placed ≡ last.placed
+  pub named_is : carry.named ≡ last.named
 
 -- A fresh pixel came, or the next one is fresh, no repeats are to be written, n pixels or more come, and
 -- the style isn't Tight. If the next pixel repeats the last, so few repeats are to be written that with

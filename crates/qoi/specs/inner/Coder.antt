@@ -34,8 +34,8 @@ put_in style past = fresh past
 -- pixel: from the index position of the repeated pixel, whether a fresh pixel came, and whether the
 -- chunk before names the position
 abbrev pub single_chunk : Style → Bool → Bool → ℕ → ℕ → Chunk
-single_chunk Places begun placed place n = if begun && (nat_lt 1 n || not placed) then Place place else Run 1
-single_chunk style begun placed place n = Run 1
+single_chunk Places begun named place n = if begun && (nat_lt 1 n || not named) then Place place else Run 1
+single_chunk style begun named place n = Run 1
 
 -- the last of the chunks, or the chunk before them if there is none
 abbrev pub last_chunk : Option Chunk → List Chunk → Option Chunk
@@ -63,7 +63,7 @@ pub record CoderAfter (style : Style) (past : Past) (before : Option Chunk) (tab
   pub table_is : Holds table (put_in style past)
   pub last_is : last.px ≡ previous past
   pub begun_is : last.begun ≡ some_fresh past
-  pub placed_is : style ≡ Places → last.placed ≡ names before (hash (previous past))
+  pub named_is : style ≡ Places → last.named ≡ names before (hash (previous past))
 
 -- Between two pixels: repeats of the last one are still to be written, and the pixels `rest`.
 pub record CoderBetween (style : Style) (ahead : List ℕ) (rest : List RgbaPixel) (table : List RgbaPixel) (last : LastPixel) (kept : List ℕ) : Type 0 where

@@ -43,14 +43,14 @@ pub record CoderGoes (p : ImageState) (kept raw : List ℕ) (p' : ImageState) (k
   pub on : (ahead more : List ℕ) → Between ahead p kept (raw ++ more) → Between ahead p' kept' (raw' ++ more)
 
 -- the raw bytes are whole pixels, which may come next: in three channels the last one was opaque
-abbrev pub GoesByPixels : ImageState → List ℕ → Type 0
-GoesByPixels p raw = EndsOpaque p × (length raw % pixel_size p ≡ 0)
+abbrev pub AreNextPixels : ImageState → List ℕ → Type 0
+AreNextPixels p raw = EndsOpaque p × (length raw % pixel_size p ≡ 0)
 
 -- some whole pixels went into the piece: the piece, and the raw bytes that are left
 pub record FillsPiece {size : ℕ} (p : ImageState) (piece : OpenPiece size) (raw : List ℕ) (p' : ImageState) (result : Piece size × Bor (List ℕ)) : Type 0 where
   pub stays : StaysIn p p'
   pub goes : CoderGoes p (kept_bytes piece.piece) raw p' (kept_bytes result.0) result.1.now
-  pub whole : GoesByPixels p' result.1.now
+  pub whole : AreNextPixels p' result.1.now
   pub less : length result.1.now < length raw
 
 module _ {W : Type 0} (wrote : W → List ℕ → W → Type 0) (a : W) (p : ImageState) (kept raw : List ℕ) where
@@ -85,7 +85,7 @@ EndsWith wrote IsFault a p kept raw b result =
 -- room: for what is ahead and the end marker, or for the largest piece's room at each raw byte and
 -- one more.
 pub record IsReady (free size : ℕ) (p : ImageState) (kept raw : List ℕ) : Type 0 where
-  pub whole : GoesByPixels p raw
+  pub whole : AreNextPixels p raw
   pub large : 2 * SPARE ≤ size
   pub enough : ((ahead : List ℕ) × Between ahead p kept raw × (length ahead + marker_size ≤ free))
       ⊎ ((size ≤ LARGE_ROOM) × (LARGE_ROOM * (length raw + 1) ≤ free))

@@ -6,7 +6,7 @@ use Rattle.qoi.specs.Reading.{StandsAhead}
 use Rattle.qoi.specs.inner.Hashed.{pixel_of_lanes, HoldsSeen}
 use Rattle.qoi.specs.inner.Table.{Holds}
 use Rattle.qoi.specs.DecoderState.{DecoderState}
-use Rattle.qoi.specs.pieces.Unread.{kept_count, KeepsWithin, KeepsPixels}
+use Rattle.qoi.specs.pieces.Unread.{kept_count, KeepsWithin, OwesWholePixels}
 use Rattle.qoi.specs.pieces.PixelReader.{PixelsState, unread_bytes, HasGiven}
 use Rattle.qoi.specs.pieces.Sizes.{decoded_ahead}
 
@@ -130,7 +130,7 @@ pub record GoesOnAt (c : Channels) (h : Header) (rest : List ℕ) (m : PointStat
   pub going : q.refused ≡ false
   pub reader : q.reader ≡ rest
   pub none : q.unread.from ≡ q.unread.to
-  pub pixels : KeepsPixels (channels_number c) q.unread
+  pub pixels : OwesWholePixels (channels_number c) q.unread
   pub table : (past : Past) → Holds m.table past → HoldsSeen q.unread.table past
   pub last : pixel_of_lanes q.unread.last ≡ m.last
   pub left : q.unread.undecoded ≡ m.left * channels_number c

@@ -31,15 +31,15 @@ abbrev pub KeepsNothing : Unread → Type 0
 KeepsNothing p = (kept_count p ≡ 0) × (p.run ≡ 0)
 
 -- the kept bytes lie there, those that aren't stored are whole pixels, and others follow those of a run
-abbrev pub KeepsPixels : ℕ → Unread → Type 0
-KeepsPixels channels p = KeepsWithin p × (p.undecoded % channels ≡ 0) × (p.run % channels ≡ 0) × (p.run ≤ channels * run_max)
+abbrev pub OwesWholePixels : ℕ → Unread → Type 0
+OwesWholePixels channels p = KeepsWithin p × (p.undecoded % channels ≡ 0) × (p.run % channels ≡ 0) × (p.run ≤ channels * run_max)
     × (0 < p.run → p.run < p.undecoded)
 
--- what is unread of an image of this header in these channels: no more than all of it, as `KeepsPixels`
+-- what is unread of an image of this header in these channels: no more than all of it, as `OwesWholePixels`
 -- says unless the image was refused, and `fault` has no error
 abbrev pub IsRestOf : Header → Channels → Bool → Unread → Type 0
 IsRestOf h channels refused p = IsValid h × KeepsWithin p × (bytes_left p ≤ byte_count h (channels_number channels))
-    × (refused ≡ false → KeepsPixels (channels_number channels) p) × (p.fault ≡ None)
+    × (refused ≡ false → OwesWholePixels (channels_number channels) p) × (p.fault ≡ None)
 
 -- chunks were taken, and these are the raw bytes of their pixels, but for the last `run` bytes of a run
 abbrev pub LacksRun : ℕ → ℕ → Option (List ℕ) → Option (List ℕ) → List ℕ → ℕ → ℕ → List ℕ → Type 0
@@ -60,7 +60,7 @@ pub record GivesMore (file_channels channels : ℕ) (ahead rest : Option (List �
   pub read : (n : ℕ) (start : Option (List ℕ)) (given : List ℕ) → IsUnread file_channels channels n start ahead given old
       → IsUnread file_channels channels n start rest (given ++ take size out) new
   pub within : size ≤ length out
-  pub pixels : KeepsPixels channels new
+  pub pixels : OwesWholePixels channels new
   -- as many bytes fewer are left
   pub left : size + bytes_left new ≡ bytes_left old
   -- and `fault` is as before
@@ -81,7 +81,7 @@ pub record RefusesMore (file_channels channels size : ℕ) (in_memory : Bool) (a
 pub record Asks (channels : ℕ) (p : Unread) (size : ℕ) : Type 0 where
   pub none : kept_count p ≡ 0
   pub fits : size ≤ bytes_left p
-  pub pixels : KeepsPixels channels p
+  pub pixels : OwesWholePixels channels p
 
 -- a step gave as many bytes as `size` says of what it returned, or was refused
 abbrev pub Steps : {T : Type 0} → ℕ → ℕ → Bool → Option (List ℕ) → Option (List ℕ) → Unread → Unread → List ℕ → (T → ℕ) → Result T Refused → Type 0

@@ -6,7 +6,7 @@ ghost use Rattle.qoi.specs.DecoderState.{DecoderState, output_byte_count};
 ghost use Rattle.qoi.specs.Images.{front_image, front_rest};
 ghost use Rattle.qoi.specs.pieces.PixelReader.{PixelsState, as_decoder, unread_bytes, HasGiven, IfGiven, IfGivenOf, IsFresh, HasRows, ReadsUpTo, RefusesPixels, RefusesPiece, StopsAt, IsSpent};
 ghost use Rattle.qoi.specs.Qoi.{Error, channels_number, pixels_max};
-ghost use Rattle.qoi.specs.pieces.Unread.{bytes_left, IsRestOf, KeepsPixels, Asks, Steps};
+ghost use Rattle.qoi.specs.pieces.Unread.{bytes_left, IsRestOf, OwesWholePixels, Asks, Steps};
 ghost use Rattle.qoi.specs.Reading.{StandsAhead, IsCutAhead, IsWrongAhead, SaysWhy};
 ghost use Rattle.qoi.specs.Rectangles.{row_bytes, rectangle, row_size};
 
@@ -91,7 +91,7 @@ impl<R: Reader> Decoder<R> {
         ensures step { Steps (channels_number self.old.header.channels)
             (channels_number self.old.channels) R.in_memory (R.ahead self.old.reader)
             (R.ahead self.new.reader) unread.old unread.new out.new (λ _. length out.new) result }
-        ensures kept { IsTrue R.in_memory
+        ensures stays { IsTrue R.in_memory
             → OnErr result (Keeps (R.ahead self.old.reader) (R.ahead self.new.reader)) }
         ensures unchanged { self.new ≡ record self.old { reader = self.new.reader } }
     {
@@ -106,11 +106,11 @@ impl<R: Reader> Decoder<R> {
     #[inline(always)]
     fn next_piece(&mut self, unread: &mut Unread, out: &mut [u8]) -> PieceResult<()>
         requires fits { length out.old ≤ bytes_left unread.old }
-        requires pixels { KeepsPixels (channels_number self.old.channels) unread.old }
+        requires pixels { OwesWholePixels (channels_number self.old.channels) unread.old }
         ensures step { Steps (channels_number self.old.header.channels)
             (channels_number self.old.channels) R.in_memory (R.ahead self.old.reader)
             (R.ahead self.new.reader) unread.old unread.new out.new (λ _. length out.new) result }
-        ensures kept { IsTrue R.in_memory
+        ensures stays { IsTrue R.in_memory
             → OnErr result (Keeps (R.ahead self.old.reader) (R.ahead self.new.reader)) }
         ensures unchanged { self.new ≡ record self.old { reader = self.new.reader } }
     {

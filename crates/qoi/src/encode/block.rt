@@ -119,7 +119,7 @@ impl Block {
         ensures { (s : State)
             → AreChanges (lanes_of s.held s.last (block_pixels self.words)) self.changes
             → s.carry ≡ carry.entry.count
-            → (style_in STYLE self.told_style ≡ Places → s.placed ≡ carry.entry.placed)
+            → (style_in STYLE self.told_style ≡ Places → s.named ≡ carry.entry.named)
             → IsBlock s (block_pixels self.words) self.planes.r stands indices
             → HasSpelled (style_in STYLE self.told_style) s (block_pixels self.words) result }
     {
@@ -129,7 +129,7 @@ impl Block {
         let x = spell_block(self.changes, self.planes.r, stands, indices, carry.count);
         match style_in::<STYLE>(self.told_style) {
             Reference | Tight => x,
-            Places => name_single(x, stands, indices, carry.placed),
+            Places => name_single(x, stands, indices, carry.named),
         }
     }
 
@@ -140,20 +140,20 @@ impl Block {
         requires opaque { N ≡ 3 → AreOpaque (block_pixels self.words) }
         ensures before { result.before ≡ self.planes }
         ensures count { result.count ≡ slice_index x.count 15 % 16 }
-        ensures placed { (stood : List Bool) → style ≡ Places → stands ≡ map mask stood
-            → result.placed ≡ slice_index_or stood (15 - result.count) false }
+        ensures named { (stood : List Bool) → style ≡ Places → stands ≡ map mask stood
+            → result.named ≡ slice_index_or stood (15 - result.count) false }
     {
         // If the block doesn't repeat whole, at most fifteen are left: the remainder changes
         // nothing.
         let count = x.count.to_array()[15] % 16;
-        let placed = match style {
+        let named = match style {
             Reference | Tight => false,
             Places => stands.to_array()[usize::from(15 - count)] == 255,
         };
         Carry {
             before: self.planes,
             count,
-            placed,
+            named,
         }
     }
 }

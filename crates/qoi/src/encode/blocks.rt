@@ -86,15 +86,15 @@ fn write_full_runs<'a, 'p, const N: usize, const ROOM: usize>(
 {
     let mut piece = piece.piece;
     let carried = usize::from(carry.count);
-    let ahead = repeats_of::<N>(raw.at_most(REPEATS_AT_ONCE - carried), raw.first());
-    let all = carried + ahead;
+    let at_front = repeats_of::<N>(raw.at_most(REPEATS_AT_ONCE - carried), raw.first());
+    let all = carried + at_front;
     piece.append_full_runs(all / QOI_RUN_MAX);
     let next_carry = Carry {
         before: carry.before,
         count: (all % QOI_RUN_MAX) as u8,
-        placed: carry.placed & (all < QOI_RUN_MAX),
+        named: carry.named & (all < QOI_RUN_MAX),
     };
-    (raw.skip(ahead), next_carry, piece)
+    (raw.skip(at_front), next_carry, piece)
 }
 
 // Writes what is at the front, in one of four ways:
@@ -185,7 +185,7 @@ pub(super) fn write_blocks<'a, 'p, const N: usize, const STYLE: u8, const ROOM: 
 /// of over 992 repeats only full runs. Returns the piece, and the rest. It isn't inlined: in one
 /// function with it the loop over blocks would be slower.
 #[inline(never)]
-pub(super) fn write_opening<'a, 'p, const N: usize, const ROOM: usize>(
+pub(super) fn write_one_group<'a, 'p, const N: usize, const ROOM: usize>(
     state: &mut ImageState,
     piece: OpenPiece<'p, ROOM>,
     raw: Pixels<'a, N>,

@@ -25,7 +25,7 @@ pub(super) const FRONT_CARRIED: usize = 45;
 pub(super) struct Carry<const N: usize> {
     pub(super) before: Planes,
     pub(super) count: u8,
-    pub(super) placed: bool,
+    pub(super) named: bool,
     ghost channels: { IsChannels N } by { IsChannels-prop N },
     ghost few: { count < run_max },
     ghost opaque: { N ≡ 3 → slice_index before.a 15 ≡ 255 },
@@ -44,7 +44,7 @@ impl<const N: usize> Carry<N> {
         Carry {
             before: Planes::splat::<N>(PixelOf { px: last.px }),
             count: last.repeats as u8,
-            placed: last.placed,
+            named: last.named,
         }
     }
 
@@ -58,7 +58,7 @@ impl<const N: usize> Carry<N> {
         LastPixel {
             px: self.before.last(),
             begun: true,
-            placed: self.placed,
+            named: self.named,
             repeats: usize::from(self.count),
         }
     }
@@ -72,7 +72,7 @@ impl<const N: usize> Carry<N> {
         ensures same { length out.new ≡ length out.old }
         ensures run { 0 < self.entry.count → take (at + 1) out.new
             ≡ take at out.old
-            ++ group_bytes style self.entry.placed (last_pixel self.entry.before) self.entry.count }
+            ++ group_bytes style self.entry.named (last_pixel self.entry.before) self.entry.count }
         ensures front { take at out.new ≡ take at out.old }
         ensures later { drop (at + 1) out.new ≡ drop (at + 1) out.old }
     {
@@ -80,7 +80,7 @@ impl<const N: usize> Carry<N> {
         out[at] = match style {
             Reference | Tight => run,
             Places => pick(
-                (self.count == 1) & !self.placed,
+                (self.count == 1) & !self.named,
                 self.before.last().hash_index(),
                 run,
             ),

@@ -22,7 +22,7 @@ use crate::utils::pick;
 /// - `px`, the last one, written or a repeat;
 /// - `repeats`, how many repeats of it aren't written yet: fewer than a full run has;
 /// - `begun`, whether a fresh pixel came, one that differs from the pixel before it;
-/// - `placed`, in style `Places` whether the chunk before those repeats names `px`'s position.
+/// - `named`, in style `Places` whether the chunk before those repeats names `px`'s position.
 ///
 /// `repeats` stands first: else the zeros of the start are stored in other widths than they are
 /// read in, which is slower.
@@ -31,7 +31,7 @@ pub(super) struct LastPixel {
     pub(super) repeats: usize,
     pub(super) px: Packed,
     pub(super) begun: bool,
-    pub(super) placed: bool,
+    pub(super) named: bool,
     ghost few: { repeats < run_max },
 }
 
@@ -48,7 +48,7 @@ impl LastPixel {
         LastPixel {
             px: Packed::new(0, 0, 0, 0xff),
             begun: false,
-            placed: false,
+            named: false,
             repeats: 0,
         }
     }
@@ -84,13 +84,13 @@ impl<const N: usize> Coder<N> {
     // pixel came earlier and the chunk before isn't that position (a run of 62 never is).
     #[inline(always)]
     fn single_repeat_byte(&self, count: usize) -> u8
-        ensures { bytes_of (single_chunk self.now.style self.now.last.begun self.now.last.placed
+        ensures { bytes_of (single_chunk self.now.style self.now.last.begun self.now.last.named
             (hash self.now.last.px) count) ≡ result ∷ [] }
     {
-        let named = self.last.begun & ((count > 1) | !self.last.placed);
+        let names = self.last.begun & ((count > 1) | !self.last.named);
         match self.style {
             Reference | Tight => QOI_OP_RUN,
-            Places => pick(named, self.last.px.hash_index(), QOI_OP_RUN),
+            Places => pick(names, self.last.px.hash_index(), QOI_OP_RUN),
         }
     }
 
@@ -113,7 +113,7 @@ impl<const N: usize> Coder<N> {
             Reference | Places => {}
             Tight => table.put_if(count > 0, self.last.px.hash_index(), self.last.px),
         }
-        self.last.placed &= count == 0;
+        self.last.named &= count == 0;
         self.last.repeats = left;
     }
 
@@ -172,7 +172,7 @@ impl<const N: usize> Coder<N> {
             px,
             begun: true,
             // In the other styles a constant, which no register holds.
-            placed: match self.style {
+            named: match self.style {
                 Reference | Tight => false,
                 Places => stands,
             },
@@ -211,25 +211,25 @@ impl<const N: usize> Coder<N> {
         if carried == 0 && !raw.begin_with(self.last.px) {
             return 0;
         }
-        let ahead = repeats_of::<N>(
+        let at_front = repeats_of::<N>(
             raw.at_most(REPEATS_AT_ONCE - carried),
             PixelOf { px: self.last.px },
         );
-        let count = carried + ahead;
+        let count = carried + at_front;
         let (runs, left) = (count / QOI_RUN_MAX, count % QOI_RUN_MAX);
         piece.append_full_runs(runs);
-        if raw.skip(ahead).is_empty() {
+        if raw.skip(at_front).is_empty() {
             // Others may follow.
             self.update_after_repeats(table, QOI_RUN_MAX * runs, left);
-            return ahead;
+            return at_front;
         }
         // If more than 992 repeat, 992 are counted: sixteen runs of 62, and no single one.
         piece.append_run(left, self.single_repeat_byte(count));
         self.update_after_repeats(table, count, 0);
-        ahead
+        at_front
     }
 
-    /// Writes the repeats that came before these pixels and the first `ahead`, which repeat, too,
+    /// Writes the repeats that came before these pixels and the first `at_front`, which repeat, too,
     /// as one run, and the fresh pixel after them. Returns the rest.
     #[inline(always)]
     pub(super) fn write_short_group<'a, const ROOM: usize>(
@@ -237,25 +237,25 @@ impl<const N: usize> Coder<N> {
         table: &mut PixelTable,
         piece: &mut Piece<ROOM>,
         raw: Pixels<'a, N>,
-        ahead: usize,
+        at_front: usize,
     ) -> Pixels<'a, N>
-        requires few { self.old.last.repeats + ahead < run_max }
-        requires inside { ahead < length (pixels_in raw) }
-        requires repeat { take ahead (pixels_in raw) ≡ replicate ahead self.old.last.px }
-        requires fresh { slice_get (pixels_in raw) ahead ≢ Some self.old.last.px }
+        requires few { self.old.last.repeats + at_front < run_max }
+        requires inside { at_front < length (pixels_in raw) }
+        requires repeat { take at_front (pixels_in raw) ≡ replicate at_front self.old.last.px }
+        requires fresh { slice_get (pixels_in raw) at_front ≢ Some self.old.last.px }
         requires room { piece.old.end + (1 + chunk_max + marker_size) ≤ ROOM }
         ensures end { piece.new.end ≤ piece.old.end + (1 + chunk_max) }
         ensures begun { (self.new.last.begun ≡ true) × (self.new.last.repeats ≡ 0) }
-        ensures px { slice_get (pixels_in raw.entry) ahead ≡ Some self.new.last.px }
-        ensures rest { pixels_in result ≡ drop (ahead + 1) (pixels_in raw.entry) }
+        ensures px { slice_get (pixels_in raw.entry) at_front ≡ Some self.new.last.px }
+        ensures rest { pixels_in result ≡ drop (at_front + 1) (pixels_in raw.entry) }
         ensures less { length (pixels_in result) < length (pixels_in raw.entry) }
         ensures written { CoderPasses self.old table.old piece.old (pixels_in raw.entry)
             self.new table.new piece.new (pixels_in result) }
     {
-        let count = self.last.repeats + ahead;
+        let count = self.last.repeats + at_front;
         piece.append_run(count, self.single_repeat_byte(count));
         self.update_after_repeats(table, count, 0);
-        let after = raw.skip(ahead);
+        let after = raw.skip(at_front);
         self.write_fresh_pixel(table, piece, after.first());
         after.skip(1)
     }
@@ -282,8 +282,8 @@ impl<const N: usize> Coder<N> {
         ensures written { CoderPasses self.old table.old piece.old (pixels_in raw.entry)
             self.new table.new piece.new (pixels_in result) }
     {
-        let ahead = self.write_runs(table, piece, raw);
-        let after = raw.skip(ahead);
+        let at_front = self.write_runs(table, piece, raw);
+        let after = raw.skip(at_front);
         if after.is_empty() || after.begin_with(self.last.px) {
             return after;
         }

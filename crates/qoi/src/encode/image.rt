@@ -2,12 +2,12 @@
 //! specification 1.0, "Data").
 ghost use Rattle.std.specs.Prelude.{◌≡◌, ℕ, ◌-◌, ◌*◌, ◌%◌, ◌<◌, ◌≤◌, List, length};
 ghost use Rattle.qoi.specs.Encoded.{max_file_len};
-ghost use Rattle.qoi.specs.inner.Sending.{IsNew, EndsOpaque, pixel_size, StaysIn, Between, GoesByPixels, FillsPiece, IsReady, WritesWhole, WritesImage};
+ghost use Rattle.qoi.specs.inner.Sending.{IsNew, EndsOpaque, pixel_size, StaysIn, Between, AreNextPixels, FillsPiece, IsReady, WritesWhole, WritesImage};
 ghost use Rattle.qoi.specs.inner.Coder.{kept_bytes, pixels_in, CoderEnds, SPARE, LARGE_ROOM};
 ghost use Rattle.qoi.specs.Raw.{pixels_of};
 
 use crate::encode::Encoder;
-use crate::encode::blocks::{begin_with_rgba, goes_by_blocks, write_blocks, write_opening};
+use crate::encode::blocks::{begin_with_rgba, goes_by_blocks, write_blocks, write_one_group};
 use crate::encode::coder::{Coder, LastPixel};
 use crate::encode::piece::{
     LARGE_BATCH, LARGE_ROOM, LEAST_ROOM, OpenPiece, Piece, SMALL_ROOM, TINY_ROOM,
@@ -67,7 +67,7 @@ fn fill_in_channels<'a, 'p, const N: usize, const ROOM: usize>(
     ensures { FillsPiece state.old piece.entry raw.entry.bytes.now state.new result }
 {
     if !goes_by_blocks(state.style, state.last, raw) {
-        return write_opening(state, piece, raw);
+        return write_one_group(state, piece, raw);
     }
     match state.style {
         Reference => {}
@@ -81,8 +81,8 @@ fn fill_in_channels<'a, 'p, const N: usize, const ROOM: usize>(
 }
 
 // Writes the front of whole pixels, which are a block or more, into the piece: by blocks, until it
-// is full or no block is left (`write_blocks`); or only the repeats and the fresh pixel at the
-// front (`write_opening`), after which neither need be so. Returns the piece, and the rest.
+// is full or no block is left (`write_blocks`); or only one group, the repeats and the fresh pixel
+// at the front (`write_one_group`), after which neither need be so. Returns the piece, and the rest.
 // Which of the two ways it goes is asked mostly once a piece (`fill_in_channels`).
 #[inline(always)]
 fn fill_piece<'a, 'p, const ROOM: usize>(
@@ -90,7 +90,7 @@ fn fill_piece<'a, 'p, const ROOM: usize>(
     piece: OpenPiece<'p, ROOM>,
     data: &'a [u8],
 ) -> (Piece<'p, ROOM>, &'a [u8])
-    requires whole { GoesByPixels state.old «data».now }
+    requires whole { AreNextPixels state.old «data».now }
     requires block { 16 * pixel_size state.old ≤ length «data».now }
     ensures { FillsPiece state.old piece.entry «data».entry.now state.new result }
 {
@@ -117,7 +117,7 @@ pub(super) fn write_pixels<'a, 'p, W: Writer, const ROOM: usize>(
     let mut rest = data;
     while rest.len() >= block {
         let (mut next_piece, after) = fill_piece(state, piece, rest);
-        // Asked again, as in `write_blocks`: after an opening the piece mostly isn't full.
+        // Asked again, as in `write_blocks`: behind one group the piece mostly isn't full.
         if next_piece.is_full() {
             next_piece.send(writer)?;
         }
@@ -158,7 +158,7 @@ pub(super) fn write_last_pixels<const ROOM: usize>(
     piece: &mut Piece<ROOM>,
     left: &[u8],
 )
-    requires whole { GoesByPixels state.old left.now }
+    requires whole { AreNextPixels state.old left.now }
     requires few { length left.now < 16 * pixel_size state.old }
     requires not_full { piece.old.end < ROOM - SPARE }
     ensures { (ahead : List ℕ) → Between ahead state.old (kept_bytes piece.old) left.now

@@ -67,9 +67,9 @@ pub(super) fn write_marked_pixels<'a, const N: usize, const ROOM: usize>(
     let mut left = marks;
     while left != 0 {
         let zeros = left.trailing_zeros();
-        let ahead = zeros as usize;
-        rest = coder.write_short_group(table, piece, rest, ahead);
-        count -= ahead + 1;
+        let at_front = zeros as usize;
+        rest = coder.write_short_group(table, piece, rest, at_front);
+        count -= at_front + 1;
         left = (left >> zeros) / 2;
     }
     coder.last.repeats += count;

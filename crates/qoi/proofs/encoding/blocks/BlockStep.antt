@@ -47,7 +47,7 @@ spelled_anew : (style : Style) (s : State) (p : RgbaPixel) (ps : List RgbaPixel)
     → HasSpelled style (flushed_state s) (p ∷ ps) x
 spelled_anew style s p ps x e h = record {
   rep_is = h.rep_is;
-  first_is = h.first_is ∙ firsts_anew style s.placed false s.carry (lanes_of s.held s.last (p ∷ ps)) e;
+  first_is = h.first_is ∙ firsts_anew style s.named false s.carry (lanes_of s.held s.last (p ∷ ps)) e;
   second_is = h.second_is;
   size_is = h.size_is;
   count_is = h.count_is ∙ counts_anew s.carry (pixel_eq p s.last) (map is_rep (lanes_of (p ∷ s.held) p ps)) e;
@@ -76,10 +76,10 @@ same_group style a b q n e = refl
 -- `end`.
 pub ready : {begun : Bool} (style : Style) (ahead : List ℕ) (s : State) (ps rest : List RgbaPixel) (x : Spelled) (placed : Bool) (at end : ℕ) (kept next : List ℕ)
     → s.carry < 62 → (slice_get (ps ++ rest) 0 ≡ Some s.last → s.carry ≤ 45) → Carrying begun style ahead s (ps ++ rest) kept → HasSpelled style s ps x → AreSixteen ps
-    → (style ≡ Places → s.placed ≡ placed) → take at next ≡ kept → (0 < s.carry → take (at + 1) next ≡ kept ++ group_bytes style placed s.last s.carry)
+    → (style ≡ Places → s.named ≡ placed) → take at next ≡ kept → (0 < s.carry → take (at + 1) next ≡ kept ++ group_bytes style placed s.last s.carry)
     → end ≡ at + bool_byte (nat_lt (slice_index x.rep 0) s.carry) → Ready style ahead s ps (ps ++ rest) x (take end next)
-ready style ahead s [] rest x placed at end kept next small few c h sixteen placed_is front run end_is = absurd (let l = sixteen.long in omega arith)
-ready {begun} style ahead s (p ∷ ps) rest x placed at end kept next small few c h sixteen placed_is front run end_is = go (pixel_eq p s.last) refl
+ready style ahead s [] rest x placed at end kept next small few c h sixteen named_is front run end_is = absurd (let l = sixteen.long in omega arith)
+ready {begun} style ahead s (p ∷ ps) rest x placed at end kept next small few c h sixteen named_is front run end_is = go (pixel_eq p s.last) refl
   where
     ends : (b t : Bool) (k : ℕ) → pixel_eq p s.last ≡ b → s.carry ≡ k → nat_lt (mask b) k ≡ t → end ≡ at + bool_byte t
     ends b t k e count test =
@@ -101,8 +101,8 @@ ready {begun} style ahead s (p ∷ ps) rest x placed at end kept next small few 
     fresh e zero none = stays (ends false false 0 e none (le-ltb 0 0 (omega arith))) (λ some. absurd (omega (arith, none, some))) (omega (arith, none))
     fresh e (suc k) some =
         let differs : p ≢ s.last = λ same. true≢false (sym (pixel_eq-from p s.last same) ∙ e) in
-        let bytes : kept ++ group_bytes style s.placed s.last (suc k) ≡ take end next =
-        ap (λ z. kept ++ z) (same_group style s.placed placed s.last (suc k) placed_is) ∙ (λ i. kept ++ group_bytes style placed s.last (sym some i))
+        let bytes : kept ++ group_bytes style s.named s.last (suc k) ≡ take end next =
+        ap (λ z. kept ++ z) (same_group style s.named placed s.last (suc k) named_is) ∙ (λ i. kept ++ group_bytes style placed s.last (sym some i))
         ∙ sym (ap (λ m. take m next) (ends false true (suc k) e some (lt-ltb 0 (suc k) (omega arith))) ∙ run (omega (arith, some))) in
         record {
           begun = true;
@@ -140,14 +140,14 @@ carry_below s (p ∷ ps) mixed = go (carry_below t ps) (pixel_eq p s.last) refl
     go below false is = omega (arith, carry_most t ps, ap (λ b. (next_by b (goes_on (lanes_of (p ∷ s.held) p ps)) s p).carry) is)
 
 -- after repeats what is carried is all of them, and the chunk before them is the same
-all_repeats : (s : State) (ps : List RgbaPixel) → fresh_marks s.last ps ≡ 0 → ((end_state s ps).carry ≡ s.carry + length ps) × ((end_state s ps).placed ≡ s.placed)
+all_repeats : (s : State) (ps : List RgbaPixel) → fresh_marks s.last ps ≡ 0 → ((end_state s ps).carry ≡ s.carry + length ps) × ((end_state s ps).named ≡ s.named)
 all_repeats s [] all = (omega arith, refl)
 all_repeats s (p ∷ ps) all =
     let first = none_first (pixel_eq p s.last) (fresh_marks p ps) all in
     let next : next_state s p ps ≡ next_by true true s p = λ i. next_by (first.0 i) (again ps first.1 i) s p in
     let h = all_repeats (next_by true true s p) ps first.1 in (
       ap (λ t. (end_state t ps).carry) next ∙ h.0 ∙ omega arith,
-      ap (λ t. (end_state t ps).placed) next ∙ h.1,
+      ap (λ t. (end_state t ps).named) next ∙ h.1,
     )
   where
     again : (ps : List RgbaPixel) → fresh_marks p ps ≡ 0 → goes_on (lanes_of (p ∷ s.held) p ps) ≡ true
@@ -156,7 +156,7 @@ all_repeats s (p ∷ ps) all =
 
 -- the chunk before the carried repeats names their position if the last fresh pixel stood there
 end_placed : (s : State) (ps : List RgbaPixel) → fresh_marks s.last ps ≢ 0
-    → (end_state s ps).placed ≡ get_or (stand_tests s.held ps) (length ps - 1 - (end_state s ps).carry) false
+    → (end_state s ps).named ≡ get_or (stand_tests s.held ps) (length ps - 1 - (end_state s ps).carry) false
 end_placed s [] mixed = absurd (mixed refl)
 end_placed s (p ∷ ps) mixed = go (end_placed t ps) (cases_eq (fresh_marks p ps) 0)
   where
@@ -170,14 +170,14 @@ end_placed s (p ∷ ps) mixed = go (end_placed t ps) (cases_eq (fresh_marks p ps
     fresh true e none = absurd (mixed (rw e (omega (arith, none))))
     fresh false e none = ap (λ b. next_by b (goes_on (lanes_of (p ∷ s.held) p ps)) s p) e
 
-    go : (fresh_marks p ps ≢ 0 → (end_state t ps).placed ≡ get_or (stand_tests (p ∷ s.held) ps) (length ps - 1 - (end_state t ps).carry) false)
-        → (fresh_marks p ps ≡ 0) ⊎ (fresh_marks p ps ≢ 0) → (end_state t ps).placed ≡ get_or tests (suc (length ps) - 1 - (end_state t ps).carry) false
+    go : (fresh_marks p ps ≢ 0 → (end_state t ps).named ≡ get_or (stand_tests (p ∷ s.held) ps) (length ps - 1 - (end_state t ps).carry) false)
+        → (fresh_marks p ps ≡ 0) ⊎ (fresh_marks p ps ≢ 0) → (end_state t ps).named ≡ get_or tests (suc (length ps) - 1 - (end_state t ps).carry) false
     go before (inl none) =
         let h = all_repeats t ps none in
         let f = fresh (pixel_eq p s.last) refl none in
         let no_carry : t.carry ≡ 0 = ap (λ (z : State). z.carry) f in
         let first : suc (length ps) - 1 - (end_state t ps).carry ≡ 0 = (let c = h.0 in omega arith) in
-        h.1 ∙ ap (λ (z : State). z.placed) f ∙ sym (ap (λ n. get_or tests n false) first)
+        h.1 ∙ ap (λ (z : State). z.named) f ∙ sym (ap (λ n. get_or tests n false) first)
     go before (inr some) =
         let below = carry_below t ps some in
         let later : suc (length ps) - 1 - (end_state t ps).carry ≡ suc (length ps - 1 - (end_state t ps).carry) = omega arith in
@@ -189,7 +189,7 @@ pub block_step : {N : ℕ} (style : Style) (ahead : List ℕ) (n : ℕ) (s : Sta
     → Ready style ahead s all (all ++ (rest ++ more)) x kept → Holds table (reverse all ++ s.held)
     → (style ≡ Tight → NoneBlank s.held s.last all)
     → carry.before ≡ p → carry.count ≡ slice_index x.count 15 % 16
-    → (style ≡ Places → carry.placed ≡ get_or (stand_tests s.held all) (15 - carry.count) false)
+    → (style ≡ Places → carry.named ≡ get_or (stand_tests s.held all) (15 - carry.count) false)
     → ((t : State) → HasSpelled style t all x → t.last ≡ s.last → t.carry ≤ 45 → next ≡ kept ++ block_bytes style t all)
     → InBlocks style ahead n rest more table carry next
 block_step style ahead n s rest more all x p table carry kept next sixteen mixed planes r holds none before_is count_is named bytes =
@@ -202,13 +202,13 @@ block_step style ahead n s rest more all x p table carry kept next sixteen mixed
     let mixed_lanes : fresh_marks t.last all ≢ 0 = subst (λ q. fresh_marks q all ≢ 0) (sym r.last_is) mixed in
     let below = carry_below t all mixed_lanes in
     let at_lane : length all - 1 - end.carry ≡ 15 - carry.count = omega arith in
-    let stood : end.placed ≡ get_or (stand_tests s.held all) (15 - carry.count) false =
+    let stood : end.named ≡ get_or (stand_tests s.held all) (15 - carry.count) false =
     end_placed t all mixed_lanes ∙ (λ i. get_or (stand_tests (r.held_is i) all) (at_lane i) false) in
     let carried : end.carry ≡ carry.count = omega arith in
     let last = subst (λ z. end.last ≡ last_pixel z) (sym before_is) (end_last t all p sixteen planes) in
     record {
-      last = record { repeats = carry.count; px = last_pixel carry.before; begun = true; placed = carry.placed; few = carry.few };
-      is = record { px_is = refl; count_is = refl; placed_is = refl };
+      last = record { repeats = carry.count; px = last_pixel carry.before; begun = true; named = carry.named; few = carry.few };
+      is = record { px_is = refl; count_is = refl; named_is = refl };
       between = record {
         past = done.past;
         before = done.before;
@@ -218,7 +218,7 @@ block_step style ahead n s rest more all x p table carry kept next sixteen mixed
           table_is = λ i l. holds i l ∙ ap Some (ap (λ h. seen h i) (sym (end_held t all ∙ ap (λ h. reverse all ++ h) r.held_is)) ∙ done.held_is i);
           last_is = sym (done.last_is ∙ last);
           begun_is = sym done.begun_is;
-          placed_is = λ places. named places ∙ sym stood ∙ done.placed_is ∙ ap (λ q. names done.before (hash q)) (sym done.last_is);
+          named_is = λ places. named places ∙ sym stood ∙ done.named_is ∙ ap (λ q. names done.before (hash q)) (sym done.last_is);
         };
       };
       goes = carries_on refl (λ _. omega (arith, carried, below, long));

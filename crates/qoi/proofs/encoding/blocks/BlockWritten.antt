@@ -32,7 +32,7 @@ CarryGoesOn s (p ∷ ps) = 0 < s.carry → p ≡ s.last
 
 -- the state once the carried repeats are written, before a fresh pixel
 abbrev pub flushed_state : State → State
-flushed_state s = record { held = s.held; last = s.last; carry = 0; placed = false }
+flushed_state s = record { held = s.held; last = s.last; carry = 0; named = false }
 
 -- Written up to `carry` repeats of the last pixel, which have come. `begun` says whether a fresh
 -- pixel came; if not, the next one is fresh, and no repeats are carried.
@@ -44,7 +44,7 @@ pub record Carrying (begun : Bool) (style : Style) (ahead : List ℕ) (s : State
   pub begun_is : some_fresh past ≡ begun
   pub opens : begun ≡ false → (s.carry ≡ 0) × (slice_get rest 0 ≢ Some s.last)
   pub held_is : (i : ℕ) → seen s.held i ≡ seen (put_in style past) i
-  pub placed_is : s.placed ≡ names before (hash s.last)
+  pub named_is : s.named ≡ names before (hash s.last)
 
 -- A group of fewer than 62 repeats is written, before a fresh pixel.
 group_next : {style : Style} {ahead : List ℕ} {past : Past} {before : Option Chunk} {kept : List ℕ} (k : ℕ) (p : RgbaPixel) (more : List RgbaPixel)
@@ -52,7 +52,7 @@ group_next : {style : Style} {ahead : List ℕ} {past : Past} {before : Option C
     → previous past ≡ q → placed ≡ names before (hash q)
     → Ahead style ahead (replicate (suc k) (previous past) ++ past) (last_chunk before (runs_by (Run 1) (suc k))) 0 (p ∷ more)
     (kept ++ group_bytes style placed q (suc k))
-group_next {style} {ahead} {past} {before} {kept} k p more placed q b differs few begun last_is placed_is =
+group_next {style} {ahead} {past} {before} {kept} k p more placed q b differs few begun last_is named_is =
     subst (λ z. Ahead style ahead (replicate (suc k) (previous past) ++ past) (last_chunk before (runs_by (Run 1) (suc k))) 0 (p ∷ more) (kept ++ z))
     (bytes_are k few)
     (over_group (suc k) (p ∷ more) (one (suc k)) b (inl (λ e. differs (same_Some _ _ e))) (λ _. inr (λ none. cc none, refl)))
@@ -61,7 +61,7 @@ group_next {style} {ahead} {past} {before} {kept} k p more placed q b differs fe
     one n = single_chunk style (some_fresh past) (names before (hash (previous past))) (hash (previous past)) n
 
     placed_of : names before (hash (previous past)) ≡ placed
-    placed_of = ap (λ z. names before (hash z)) last_is ∙ sym placed_is
+    placed_of = ap (λ z. names before (hash z)) last_is ∙ sym named_is
 
     bytes_are : (k : ℕ) → k < 61 → chunk_bytes (runs_by (one (suc k)) (suc k)) ≡ group_bytes style placed q (suc k)
     bytes_are zero l =
@@ -144,7 +144,7 @@ module _ {begun : Bool} {style : Style} {ahead : List ℕ} (s : State) (p : Rgba
         begun_is = begun_at c e;
         opens = λ no. absurd (true≢false no);
         held_is = λ i. put_again p s.held (put_there c has (c.last_is ∙ sym e)) i ∙ c.held_is i;
-        placed_is = c.placed_is ∙ ap (λ q. names c.before (hash q)) (sym e);
+        named_is = c.named_is ∙ ap (λ q. names c.before (hash q)) (sym e);
       }
 
   -- a fresh pixel is written
@@ -169,7 +169,7 @@ module _ {begun : Bool} {style : Style} {ahead : List ℕ} (s : State) (p : Rgba
         begun_is = fresh_begun c.past p differs;
         opens = λ no. absurd (true≢false no);
         held_is = λ i. put_same p s.held (put_in style c.past) c.held_is i ∙ ap (λ x. seen x i) (sym (fresh_held_in style c.past p differs));
-        placed_is = named;
+        named_is = named;
       }
 
       by_place : (seen s.held (hash p) ≡ p) ⊎ (seen s.held (hash p) ≢ p) → Carrying true style ahead (next_by false more s p) tail (kept ++ lane_bytes (lane_of s.held s.last p))
@@ -186,7 +186,7 @@ module _ {begun : Bool} {style : Style} {ahead : List ℕ} (s : State) (p : Rgba
 
   -- a repeat before a fresh pixel: the group is written
   repeat_end : Carrying begun style ahead s (p ∷ tail) kept → p ≡ s.last → (q : RgbaPixel) (more : List RgbaPixel) → tail ≡ q ∷ more → q ≢ p → s.carry < 61
-      → Carrying true style ahead (next_by true false s p) tail (kept ++ group_bytes style s.placed p (suc s.carry))
+      → Carrying true style ahead (next_by true false s p) tail (kept ++ group_bytes style s.named p (suc s.carry))
   repeat_end c e q more next differs few =
       let has = begun_at c e in
       let p_is : previous c.past ≡ p = c.last_is ∙ sym e in
@@ -194,30 +194,30 @@ module _ {begun : Bool} {style : Style} {ahead : List ℕ} (s : State) (p : Rgba
       record {
         past = replicate (suc s.carry) (previous c.past) ++ c.past;
         before = last_chunk c.before (runs_by (Run 1) (suc s.carry));
-        to_write = rw next (group_next s.carry q more s.placed p joined (λ same. differs (same ∙ p_is)) few has p_is
-            (c.placed_is ∙ ap (λ z. names c.before (hash z)) (sym e)));
+        to_write = rw next (group_next s.carry q more s.named p joined (λ same. differs (same ∙ p_is)) few has p_is
+            (c.named_is ∙ ap (λ z. names c.before (hash z)) (sym e)));
         last_is = p_is;
         begun_is = still_begun (suc s.carry) c.past has;
         opens = λ no. absurd (true≢false no);
         held_is = λ i. put_again p s.held (put_there c has p_is) i ∙ c.held_is i ∙ sym (repeats_held style (suc s.carry) c.past has i);
-        placed_is = sym (runs_name_none (suc s.carry) c.before (hash p) (omega arith));
+        named_is = sym (runs_name_none (suc s.carry) c.before (hash p) (omega arith));
       }
 
   -- the carried repeats before a fresh pixel are written
   pub flushed : (k : ℕ) → Carrying begun style ahead s (p ∷ tail) kept → p ≢ s.last → s.carry ≡ suc k → k < 61
-      → Carrying true style ahead (flushed_state s) (p ∷ tail) (kept ++ group_bytes style s.placed s.last (suc k))
+      → Carrying true style ahead (flushed_state s) (p ∷ tail) (kept ++ group_bytes style s.named s.last (suc k))
   flushed k c differs some few =
       let has = begun_carried c k some in
       let start = subst (λ n. Ahead style ahead c.past c.before n (p ∷ tail) kept) some c.to_write in
       record {
         past = replicate (suc k) (previous c.past) ++ c.past;
         before = last_chunk c.before (runs_by (Run 1) (suc k));
-        to_write = group_next k p tail s.placed s.last start (λ same. differs (same ∙ c.last_is)) few has c.last_is c.placed_is;
+        to_write = group_next k p tail s.named s.last start (λ same. differs (same ∙ c.last_is)) few has c.last_is c.named_is;
         last_is = c.last_is;
         begun_is = still_begun (suc k) c.past has;
         opens = λ no. absurd (true≢false no);
         held_is = λ i. c.held_is i ∙ sym (repeats_held style (suc k) c.past has i);
-        placed_is = sym (runs_name_none (suc k) c.before (hash s.last) (omega arith));
+        named_is = sym (runs_name_none (suc k) c.before (hash s.last) (omega arith));
       }
 
 -- after a lane repeats are carried only if the next pixel is one

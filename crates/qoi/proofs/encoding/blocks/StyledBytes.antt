@@ -70,7 +70,7 @@ over_byte : (l : Lane) (m x : ℕ) → max (first_of l) (bit_and m (x % 256)) < 
 over_byte l m x = over_small (first_of l) m x (parts_of l).first
 
 -- a lane's bytes, by whether it repeats and the next one does
-step_is : (style : Style) (s : State) (p : RgbaPixel) → IsPixel p → suc s.carry < 62 → (q b m : Bool) → pixel_eq p s.last ≡ b → (b ≡ true → s.carry ≡ 0 → q ≡ s.placed)
+step_is : (style : Style) (s : State) (p : RgbaPixel) → IsPixel p → suc s.carry < 62 → (q b m : Bool) → pixel_eq p s.last ≡ b → (b ≡ true → s.carry ≡ 0 → q ≡ s.named)
     → (let l = lane_of s.held s.last p in chunk_of l (first_in style b q l (if b then suc s.carry else 0)) ((size_of l + bit_and (mask b) (mask m)) % 256)) ≡ step_by b m style s p
 step_is style s p i few q true true e k =
     let l = lane_of s.held s.last p in
@@ -79,7 +79,7 @@ step_is style s p i few q true false e k =
     let l = lane_of s.held s.last p in
     let byte = run_byte (first_of l) (suc s.carry) (repeat_byte l i e).1 (omega arith) few in
     ap (λ n. chunk_of l (first_in style true q l (suc s.carry)) ((n + 0) % 256)) (repeat_byte l i e).0
-    ∙ group_first style s.carry (max (first_of l) (bit_and 255 ((suc s.carry + 191) % 256))) q p byte few ∙ same_group style s.carry q s.placed p (k refl)
+    ∙ group_first style s.carry (max (first_of l) (bit_and 255 ((suc s.carry + 191) % 256))) q p byte few ∙ same_group style s.carry q s.named p (k refl)
 step_is style s p i few q false m e k =
     let l = lane_of s.held s.last p in
     let size : (size_of l + bit_and 0 (mask m)) % 256 ≡ size_of l = omega (arith, and_le_l 0 (mask m), (parts_of l).few) in
@@ -103,14 +103,14 @@ firsts_next style s p q b m ls e = refl
 
 -- whether the chunk before names the position, after a lane
 still_placed : (s : State) (p : RgbaPixel) (b m : Bool) (ls : List Lane) → goes_on ls ≡ m → (next_by b m s p).carry ≡ 0 → goes_on ls ≡ true
-    → pixel_eq (seen s.held (hash p)) p ≡ (next_by b m s p).placed
+    → pixel_eq (seen s.held (hash p)) p ≡ (next_by b m s p).named
 still_placed s p true true ls e z g = absurd (omega arith)
 still_placed s p true false ls e z g = absurd (true≢false (sym g ∙ e))
 still_placed s p false m ls e z g = refl
 
 -- all lanes
 out_from : (style : Style) (s : State) (q : Bool) (ps : List RgbaPixel) → AllByRecursion IsPixel ps → s.carry + length ps < 62
-    → (s.carry ≡ 0 → goes_on (lanes_of s.held s.last ps) ≡ true → q ≡ s.placed)
+    → (s.carry ≡ 0 → goes_on (lanes_of s.held s.last ps) ≡ true → q ≡ s.named)
     → (let ls = lanes_of s.held s.last ps in chunks_of ls (firsts_in style q s.carry ls) (sizes ls)) ≡ block_bytes style s ps
 out_from style s q [] are few k = refl
 out_from style s q (p ∷ ps) are few k =
@@ -125,8 +125,8 @@ out_from style s q (p ∷ ps) are few k =
 
 -- the bytes are those that are to be written
 pub out_in : (style : Style) (s : State) (ps : List RgbaPixel) → AllByRecursion IsPixel ps → s.carry + length ps < 62
-    → (let ls = lanes_of s.held s.last ps in chunks_of ls (firsts_in style s.placed s.carry ls) (sizes ls)) ≡ block_bytes style s ps
-out_in style s ps are few = out_from style s s.placed ps are few (λ _ _. refl)
+    → (let ls = lanes_of s.held s.last ps in chunks_of ls (firsts_in style s.named s.carry ls) (sizes ls)) ≡ block_bytes style s ps
+out_in style s ps are few = out_from style s s.named ps are few (λ _ _. refl)
 
 -- there are as many first bytes as lanes
 pub firsts_long : (style : Style) (q : Bool) (c : ℕ) (ls : List Lane) → length (firsts_in style q c ls) ≡ length ls

@@ -48,7 +48,7 @@ module _ {N : ℕ} {style : Style} {ahead : List ℕ} {n : ℕ} {pixels more : L
         | inl tight ↦ (b.goes.opens no).3 tight
         | inr few ↦ omega (arith, (b.goes.opens no).2, few)
       ]) in
-      repeats_joined b.between 0 (pixels ++ more) refl (sym is.px_is ∙ b.is.px_is) (begun ∙ sym came) (sym is.placed_is ∙ b.is.placed_is)
+      repeats_joined b.between 0 (pixels ++ more) refl (sym is.px_is ∙ b.is.px_is) (begun ∙ sym came) (sym is.named_is ∙ b.is.named_is)
       (omega (arith, is.count_is, b.is.count_is))
 
 -- a fresh pixel came, and few repeats are to be written

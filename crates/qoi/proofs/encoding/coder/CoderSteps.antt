@@ -185,7 +185,7 @@ module _ {style : Style} {ahead : List ℕ} {pixels : List RgbaPixel} {table : L
 
   -- The repeats at the front are carried.
   pub repeats_joined : (n : ℕ) (rest : List RgbaPixel) {next : LastPixel} → pixels ≡ replicate n last.px ++ rest → next.px ≡ last.px
-      → next.begun ≡ last.begun → next.placed ≡ last.placed → next.repeats ≡ last.repeats + n → CoderBetween style ahead rest table next bytes
+      → next.begun ≡ last.begun → next.named ≡ last.named → next.repeats ≡ last.repeats + n → CoderBetween style ahead rest table next bytes
   repeats_joined n rest {next} split px begun placed repeats = record {
     past = b.past;
     before = b.before;
@@ -194,7 +194,7 @@ module _ {style : Style} {ahead : List ℕ} {pixels : List RgbaPixel} {table : L
       table_is = b.state.table_is;
       last_is = px ∙ b.state.last_is;
       begun_is = begun ∙ b.state.begun_is;
-      placed_is = λ is. placed ∙ b.state.placed_is is;
+      named_is = λ is. placed ∙ b.state.named_is is;
     };
   }
 
@@ -202,7 +202,7 @@ module _ {style : Style} {ahead : List ℕ} {pixels : List RgbaPixel} {table : L
   pub group_written : (n : ℕ) (rest : List RgbaPixel) (one : Chunk) {next_table : List RgbaPixel} {next : LastPixel} {next_bytes : List ℕ}
       → pixels ≡ replicate n last.px ++ rest
       → (slice_get rest 0 ≢ Some last.px) ⊎ ((last.repeats + n) % 62 ≡ 0)
-      → ((last.repeats + n) % 62 ≡ 1 → ((rest ≡ []) × (one ≡ Run 1)) ⊎ ((rest ≢ []) × (one ≡ single_chunk style last.begun last.placed (hash last.px) (last.repeats + n))))
+      → ((last.repeats + n) % 62 ≡ 1 → ((rest ≡ []) × (one ≡ Run 1)) ⊎ ((rest ≢ []) × (one ≡ single_chunk style last.begun last.named (hash last.px) (last.repeats + n))))
       → next_bytes ≡ bytes ++ chunk_bytes (runs_by one (last.repeats + n)) → next.repeats ≡ 0
       → ((past : Past) (before : Option Chunk) → CoderAfter style past before table last
       → CoderAfter style (replicate (last.repeats + n) (previous past) ++ past) (last_chunk before (runs_by (Run 1) (last.repeats + n))) next_table next)
@@ -215,8 +215,8 @@ module _ {style : Style} {ahead : List ℕ} {pixels : List RgbaPixel} {table : L
         | inl other ↦ inl (λ e. other (e ∙ ap Some last_before))
         | inr full ↦ inr full
       ] in
-      let single_is : single_chunk style last.begun last.placed (hash last.px) count ≡ single_chunk style (some_fresh b.past) named (hash q) count =
-      single_same style last.begun last.placed named (hash last.px) count b.state.placed_is
+      let single_is : single_chunk style last.begun last.named (hash last.px) count ≡ single_chunk style (some_fresh b.past) named (hash q) count =
+      single_same style last.begun last.named named (hash last.px) count b.state.named_is
       ∙ (λ i. single_chunk style (b.state.begun_is i) named (hash (b.state.last_is i)) count) in
       let over = over_group count rest one (joined n rest split) stops (λ e. elim (one_is e) [
         | inl end ↦ inl end

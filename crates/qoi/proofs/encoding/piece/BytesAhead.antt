@@ -2,7 +2,7 @@
 use Rattle.std.proofs.Common.{◌≡◌, inl, inr, ℕ, ◌+◌, ◌%◌, ◌<◌, ◌≤◌, List, [], ◌++◌, length, refl, sym, ap, ◌∙◌, subst, arith, length-append, append_assoc, append-nil}
 use Rattle.qoi.specs.Qoi.{channels_number, marker_size, end_marker}
 use Rattle.qoi.specs.Writers.{WroteBut, WroteBeginning}
-use Rattle.qoi.specs.inner.Sending.{pixel_size, EndsOpaque, Between, CoderGoes, GoesByPixels, GoesOn, BreaksOff, Ends, IsReady, ImageState}
+use Rattle.qoi.specs.inner.Sending.{pixel_size, EndsOpaque, Between, CoderGoes, AreNextPixels, GoesOn, BreaksOff, Ends, IsReady, ImageState}
 use Rattle.qoi.proofs.format.WholePixels.{by_channels}
 use Rattle.qoi.proofs.decoding.ImageSize.{channels_are}
 use Rattle.qoi.proofs.encoding.coder.CoderLink.{coder_sent}
@@ -117,7 +117,7 @@ module _ {free size : ℕ} {p : ImageState} {kept raw : List ℕ} (has : IsReady
 
   -- the others can be written, once some are sent
   pub still_ready : {q : ImageState} {kept1 kept2 raw' : List ℕ} {left : ℕ} (front : List ℕ) → CoderGoes p kept raw q kept1 raw' → length kept1 ≤ size
-      → kept1 ≡ front ++ kept2 → left + length front ≡ free → length raw' < length raw → GoesByPixels q raw' → IsReady left size q kept2 raw'
+      → kept1 ≡ front ++ kept2 → left + length front ≡ free → length raw' < length raw → AreNextPixels q raw' → IsReady left size q kept2 raw'
   still_ready {q} {kept1} {kept2} {raw'} {left} front goes within split counted less whole = record {
     whole = whole;
     large = has.large;

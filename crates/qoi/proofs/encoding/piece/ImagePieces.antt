@@ -9,7 +9,7 @@ use Rattle.qoi.specs.inner.Coder.{kept_bytes, CoderAfter, CoderBetween, LastPixe
 use Rattle.qoi.specs.WrittenList.{written_list}
 use Rattle.qoi.specs.Encoded.{image_file}
 use Rattle.qoi.specs.Writers.{WroteBeginning, AppendsBeginning}
-use Rattle.qoi.specs.inner.Sending.{appended, pixel_size, EndsOpaque, IsNew, IsReady, ImageBetween, CoderGoes, FillsPiece, GoesByPixels, GoesOn, BreaksOff, Ends, OpenPiece, ImageState}
+use Rattle.qoi.specs.inner.Sending.{appended, pixel_size, EndsOpaque, IsNew, IsReady, ImageBetween, CoderGoes, FillsPiece, AreNextPixels, GoesOn, BreaksOff, Ends, OpenPiece, ImageState}
 use Rattle.qoi.specs.EncoderState.{EncoderState}
 use Rattle.qoi.proofs.format.RawPixels.{pixels_of-append, pixels_of_are}
 use Rattle.qoi.proofs.format.WholePixels.{by_channels, whole_pixels}
@@ -41,7 +41,7 @@ image_starts e a b p front kept are new split went =
 
 module _ {W : Type 0} {wrote : W → List ℕ → W → Type 0} {e : EncoderState} {a now : W} {p : ImageState} {kept : List ℕ} where
   -- pixels can be written if there is room for the whole file
-  pub image_ready : {raw : List ℕ} {free size : ℕ} → ImageBetween wrote e a now p kept raw → GoesByPixels p raw → 2 * SPARE ≤ size
+  pub image_ready : {raw : List ℕ} {free size : ℕ} → ImageBetween wrote e a now p kept raw → AreNextPixels p raw → 2 * SPARE ≤ size
       → length (image_file e.style e.header e.raw) ≤ free → IsReady free size p kept raw
   image_ready b whole large fits = record {
     whole = whole;

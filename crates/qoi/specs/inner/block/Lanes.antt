@@ -68,7 +68,7 @@ pub record State : Type 0 where
   pub held : Past
   pub last : RgbaPixel
   pub carry : ℕ
-  pub placed : Bool
+  pub named : Bool
 
 -- the lane repeats the pixel before it
 abbrev pub is_rep : Lane → Bool
@@ -90,7 +90,7 @@ goes_on (l ∷ ls) = is_rep l
 
 -- the bytes of a group of n repeats before a fresh pixel, of which there are fewer than 62
 abbrev pub group_bytes : Style → Bool → RgbaPixel → ℕ → List ℕ
-group_bytes style placed p n = bytes_of (if n == 1 then single_chunk style true placed (hash p) 1 else Run n)
+group_bytes style named p n = bytes_of (if n == 1 then single_chunk style true named (hash p) 1 else Run n)
 
 -- the state after a lane's pixel, from whether it repeats, and whether the next one does or there is
 -- none
@@ -99,13 +99,13 @@ next_by rep more s p = record {
   held = p ∷ s.held;
   last = p;
   carry = if rep then (if more then suc s.carry else 0) else 0;
-  placed = if rep then (if more then s.placed else false) else pixel_eq (seen s.held (hash p)) p;
+  named = if rep then (if more then s.named else false) else pixel_eq (seen s.held (hash p)) p;
 }
 
 -- the bytes that are written then
 abbrev pub step_by : Bool → Bool → Style → State → RgbaPixel → List ℕ
 step_by rep more style s p =
-    if rep then (if more then [] else group_bytes style s.placed p (suc s.carry)) else lane_bytes (lane_of s.held s.last p)
+    if rep then (if more then [] else group_bytes style s.named p (suc s.carry)) else lane_bytes (lane_of s.held s.last p)
 
 -- what is written for a block's pixels, but for the repeats at its end
 abbrev pub block_bytes : Style → State → List RgbaPixel → List ℕ

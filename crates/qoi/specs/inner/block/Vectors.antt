@@ -95,7 +95,7 @@ pub record IsBlock (s : State) (ps : List RgbaPixel) (red stands indices : List 
 -- whether an RGBA chunk is known to give each.
 pub record HasSpelled (style : Style) (s : State) (ps : List RgbaPixel) (x : Spelled) : Type 0 where
   pub rep_is : x.rep ≡ map (λ l. mask (is_rep l)) (lanes_of s.held s.last ps)
-  pub first_is : x.first ≡ firsts_in style s.placed s.carry (lanes_of s.held s.last ps)
+  pub first_is : x.first ≡ firsts_in style s.named s.carry (lanes_of s.held s.last ps)
   pub second_is : x.second ≡ map second_of (lanes_of s.held s.last ps)
   pub size_is : x.size ≡ sizes (lanes_of s.held s.last ps)
   pub count_is : x.count ≡ counts s.carry (map is_rep (lanes_of s.held s.last ps))

@@ -71,19 +71,19 @@ fn bytes_from(header: &Header, channels: Channels, row: u32) -> usize
 }
 
 // Reads raw bytes of a file's image until no more than so many are unread.
-fn skip_to(reader: &mut PixelReader<Bytes<'_>>, bytes_left: usize) -> Result<()>
+fn skip_to(reader: &mut PixelReader<Bytes<'_>>, most_left: usize) -> Result<()>
     ensures file { (channels : Channels) (h : Header) (file : List ℕ)
         → ReadsFile channels h file reader.old
         → OnOk result (ReadsFile channels h file reader.new) }
     ensures left { OnOk result
-        (unread_bytes reader.new ≡ min bytes_left (unread_bytes reader.old)) }
+        (unread_bytes reader.new ≡ min most_left (unread_bytes reader.old)) }
     ensures refused { (channels : Channels) (h : Header) (file : List ℕ)
         → ReadsFile channels h file reader.old → IfErr result (HasRefusedFile file) }
     ensures accepts { (channels : Channels) (h : Header) (file : List ℕ)
         → ReadsFile channels h file reader.old → StandsAhead h (drop header_size file)
         → IsOk result }
 {
-    let count = reader.left().saturating_sub(bytes_left);
+    let count = reader.left().saturating_sub(most_left);
     reader.skip_bytes(count, &mut [0; SKIPPED])
 }
 

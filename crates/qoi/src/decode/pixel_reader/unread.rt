@@ -41,14 +41,14 @@ pub struct Refused;
 pub type PieceResult<T> = std::result::Result<T, Refused>;
 
 impl Unread {
-    ghost use Rattle.qoi.specs.pieces.Unread.{kept_count, bytes_left, KeepsWithin, KeepsNothing, KeepsPixels, IsUnread, GivesMore, Asks, Steps};
+    ghost use Rattle.qoi.specs.pieces.Unread.{kept_count, bytes_left, KeepsWithin, KeepsNothing, OwesWholePixels, IsUnread, GivesMore, Asks, Steps};
 
     /// All of an image of `size` bytes.
     pub(super) fn new(size: usize) -> Unread
         requires { 0 < size }
         ensures start { (f c n : ℕ) (start : Option (List ℕ)) → IsChannels c → size ≡ c * n
             → IsUnread f c n start start [] result }
-        ensures pixels { (c n : ℕ) → IsChannels c → size ≡ c * n → KeepsPixels c result }
+        ensures pixels { (c n : ℕ) → IsChannels c → size ≡ c * n → OwesWholePixels c result }
         ensures left { bytes_left result ≡ size }
         ensures within { KeepsWithin result }
         ensures undecoded { (result.undecoded ≡ size) × (result.run ≡ 0) }
@@ -135,7 +135,7 @@ impl Unread {
     pub(super) fn give(&mut self, out: &mut [u8]) -> usize
         requires { KeepsWithin self.old }
         ensures size { result ≡ min (length out.old) (kept_count self.old) }
-        ensures gives { (f c : ℕ) (now : Option (List ℕ)) → KeepsPixels c self.old
+        ensures gives { (f c : ℕ) (now : Option (List ℕ)) → OwesWholePixels c self.old
             → GivesMore f c now now self.old self.new out.new result }
         ensures state { self.new ≡ record self.old { from = self.old.from + result } }
     {
@@ -155,7 +155,7 @@ impl Unread {
         requires channels { IsChannels N }
         requires none { kept_count self.old ≡ 0 }
         requires some { 0 < self.old.run }
-        requires pixels { KeepsPixels N self.old }
+        requires pixels { OwesWholePixels N self.old }
         ensures gives { (now : Option (List ℕ)) → GivesMore F N now now self.old self.new [] 0 }
         ensures none { self.new.run ≡ 0 }
         ensures within { KeepsWithin self.new }
@@ -173,7 +173,7 @@ impl Unread {
     fn give_run<const N: usize, const F: usize>(&mut self, out: &mut [u8]) -> usize
         requires channels { IsChannels N }
         requires none { kept_count self.old ≡ 0 }
-        requires pixels { KeepsPixels N self.old }
+        requires pixels { OwesWholePixels N self.old }
         ensures gives { (now : Option (List ℕ)) → GivesMore F N now now
             self.old self.new out.new result }
         ensures within { result ≤ length out.new }
@@ -275,7 +275,7 @@ impl Unread {
         requires whole { room % N ≡ 0 }
         requires none { KeepsNothing self.old }
         requires some { 0 < self.old.undecoded }
-        requires pixels { KeepsPixels N self.old }
+        requires pixels { OwesWholePixels N self.old }
         ensures step { Steps F N R.in_memory (R.ahead reader.old) (R.ahead reader.new)
             self.old self.new [] (λ _. 0) result }
         ensures enough { OnOk result

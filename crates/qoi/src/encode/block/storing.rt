@@ -22,7 +22,7 @@ use std::simd::prelude::*;
 
 // Whether each chunk has at most four bytes. Only RGBA chunks have five.
 #[inline(always)]
-fn are_short<const N: usize>(size: u8x16) -> bool
+fn have_four_at_most<const N: usize>(size: u8x16) -> bool
     ensures { IsTrue result → ((k : ℕ) → slice_index size k ≤ N + 1)
         → (k : ℕ) → slice_index size k ≢ 5 }
 {
@@ -53,7 +53,7 @@ pub(in crate::encode) fn store_sixteen<const N: usize>(
     let p = block.planes;
     // A lane's four bytes: the first, the second (a luma's, or red), green and blue.
     let chunks = join_lanes(x.first, x.second, p.g, p.b);
-    if are_short::<N>(x.size) {
+    if have_four_at_most::<N>(x.size) {
         store_shuffled(out, at, x.size, chunks)
     } else {
         store_each(out, at, x.size, chunks, p.a)

@@ -6,7 +6,7 @@ ghost use Rattle.qoi.specs.Qoi.{pixels_max};
 ghost use Rattle.qoi.specs.declared.encode.pixel_writer.workspace.TheConstants.{HELD_MOST};
 ghost use Rattle.qoi.specs.Writers.{AppendsBeginning};
 ghost use Rattle.std.specs.Io.KnownBytes.{Appends};
-ghost use Rattle.qoi.specs.inner.Sending.{appended, EndsOpaque, StaysIn, GoesByPixels, IsReady, WritesWhole, GoesOnOrBreaks, EndsWith};
+ghost use Rattle.qoi.specs.inner.Sending.{appended, EndsOpaque, StaysIn, AreNextPixels, IsReady, WritesWhole, GoesOnOrBreaks, EndsWith};
 ghost use Rattle.qoi.specs.inner.Coder.{kept_bytes, LARGE_ROOM};
 
 use crate::encode::image::{ImageState, write_last_pixels, write_pixels};
@@ -103,7 +103,7 @@ pub(super) fn take_raw<W: Write>(
 
 /// Writes an image's last raw bytes, which were held, and the end marker.
 pub(super) fn write_end<W: Write>(writer: &mut W, workspace: &mut Workspace) -> Result<()>
-    requires { GoesByPixels workspace.old.state workspace.old.held }
+    requires { AreNextPixels workspace.old.state workspace.old.held }
     ensures { EndsWith appended IsIoError (W.contents writer.old) workspace.old.state []
         workspace.old.held (W.contents writer.new) result }
 {

@@ -70,7 +70,7 @@ returns g c = λ ahead n rest more fits b.
     let carry = c.args.carry in
     let now = b.between in
     let q = last_pixel carry.before in
-    let s : State = record { held = put_in style now.past; last = q; carry = carry.count; placed = names now.before (hash q) } in
+    let s : State = record { held = put_in style now.past; last = q; carry = carry.count; named = names now.before (hash q) } in
     let words = c.args.block.words in
     let all : List RgbaPixel = block_pixels words in
     let sixteen = block_sixteen words c.args.block.packed in
@@ -89,7 +89,7 @@ returns g c = λ ahead n rest more fits b.
       begun_is = sym now.state.begun_is;
       opens = λ no. (b.is.count_is ∙ (b.goes.opens no).0, λ e. (b.goes.opens no).1 (sym first ∙ e ∙ ap Some b.is.px_is));
       held_is = λ _. refl;
-      placed_is = refl;
+      named_is = refl;
     } in
     let end = c.args.piece.piece.end in
     let low : end ≤ g.row.ROOM - 16 = omega (arith, c.args.piece.not_full) in
@@ -97,17 +97,17 @@ returns g c = λ ahead n rest more fits b.
     sym (take-take end (g.row.ROOM - 16) c.store_indices.new.out low) ∙ ap (take end) c.store_indices.ensures.front ∙ take-take end (g.row.ROOM - 16) c.args.piece.piece.bytes.now low in
     let at : c.index_positions-indices.result ≡ map hash all = c.index_positions-indices.ensures all sixteen planes in
     let put = c.put_block-stands.ensures s.held all now.state.table_is sixteen (block_words words c.args.block.packed) (c.read_indices-read.ensures ∙ at) in
-    let run : 0 < carry.count → take (end + 1) c.store_run.new.out ≡ take end c.store_indices.new.out ++ group_bytes style carry.placed q carry.count =
+    let run : 0 < carry.count → take (end + 1) c.store_run.new.out ≡ take end c.store_indices.new.out ++ group_bytes style carry.named q carry.count =
     λ some. rw c.style_in-style.ensures at (c.store_run.ensures.run some) in
-    let placed : style ≡ Places → s.placed ≡ carry.placed = λ is. ap (λ p. names now.before (hash p)) q_is ∙ sym (b.is.placed_is ∙ now.state.placed_is is) in
+    let placed : style ≡ Places → s.named ≡ carry.named = λ is. ap (λ p. names now.before (hash p)) q_is ∙ sym (b.is.named_is ∙ now.state.named_is is) in
     let spelled = c.spell-x.ensures s (fits.changes s.held) refl placed
     (record { sixteen = sixteen; last_is = last; red_is = planes.r_is; stands_are = put.stands_are; indices_are = at }) in
     let x = c.spell-x.result in
-    let ready_now = ready style ahead s all later x carry.placed end (end + c.from.result) _ c.store_run.new.out c.args.carry.few
+    let ready_now = ready style ahead s all later x carry.named end (end + c.from.result) _ c.store_run.new.out c.args.carry.few
     (λ e. omega (arith, b.is.count_is, b.goes.few (sym first ∙ e ∙ ap Some b.is.px_is))) start spelled sixteen placed (c.store_run.ensures.front ∙ front)
-    (λ some. run some ∙ ap (λ z. z ++ group_bytes style carry.placed q carry.count) front) (ap (λ n. end + n) c.from.ensures) in
+    (λ some. run some ∙ ap (λ z. z ++ group_bytes style carry.named q carry.count) front) (ap (λ n. end + n) c.from.ensures) in
     block_step style ahead n s rest more all x c.args.block.planes c.put_block-stands.new.table c.carry.result _ _ sixteen fits.mixed planes ready_now put.holds
     (λ tight. fits.no_blank tight s.held now.state.table_is)
-    c.carry.ensures.before c.carry.ensures.count (λ is. c.carry.ensures.placed (stand_tests s.held all) (c.style_in-style.ensures ∙ is) put.stands_are)
+    c.carry.ensures.before c.carry.ensures.count (λ is. c.carry.ensures.named (stand_tests s.held all) (c.style_in-style.ensures ∙ is) put.stands_are)
     (λ t same last_is few. c.store_sixteen-end.ensures.written style t (subst IsPixel (sym last_is) last) same (omega arith)
     (sizes_in g.row.N t t.last all x.size carry.channels c.requires (λ three. ap (λ z. z.a) last_is ∙ carry.opaque three) same.size_is))

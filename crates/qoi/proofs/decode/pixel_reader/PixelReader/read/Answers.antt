@@ -9,7 +9,7 @@ use Rattle.qoi.specs.Decoding.{RefusesBytes}
 use Rattle.qoi.specs.DecoderState.{DecoderState}
 use Rattle.qoi.specs.Reading.{StandsAhead}
 use Rattle.qoi.specs.pieces.PixelReader.{PixelsState, HasGiven, HasRows, RefusesPixels}
-use Rattle.qoi.specs.pieces.Unread.{KeepsPixels, IsUnread, AreEnough}
+use Rattle.qoi.specs.pieces.Unread.{OwesWholePixels, IsUnread, AreEnough}
 use Rattle.qoi.specs.inner.Chunks.{RefusesChunks}
 use Rattle.qoi.proofs.format.RectangleLaws.{picture_row}
 use Rattle.qoi.proofs.decoding.PixelPieces.{byte_bounds, has_given, unread_of, refuses_pixels, piece_follows, rows_more, rows_next}
@@ -52,7 +52,7 @@ returns-in-Ok-clause-read g c d start given h =
     let e = c.next_piece.new.self in
     let then : PixelsState _ = record { reader = e.reader; header = e.header; channels = e.channels; unread = c.next_piece.new.unread; refused = c.self.inside.refused } in
     subst (λ z. HasGiven d start (g.R.Reader.ahead e.reader) (given ++ z) then) (sym front)
-    (has_given d start _ (given ++ out) then (subst (λ z. IsUnread (channels_number d.header.channels) (channels_number d.channels) (pixel_count d.header) start (g.R.Reader.ahead e.reader) (given ++ z) then.unread) whole after) (subst (λ k. KeepsPixels (channels_number k) then.unread) chosen c.in-Ok.ensures.step.pixels) (ap (λ s. s.header) same ∙ header) (ap (λ s. s.channels) same ∙ chosen) going (byte_bounds d.header d.channels valid).0)
+    (has_given d start _ (given ++ out) then (subst (λ z. IsUnread (channels_number d.header.channels) (channels_number d.channels) (pixel_count d.header) start (g.R.Reader.ahead e.reader) (given ++ z) then.unread) whole after) (subst (λ k. OwesWholePixels (channels_number k) then.unread) chosen c.in-Ok.ensures.step.pixels) (ap (λ s. s.header) same ∙ header) (ap (λ s. s.channels) same ∙ chosen) going (byte_bounds d.header d.channels valid).0)
 
 pub returns-in-Ok-clause-follows : goal.returns-in-Ok-clause-follows
 unfolding HasGiven

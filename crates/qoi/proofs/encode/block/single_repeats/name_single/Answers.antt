@@ -41,12 +41,12 @@ returns c = λ s ps sixteen placed stands indices h.
     let ls : List Lane = lanes_of s.held s.last ps in
     let at : c.args.indices ≡ map (λ l. hash l.px) ls = indices ∙ sym (themselves hash s.held s.last ps) in
     let ones : c.where_is.result ≡ map (λ n. mask (n == 1)) (counts s.carry (map is_rep ls)) = c.where_is.ensures ∙ ap (map (λ n. mask (n == 1))) h.count_is in
-    let before : c.shift_in-stood.result ≡ stoods s.placed ls =
+    let before : c.shift_in-stood.result ≡ stoods s.named ls =
     c.shift_in-stood.ensures ∙ ap (λ m. m ∷ take 15 c.args.stands) c.pick.ensures ∙ (λ i. mask (sym placed i) ∷ take 15 ((stands ∙ sym (stands_lanes s.held s.last ps)) i))
-    ∙ stoods_are 15 s.placed ls (lanes_long s.held s.last ps ∙ sixteen.long) in
+    ∙ stoods_are 15 s.named ls (lanes_long s.held s.last ps ∙ sixteen.long) in
     record {
       rep_is = h.rep_is;
-      first_is = c.lesser.ensures ∙ (λ i. named (h.first_is i) (at i) (h.rep_is i) (ones i) (before i)) ∙ named_are s.placed s.carry ls;
+      first_is = c.lesser.ensures ∙ (λ i. named (h.first_is i) (at i) (h.rep_is i) (ones i) (before i)) ∙ named_are s.named s.carry ls;
       second_is = h.second_is;
       size_is = h.size_is;
       count_is = h.count_is;

@@ -27,7 +27,7 @@ returns c = λ s ps carry changes b.
     ∙ ap (λ n. counts n (map is_rep ls)) (sym carry) in
     record {
       rep_is = rep.is;
-      first_is = c.with_runs.ensures ls s.carry s.placed first rep count;
+      first_is = c.with_runs.ensures ls s.carry s.named first rep count;
       second_is = (c.second_bytes.ensures ls as_luma red fits.luma_is).is;
       size_is = c.with_zeros.ensures ls size rep;
       count_is = count;

@@ -14,7 +14,7 @@ returns c = λ style s ps sixteen last rep red full.
     let long : length ls ≡ 16 = lanes_long s.held s.last ps ∙ sixteen.long in
     record {
       rep_is = rep;
-      first_is = sym (tags_in style s.placed s.carry ls f ∙ ap (λ n. replicate n 255) long);
+      first_is = sym (tags_in style s.named s.carry ls f ∙ ap (λ n. replicate n 255) long);
       second_is = red ∙ sym (themselves (λ (p : RgbaPixel). p.r) s.held s.last ps) ∙ sym (reds_full ls f);
       size_is = sym (sizes_full ls f ∙ ap (λ n. replicate n 5) long);
       count_is = sym (none_counted s.carry ls f ∙ ap (λ n. replicate n 0) long);

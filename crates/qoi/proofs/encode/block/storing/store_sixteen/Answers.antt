@@ -43,12 +43,12 @@ block_is style s ps x p words sixteen last planes spelled carry made =
     let ls : List Lane = lanes_of s.held s.last ps in
     let fs : List ℕ = x.first in
     let long : length ls ≡ 16 = lanes_long s.held s.last ps ∙ sixteen.long in
-    let long_first : length fs ≡ 16 = ap length spelled.first_is ∙ firsts_long style s.placed s.carry ls ∙ long in
+    let long_first : length fs ≡ 16 = ap length spelled.first_is ∙ firsts_long style s.named s.carry ls ∙ long in
     let long_size : length x.size ≡ 16 = ap length spelled.size_is ∙ sizes_long ls ∙ long in
     let same : length fs ≡ length ls = long_first ∙ sym long in
     let own : (f : RgbaPixel → ℕ) (xs : List ℕ) → xs ≡ map f ps → xs ≡ map (λ (l : Lane). f l.px) ls = λ f xs is. is ∙ sym (themselves f s.held s.last ps) in
     let pixels : AllByRecursion IsPixel (chunk_pixels ls fs) = subst (λ z. AllByRecursion IsPixel (chunk_pixels ls z)) (sym spelled.first_is)
-    (pixels_in style s.placed s.carry ls (lanes_are s.held s.last ps last sixteen.are)) in
+    (pixels_in style s.named s.carry ls (lanes_are s.held s.last ps last sixteen.are)) in
     let chunks = chunk_planes ls fs same in
     let words_are = made (chunk_pixels ls fs) (record { long = pixels_long ls fs same ∙ long; are = pixels }) (record {
       r_is = chunks.r_is;
@@ -73,16 +73,16 @@ returns-then-x-clause-written g c = λ style s last spelled carry few.
     ∙ ap (λ z. take c.args.at c.args.out.now ++ z) (sym (rgba_written style s (block_pixels words)
     (rgba_lanes _ (lanes_are s.held s.last (block_pixels words) last sixteen.are) (spelled.rgba_is c.if-x.true))))
 
-pub returns-then-are_short-clause-written : goal.returns-then-are_short-clause-written
-returns-then-are_short-clause-written g c = λ style s last spelled carry few.
+pub returns-then-have_four_at_most-clause-written : goal.returns-then-have_four_at_most-clause-written
+returns-then-have_four_at_most-clause-written g c = λ style s last spelled carry few.
     let block = c.args.block in
     let ps = block_pixels block.words in
     let sixteen = block_sixteen block.words block.packed in
-    c.store_shuffled.ensures.written block.planes.a (have_codes style s ps c.args.x sixteen spelled (c.are_short.ensures c.if-are_short.true few))
+    c.store_shuffled.ensures.written block.planes.a (have_codes style s ps c.args.x sixteen spelled (c.have_four_at_most.ensures c.if-have_four_at_most.true few))
     ∙ ap (λ z. take c.args.at c.args.out.now ++ z) (block_is style s ps c.args.x block.planes c.join_lanes-chunks.result sixteen last block.planes_are spelled carry c.join_lanes-chunks.ensures)
 
-pub returns-else-are_short-clause-written : goal.returns-else-are_short-clause-written
-returns-else-are_short-clause-written g c = λ style s last spelled carry few.
+pub returns-else-have_four_at_most-clause-written : goal.returns-else-have_four_at_most-clause-written
+returns-else-have_four_at_most-clause-written g c = λ style s last spelled carry few.
     let block = c.args.block in
     let ps = block_pixels block.words in
     let sixteen = block_sixteen block.words block.packed in

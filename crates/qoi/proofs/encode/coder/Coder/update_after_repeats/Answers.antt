@@ -26,5 +26,5 @@ returns-clause-state g c past before s =
       ];
       last_is = s.last_is ∙ sym (previous_repeats n past);
       begun_is = s.begun_is ∙ sym (ap (list_any (λ p. true)) (fresh_repeats n past));
-      placed_is = λ is. placed_repeats n past before c.args.self.now.last.placed (s.placed_is is);
+      named_is = λ is. placed_repeats n past before c.args.self.now.last.named (s.named_is is);
     }

@@ -41,7 +41,7 @@ returns-clause-written g c ahead rest differs none b =
       table_is = fresh_held style past c.args.table.now c.put.new.self p new state.table_is c.put.ensures;
       last_is = refl;
       begun_is = sym (ap (list_any (λ p. true)) (fresh_more past p new));
-      placed_is = λ indices. elim c.match-self.branch [
+      named_is = λ indices. elim c.match-self.branch [
         | in-Places w ↦ w.self-is ∙ d.4
         | in-Reference w ↦ absurd (elim w.in-Reference.is [
           | inl is ↦ (let no : Reference ≡ Places = sym is ∙ indices in cc)

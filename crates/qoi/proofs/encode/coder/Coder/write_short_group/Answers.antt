@@ -11,16 +11,16 @@ use Rattle.qoi.proofs.encode.coder.Coder.write_short_group.Goals as goal
 
 pub returns-clause-px : goal.returns-clause-px
 returns-clause-px g c =
-    sym (get_drop c.args.ahead (pixels_in c.args.raw)) ∙ ap (λ ps. slice_get ps 0) (sym c.skip-after.ensures.rest ∙ c.first.ensures) ∙ ap Some (sym c.write_fresh_pixel.ensures.px)
+    sym (get_drop c.args.at_front (pixels_in c.args.raw)) ∙ ap (λ ps. slice_get ps 0) (sym c.skip-after.ensures.rest ∙ c.first.ensures) ∙ ap Some (sym c.write_fresh_pixel.ensures.px)
 
 pub returns-clause-rest : goal.returns-clause-rest
-returns-clause-rest g c = c.skip.ensures.rest ∙ ap (drop 1) c.skip-after.ensures.rest ∙ drop-drop 1 c.args.ahead (pixels_in c.args.raw) ∙ ap (λ k. drop k (pixels_in c.args.raw)) (omega arith)
+returns-clause-rest g c = c.skip.ensures.rest ∙ ap (drop 1) c.skip-after.ensures.rest ∙ drop-drop 1 c.args.at_front (pixels_in c.args.raw) ∙ ap (λ k. drop k (pixels_in c.args.raw)) (omega arith)
 
 pub returns-clause-written : goal.returns-clause-written
 returns-clause-written g c = record {
   style = c.write_fresh_pixel.ensures.style ∙ c.update_after_repeats.ensures.style;
   on = λ all more b.
-      let n = c.args.ahead in
+      let n = c.args.at_front in
       let raw = pixels_in c.args.raw in
       let last = c.args.self.now.last in
       let count = last.repeats + n in
@@ -34,7 +34,7 @@ returns-clause-written g c = record {
       let differs : px ≢ last.px = λ e. c.requires.fresh (is ∙ ap Some e) in
       let split : raw ++ more ≡ replicate n last.px ++ later =
       ap (λ ps. ps ++ more) (sym (take-append-drop n raw) ∙ ap (λ ps. ps ++ rest) c.requires.repeat) ∙ append_assoc (replicate n last.px) rest more in
-      let one = single_chunk c.args.self.now.style last.begun last.placed (hash last.px) count in
+      let one = single_chunk c.args.self.now.style last.begun last.named (hash last.px) count in
       let some : later ≢ [] = λ none. (let no : ◌≡◌ {A = Option RgbaPixel} None (Some px) = ap (λ ps. slice_get ps 0) (sym none) ∙ first in cc) in
       let group = group_written b n later one split (inl (λ e. differs (same_Some _ _ (sym first ∙ e)))) (λ _. inr (some, refl))
       (c.append_run.ensures.kept _ c.single_repeat_byte.ensures) c.update_after_repeats.ensures.left c.update_after_repeats.ensures.state in

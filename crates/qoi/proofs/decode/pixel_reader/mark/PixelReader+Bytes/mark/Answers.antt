@@ -3,7 +3,7 @@ use Rattle.std.proofs.Common.{rules, List, ℕ, ◌≡◌, false, subst}
 use Rattle.qoi.specs.Qoi.{channels_number, IsValid}
 use Rattle.qoi.specs.pieces.Mark.{MarksRows}
 use Rattle.qoi.specs.pieces.PixelReader.{PixelsState, HasRows}
-use Rattle.qoi.specs.pieces.Unread.{KeepsPixels}
+use Rattle.qoi.specs.pieces.Unread.{OwesWholePixels}
 use Rattle.qoi.proofs.decoding.Marks.{marks_given, marks_then}
 use Rattle.qoi.proofs.decode.pixel_reader.mark.PixelReader+Bytes.mark.Goals.{After-copied}
 use Rattle.qoi.proofs.decode.pixel_reader.mark.PixelReader+Bytes.mark.Goals as goal
@@ -13,9 +13,9 @@ valid : (c : After-copied) → IsValid c.args.self.now.header
 valid c = subst (λ (s : PixelsState (List ℕ)). IsValid s.header) c.self.view_is c.self.invariant.0
 
 -- whole pixels are unread
-keeps : (c : After-copied) → c.args.self.now.refused ≡ false → KeepsPixels (channels_number c.args.self.now.channels) c.args.self.now.unread
+keeps : (c : After-copied) → c.args.self.now.refused ≡ false → OwesWholePixels (channels_number c.args.self.now.channels) c.args.self.now.unread
 keeps c =
-    subst (λ (s : PixelsState (List ℕ)). s.refused ≡ false → KeepsPixels (channels_number s.channels) s.unread) c.self.view_is
+    subst (λ (s : PixelsState (List ℕ)). s.refused ≡ false → OwesWholePixels (channels_number s.channels) s.unread) c.self.view_is
     c.self.invariant.3
 
 pub returns-clause-state : goal.returns-clause-state

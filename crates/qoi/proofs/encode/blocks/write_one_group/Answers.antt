@@ -1,8 +1,8 @@
--- Some of the pixels are written: those of the opening.
+-- Some of the pixels are written: those of one group.
 use Rattle.std.proofs.Common.{refl}
 use Rattle.qoi.proofs.encoding.coder.CoderLink.{in_style}
 use Rattle.qoi.proofs.encoding.piece.ImagePieces.{fills}
-use Rattle.qoi.proofs.encode.blocks.write_opening.Goals as goal
+use Rattle.qoi.proofs.encode.blocks.write_one_group.Goals as goal
 
 pub returns : goal.returns
 returns g c =

@@ -6,7 +6,7 @@ use Rattle.std.proofs.lemmas.List.{length-map}
 use Rattle.qoi.specs.inner.block.Lanes.{mask}
 use Rattle.std.specs.List.{list_all}
 use Rattle.qoi.proofs.encoding.lanes.Lanewise.{not_8}
-use Rattle.qoi.proofs.encode.block.storing.are_short.Goals as goal
+use Rattle.qoi.proofs.encode.block.storing.have_four_at_most.Goals as goal
 
 -- none of them is 5
 none_five : (xs : List ℕ) → list_all (λ b. b) (map (λ n. not (n == 5)) xs) ≡ true → (k : ℕ) → slice_index xs k ≢ 5
