@@ -20,8 +20,8 @@ use std::io::Write;
 
 // How many raw bytes go at once: no more than `copied_at_once`, by `early` of `StopsBehind`,
 // `short` of `FailsBehind`, `BreaksCopy` and `BreaksInput`. By hand have to follow PIECE of
-// fuzz/session.h, the numbers in comments and on the pages, and the tests of readers and writers
-// that fail.
+// fuzz/session.h, the numbers in comments and on the pages, and the tests whose readers and writers
+// report faults.
 const PIECE: usize = 4096;
 
 impl<R: Reader> PixelReader<R> {
@@ -32,10 +32,10 @@ impl<R: Reader> PixelReader<R> {
     ///
     /// Refusals, in this order: `IoError` of kind `BrokenPipe` if the writer reported a fault
     /// before; `InvalidImageLength` if more bytes are left than the writer takes; and then nothing
-    /// is read. Else those of `read`, behind which the writer has what was read before and takes
-    /// more; and `IoError` as in `write`. Then the reader stands behind the piece with which the
-    /// writer failed, of at most 4,096 bytes, perhaps within a row: `left` says where. It goes on
-    /// there, to another writer.
+    /// is read. Else those of `read`, behind which the writer has the pieces that came before and
+    /// takes more; and `IoError` as in `write`. Then the reader stands behind the piece with which
+    /// the writer failed, of at most 4,096 bytes, perhaps within a row: `left` says where. It goes
+    /// on there, to another writer.
     ///
     /// Whose an `IoError` is, `writer.write(&[])` tells: that call returns one, too, if the writer
     /// failed.
@@ -77,9 +77,9 @@ impl<R: Reader> PixelReader<R> {
     /// Copies the next rows of the image to a writer of pieces, so many: `copy_to` for a part. It
     /// counts from where the reader stands, which may be within a row.
     ///
-    /// `UnexpectedBufferEnd` if fewer are left, and then nothing is read: compare `left` first, as a
-    /// cut image is refused by the same error. Else the refusals, and what they leave, are those of
-    /// `copy_to`.
+    /// `UnexpectedBufferEnd` if fewer are left, and then nothing is read: compare `left` first, as
+    /// a cut image is refused by the same error. Else the refusals, and what they leave, are those
+    /// of `copy_to`.
     ///
     /// ```
     /// let mut pixels = index.rows(file, 4000)?;
@@ -129,7 +129,7 @@ impl<R: Reader> PixelReader<R> {
         ensures { Copies R.in_memory R.ahead W.contents count self.old self.new writer.old
             writer.new result }
     {
-        writer.check_room(count)?;
+        writer.check_count(count)?;
         let mut buf = [0; PIECE];
         let mut rest = count;
         while rest > 0 {

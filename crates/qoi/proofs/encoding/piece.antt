@@ -1,6 +1,6 @@
 -- Lemmas on kept bytes, and on what writers are sent.
 pub mod BufferFilled
-pub mod BytesAhead
+pub mod BytesUnsent
 pub mod ImagePieces
 pub mod PieceSent
 pub mod StreamSent

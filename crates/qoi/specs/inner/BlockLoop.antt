@@ -22,10 +22,10 @@ pub record GoesByBlocks (style : Style) (last : LastPixel) (n : ℕ) (rest : Lis
 
 -- Between two blocks: the carried repeats are still to be written, the pixels `rest`, and then
 -- others. If no fresh pixel came, none of the call's n pixels was written.
-pub record InBlocks {N : ℕ} (style : Style) (ahead : List ℕ) (n : ℕ) (rest more table : List RgbaPixel) (carry : Carry N) (kept : List ℕ) : Type 0 where
+pub record InBlocks {N : ℕ} (style : Style) (unsent : List ℕ) (n : ℕ) (rest more table : List RgbaPixel) (carry : Carry N) (kept : List ℕ) : Type 0 where
   pub last : LastPixel
   pub is : IsCarried last carry
-  pub between : CoderBetween style ahead (rest ++ more) table last kept
+  pub between : CoderBetween style unsent (rest ++ more) table last kept
   pub goes : GoesByBlocks style last n rest
 
 -- Some pixels are written: from `raw`, table, carry and piece to the primed ones, in a call that has
@@ -33,5 +33,5 @@ pub record InBlocks {N : ℕ} (style : Style) (ahead : List ℕ) (n : ℕ) (rest
 pub record WritesBlocks {N ROOM : ℕ} (style : Style) (least : ℕ) (raw : Pixels N) (table : List RgbaPixel) (carry : Carry N) (piece : Piece ROOM)
     (raw' : Pixels N) (table' : List RgbaPixel) (carry' : Carry N) (piece' : Piece ROOM) : Type 0 where
   pub less : length (pixels_in raw') < length (pixels_in raw)
-  pub written : (ahead : List ℕ) (n : ℕ) (more : List RgbaPixel) → least ≤ n
-      → InBlocks style ahead n (pixels_in raw) more table carry (kept_bytes piece) → InBlocks style ahead n (pixels_in raw') more table' carry' (kept_bytes piece')
+  pub written : (unsent : List ℕ) (n : ℕ) (more : List RgbaPixel) → least ≤ n
+      → InBlocks style unsent n (pixels_in raw) more table carry (kept_bytes piece) → InBlocks style unsent n (pixels_in raw') more table' carry' (kept_bytes piece')

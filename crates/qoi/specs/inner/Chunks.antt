@@ -15,12 +15,12 @@ abbrev pub RefusesChunks : Bool → ℕ → Option (List ℕ) → Option (List �
 RefusesChunks true n start new e = IfSome start (λ bytes. RefusesBytes n bytes e)
 RefusesChunks false n start new e = TakesBytes start new (λ taken. RefusesTaken n taken e)
 
--- chunks were taken from the bytes ahead, after those before them; if `runs_fit`, they don't fill an output that wasn't full
-pub record TakesMore (file_channels channels : ℕ) (runs_fit : Bool) (ahead rest : Option (List ℕ)) (old new : Filling) : Type 0 where
+-- chunks were taken from the bytes ahead, after those before them; if `stays_open`, they don't fill an output that wasn't full
+pub record TakesMore (file_channels channels : ℕ) (stays_open : Bool) (ahead rest : Option (List ℕ)) (old new : Filling) : Type 0 where
   pub between : FromAny file_channels channels ahead old (λ gone n start. DecoderBetween file_channels channels gone n start rest new)
   pub fillable : IsFillable channels new.out new.at
   pub on : old.at ≤ new.at
-  pub below : IsTrue runs_fit → old.at < length old.out → new.at < length new.out
+  pub below : IsTrue stays_open → old.at < length old.out → new.at < length new.out
 
 -- they were taken until the output is full or, if `runs_fit`, until the vectors of a run may not fit
 pub record TakesChunks (file_channels channels : ℕ) (runs_fit : Bool) (ahead rest : Option (List ℕ)) (old new : Filling) : Type 0 where

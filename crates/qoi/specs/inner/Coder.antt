@@ -48,13 +48,13 @@ pub record SpellsOut (q p : RgbaPixel) (number size : ℕ) (c : Chunk) : Type 0 
   pub bytes : chunk_of size number p.a ≡ bytes_of c
   pub first : (past : Past) → previous past ≡ q → IsFirst past p c
 
--- What hasn't gone to a writer yet, but for the end marker, `ahead`, is the bytes that are kept,
+-- What hasn't gone to a writer yet, but for the end marker, `unsent`, is the bytes that are kept,
 -- and those that are written in the style for n repeats of the last of the pixels `past`, and for
 -- the pixels `rest`. `before` is the chunk before those, if there is one.
-pub record Ahead (style : Style) (ahead : List ℕ) (past : Past) (before : Option Chunk) (n : ℕ) (rest : List RgbaPixel) (kept : List ℕ) : Type 0 where
+pub record Unsent (style : Style) (unsent : List ℕ) (past : Past) (before : Option Chunk) (n : ℕ) (rest : List RgbaPixel) (kept : List ℕ) : Type 0 where
   pub are : AllByRecursion IsPixel rest
   pub before_is : IsPixel (previous past)
-  pub ahead_is : ahead ≡ kept ++ chunk_bytes (styled style past before (list_after (chosen style) past n rest))
+  pub unsent_is : unsent ≡ kept ++ chunk_bytes (styled style past before (list_after (chosen style) past n rest))
 
 -- What a table holds, and what is known of the last pixel, after these pixels and this chunk: the
 -- pixels that the style puts at their positions, that pixel, whether a fresh one came, and in style
@@ -66,22 +66,22 @@ pub record CoderAfter (style : Style) (past : Past) (before : Option Chunk) (tab
   pub named_is : style ≡ Places → last.named ≡ names before (hash (previous past))
 
 -- Between two pixels: repeats of the last one are still to be written, and the pixels `rest`.
-pub record CoderBetween (style : Style) (ahead : List ℕ) (rest : List RgbaPixel) (table : List RgbaPixel) (last : LastPixel) (kept : List ℕ) : Type 0 where
+pub record CoderBetween (style : Style) (unsent : List ℕ) (rest : List RgbaPixel) (table : List RgbaPixel) (last : LastPixel) (kept : List ℕ) : Type 0 where
   pub past : Past
   pub before : Option Chunk
-  pub to_write : Ahead style ahead past before last.repeats rest kept
+  pub to_write : Unsent style unsent past before last.repeats rest kept
   pub state : CoderAfter style past before table last
 
 -- of these pixels the rest is left to write, in the same style, whatever others follow
 pub record CoderPasses {N size : ℕ} (c : Coder N) (table : List RgbaPixel) (piece : Piece size) (pixels : List RgbaPixel)
     (c' : Coder N) (table' : List RgbaPixel) (piece' : Piece size) (rest : List RgbaPixel) : Type 0 where
   pub style : c'.style ≡ c.style
-  pub on : (ahead : List ℕ) (more : List RgbaPixel) → CoderBetween c.style ahead (pixels ++ more) table c.last (kept_bytes piece)
-      → CoderBetween c'.style ahead (rest ++ more) table' c'.last (kept_bytes piece')
+  pub on : (unsent : List ℕ) (more : List RgbaPixel) → CoderBetween c.style unsent (pixels ++ more) table c.last (kept_bytes piece)
+      → CoderBetween c'.style unsent (rest ++ more) table' c'.last (kept_bytes piece')
 
--- if no others follow these pixels, all that was ahead is kept
+-- if no others follow these pixels, all that was unsent is kept
 pub record CoderEnds {N size : ℕ} (c : Coder N) (table : List RgbaPixel) (piece : Piece size) (pixels : List RgbaPixel) (piece' : Piece size) : Type 0 where
-  pub all : (ahead : List ℕ) → CoderBetween c.style ahead pixels table c.last (kept_bytes piece) → ahead ≡ kept_bytes piece'
+  pub all : (unsent : List ℕ) → CoderBetween c.style unsent pixels table c.last (kept_bytes piece) → unsent ≡ kept_bytes piece'
 
 -- Some pixels are written: from `raw`, table, last pixel and piece to `rest` and the primed ones,
 -- whatever others follow.
@@ -90,5 +90,5 @@ pub record WritesSome {N ROOM : ℕ} (style : Style) (raw : Pixels N) (table : L
   pub opaque : N ≡ 3 → last'.px.a ≡ 255
   pub whole : length rest % N ≡ 0
   pub less : length (pixels_of N rest) < length (pixels_in raw)
-  pub on : (ahead : List ℕ) (more : List RgbaPixel) → CoderBetween style ahead (pixels_in raw ++ more) table last (kept_bytes piece)
-      → CoderBetween style ahead (pixels_of N rest ++ more) table' last' (kept_bytes piece')
+  pub on : (unsent : List ℕ) (more : List RgbaPixel) → CoderBetween style unsent (pixels_in raw ++ more) table last (kept_bytes piece)
+      → CoderBetween style unsent (pixels_of N rest ++ more) table' last' (kept_bytes piece')

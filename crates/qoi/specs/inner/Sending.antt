@@ -1,4 +1,4 @@
--- How the bytes of a file that haven't gone to a writer yet, but for the end marker (`ahead`), go there
+-- How the bytes of a file that haven't gone to a writer yet, but for the end marker (`unsent`), go there
 -- through a piece. `wrote a bytes b` says that the writer a became b by writing the bytes.
 use Rattle.std.specs.Prelude.{◌≡◌, ⊤, ℕ, ◌+◌, ◌*◌, ◌%◌, ◌<◌, ◌≤◌, ◌⊎◌, List, [], ◌++◌, length, Option, None, Result, MatchResult, IfOk}
 use Rattle.std.specs.Borrow.{Bor}
@@ -33,14 +33,14 @@ pub record IsNew (channels : Channels) (style : Style) (p : ImageState) : Type 0
 abbrev pub StaysIn : (p p' : ImageState) → Type 0
 StaysIn p p' = (p'.channels ≡ p.channels) × (p'.style ≡ p.style)
 
--- between two pixels: what hasn't gone to a writer yet, `ahead`, is what is kept, the repeats that wait,
+-- between two pixels: what hasn't gone to a writer yet, `unsent`, is what is kept, the repeats that wait,
 -- and the chunks of these raw bytes
-abbrev pub Between : (ahead : List ℕ) → ImageState → (kept raw : List ℕ) → Type 0
-Between ahead p kept raw = CoderBetween p.style ahead (pixels_of (pixel_size p) raw) p.table p.last kept
+abbrev pub Between : (unsent : List ℕ) → ImageState → (kept raw : List ℕ) → Type 0
+Between unsent p kept raw = CoderBetween p.style unsent (pixels_of (pixel_size p) raw) p.table p.last kept
 
--- the coder went on, whatever raw bytes follow: what was ahead still is
+-- the coder went on, whatever raw bytes follow: what was unsent still is
 pub record CoderGoes (p : ImageState) (kept raw : List ℕ) (p' : ImageState) (kept' raw' : List ℕ) : Type 0 where
-  pub on : (ahead more : List ℕ) → Between ahead p kept (raw ++ more) → Between ahead p' kept' (raw' ++ more)
+  pub on : (unsent more : List ℕ) → Between unsent p kept (raw ++ more) → Between unsent p' kept' (raw' ++ more)
 
 -- the raw bytes are whole pixels, which may come next: in three channels the last one was opaque
 abbrev pub AreNextPixels : ImageState → List ℕ → Type 0
@@ -54,27 +54,27 @@ pub record FillsPiece {size : ℕ} (p : ImageState) (piece : OpenPiece size) (ra
   pub less : length result.1.now < length raw
 
 module _ {W : Type 0} (wrote : W → List ℕ → W → Type 0) (a : W) (p : ImageState) (kept raw : List ℕ) where
-  -- From one state to another, whatever raw bytes follow: of the bytes that were ahead the first ones
-  -- were written, and the others are ahead. As many raw bytes as before go past the last whole pixel.
+  -- From one state to another, whatever raw bytes follow: of the bytes that were unsent the first ones
+  -- were written, and the others are unsent. As many raw bytes as before go past the last whole pixel.
   pub record GoesOn (b : W) (p' : ImageState) (kept' raw' : List ℕ) : Type 0 where
     pub opaque : EndsOpaque p'
     pub part : length raw' % pixel_size p' ≡ length raw % pixel_size p
-    pub on : (ahead more : List ℕ) → Between ahead p kept (raw ++ more)
-        → (later : List ℕ) × WroteBut wrote a ahead later b × Between later p' kept' (raw' ++ more)
+    pub on : (unsent more : List ℕ) → Between unsent p kept (raw ++ more)
+        → (later : List ℕ) × WroteBut wrote a unsent later b × Between later p' kept' (raw' ++ more)
 
   -- From such a state to a fault: a beginning of those bytes was written.
   pub record BreaksOff (b : W) : Type 0 where
-    pub off : (ahead more : List ℕ) → Between ahead p kept (raw ++ more) → WroteBeginning wrote a ahead b
+    pub off : (unsent more : List ℕ) → Between unsent p kept (raw ++ more) → WroteBeginning wrote a unsent b
 
   -- the first up to what a result has kept and left, or the second after a fault
   abbrev pub GoesOnOrBreaks : {T : Type 0} → (Error → Type 0) → W → ImageState → (kept' raw' : T → List ℕ) → Result T Error → Type 0
   GoesOnOrBreaks IsFault b p' kept' raw' result =
       MatchResult result (λ r. GoesOn b p' (kept' r) (raw' r)) (λ e. IsFault e × BreaksOff b)
 
-  -- From such a state to the end, if no raw bytes follow: all that was ahead was written, and the end
+  -- From such a state to the end, if no raw bytes follow: all that was unsent was written, and the end
   -- marker. If `wrote` is `WroteBeginning` of another relation, a beginning of that was.
   pub record Ends (b : W) : Type 0 where
-    pub all : (ahead : List ℕ) → Between ahead p kept raw → wrote a (ahead ++ end_marker) b
+    pub all : (unsent : List ℕ) → Between unsent p kept raw → wrote a (unsent ++ end_marker) b
 
 -- it ended, or did so early with a fault
 abbrev pub EndsWith : {W : Type 0} → (W → List ℕ → W → Type 0) → (Error → Type 0) → W → ImageState → (kept raw : List ℕ) → W → Result ⊤ Error → Type 0
@@ -82,12 +82,12 @@ EndsWith wrote IsFault a p kept raw b result =
     MatchResult result (λ _. Ends wrote a p kept raw b) (λ e. IsFault e × Ends (WroteBeginning wrote) a p kept raw b)
 
 -- Whole pixels can be written through a piece of this size. A writer that can take `free` bytes has
--- room: for what is ahead and the end marker, or for the largest piece's room at each raw byte and
+-- room: for what is unsent and the end marker, or for the largest piece's room at each raw byte and
 -- one more.
 pub record IsReady (free size : ℕ) (p : ImageState) (kept raw : List ℕ) : Type 0 where
   pub whole : AreNextPixels p raw
   pub large : 2 * SPARE ≤ size
-  pub enough : ((ahead : List ℕ) × Between ahead p kept raw × (length ahead + marker_size ≤ free))
+  pub enough : ((unsent : List ℕ) × Between unsent p kept raw × (length unsent + marker_size ≤ free))
       ⊎ ((size ≤ LARGE_ROOM) × (LARGE_ROOM * (length raw + 1) ≤ free))
 
 -- The coder went on with whole pixels, but for those that the result has left, fewer than a block has,
@@ -99,11 +99,11 @@ WritesWhole {size = size} wrote room IsFault a p piece raw b p' result =
     × IfOk result (λ r. (length r.0.now < 16 * pixel_size p') × (length r.0.now ≤ length raw)
     × IsReady (room b) size p' (kept_bytes r.1.piece) r.0.now)
 
--- Between two pixels of an image: of its file all was written but what is ahead, and the end marker.
+-- Between two pixels of an image: of its file all was written but what is unsent, and the end marker.
 pub record ImageBetween {W : Type 0} (wrote : W → List ℕ → W → Type 0) (e : EncoderState) (a b : W) (p : ImageState) (kept raw : List ℕ) : Type 0 where
-  pub ahead : List ℕ
-  pub went : WroteBut wrote a (image_file e.style e.header e.raw) (ahead ++ end_marker) b
-  pub between : Between ahead p kept raw
+  pub unsent : List ℕ
+  pub went : WroteBut wrote a (image_file e.style e.header e.raw) (unsent ++ end_marker) b
+  pub between : Between unsent p kept raw
 
 -- the file of an image was written, and the result is how many bytes it has, or a beginning of it was
 abbrev pub WritesImage : {W : Type 0} → (W → List ℕ → W → Type 0) → (Error → Type 0) → EncoderState → W → W → Result ℕ Error → Type 0

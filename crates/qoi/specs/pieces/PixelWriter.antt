@@ -10,7 +10,7 @@ use Rattle.qoi.specs.inner.Sending.{appended, ImageBetween, ImageState}
 
 -- the writer as it stands, header and style of the file, how many raw bytes haven't come, how many came with
 -- the last call that wasn't refused at once, whether the writer reported a fault, the raw bytes that are
--- held, and what stands between two pixels
+-- held, and the encoder's state behind the bytes that are encoded
 pub record WriterState (W : Type 0) : Type 0 where
   pub writer : W
   pub header : Header
@@ -21,7 +21,7 @@ pub record WriterState (W : Type 0) : Type 0 where
   pub held : List ℕ
   pub pending : ImageState
 
--- how many raw bytes of the image haven't come yet
+-- how many raw bytes of the image haven't come yet; after a fault those of the call that failed count, too
 abbrev pub missing_bytes : {W : Type 0} → WriterState W → ℕ
 missing_bytes p = p.left
 

@@ -21,9 +21,9 @@ impl<R: Reader> PixelReader<R> {
     /// allocates nothing. It doesn't flush.
     ///
     /// Refusals are those of `read`, behind which the writer has what was read before, and
-    /// `IoError` if the writer reports a fault or takes no byte. Then it also has a beginning of the
-    /// next piece, of at most 4,096 bytes, and nothing says how much of it. So no more of the image
-    /// can be read, as after a refusal of `read`, and the piece counts in `left`.
+    /// `IoError` if the writer reports a fault or takes no byte. Then it also has a beginning of
+    /// the next piece, of at most 4,096 bytes, and nothing says how much of it. So no more of the
+    /// image can be read, as after a refusal of `read`, and the piece counts in `left`.
     ///
     /// Over a slice each `IoError` is the writer's. Over a stream nothing tells whose it is: use
     /// `read` and `write_all` in a loop.
@@ -51,8 +51,8 @@ impl<R: Reader> PixelReader<R> {
         Ok(())
     }
 
-    // Writes the next raw bytes, as many as `buf` has or as are left. If the writer fails, they count
-    // as unread, and the rest is refused: the writer may have a beginning of them.
+    // Writes the next raw bytes, as many as `buf` has or as are left. If the writer fails, they
+    // count as unread, and the rest is refused: the writer may have a beginning of them.
     fn copy_raw_piece<W: Write>(&mut self, out: &mut W, buf: &mut [u8]) -> Result<()>
         requires some { 0 < length buf.old }
         requires short { length buf.old ≤ copied_at_once }
@@ -106,7 +106,7 @@ impl<W: Write + Drop> PixelWriter<W> {
             → HasFailed W.contents e before self.old → IsErrAnd result IsIoError
             × (self.new ≡ self.old) × (input.new ≡ input.old) }
     {
-        self.check_room(0)?;
+        self.check_count(0)?;
         let mut buf = [0; PIECE];
         while self.left() > 0 {
             let size = self.left().min(PIECE);

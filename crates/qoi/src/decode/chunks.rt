@@ -1,5 +1,5 @@
-//! What each kind of reader does with chunks (`Chunks`, of `slice`, `stream` and `buffered`), and the
-//! loops over it: into a buffer, and into a vector that grows.
+//! What each kind of reader does with chunks (`Chunks`, of `slice`, `stream` and `buffered`), and
+//! the loops over it: into a buffer, and into a vector that grows.
 ghost use Rattle.std.specs.Prelude.{◌≡◌, ℕ, ◌+◌, ◌-◌, ◌*◌, ◌/◌, ◌%◌, ◌≤◌, List, ◌++◌, length, replicate, Option, Bool, true, false, IfSome, IfOk, IfErr, OnOk};
 ghost use Rattle.std.specs.Vec.{vec_len, vec_capacity};
 ghost use Rattle.qoi.specs.Raw.{IsChannels, raw_per_byte};
@@ -18,7 +18,7 @@ use crate::error::Result;
 const GROWTH: usize = 16384;
 
 /// What takes chunks, in `N` channels of output, from a file of `F` channels; in three of output
-/// `F` is 3 for any file (`in_channels` of `reader`).
+/// `F` is 3 for any file (`in_channels` of `reader`). Contracts name the file's first: `F N`.
 pub(super) trait Chunks<const N: usize, const F: usize>: Sized {
     /// The bytes that stand ahead, if the reader's contract states them.
     ghost ahead: { Self → Option (List ℕ) };

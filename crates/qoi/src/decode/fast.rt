@@ -1,7 +1,7 @@
 //! The loops over chunks of a slice or a reader's buffer while `INPUT_ROOM` is ahead and the output
 //! has room for eight short ones and a full one, which is tested once for all nine or, near the end
-//! of a piece behind which the image goes on, for one of each. `fast_chunks` and `chunks_ahead` of
-//! `stretches` enter them.
+//! of a piece behind which the image goes on, for one of each. `fast_chunks` and `chunks_with_room`
+//! of `stretches` enter them.
 ghost use Rattle.std.specs.Prelude.{◌≡◌, ◌⊎◌, ◌↔◌, IsTrue, ◌+◌, ◌-◌, ◌*◌, ◌/◌, ◌<◌, ◌≤◌, ◌^◌, length};
 ghost use Rattle.qoi.specs.Qoi.{run_tag, rgb_tag};
 ghost use Rattle.qoi.specs.Raw.{IsChannels};

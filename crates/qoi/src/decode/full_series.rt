@@ -27,7 +27,7 @@ impl<const N: usize, const F: usize, const TAG: u8> Series<N, F, TAG> {
 
     // Decodes the chunk that comes next, whose first byte is `TAG`.
     #[inline(always)]
-    fn chunk_of(self, table: &mut TermTable, bytes: &[u8], out: &mut [u8]) -> Self
+    fn take_chunk(self, table: &mut TermTable, bytes: &[u8], out: &mut [u8]) -> Self
         requires ahead { HasAhead 9 16 bytes.now out.old self.to }
         requires tag { IsFullTag TAG × (self.to.next ≡ TAG) }
         requires alpha { KeepsAlpha TAG self.before self.to.last }
@@ -50,8 +50,9 @@ impl<const N: usize, const F: usize, const TAG: u8> Series<N, F, TAG> {
     }
 }
 
-// Stores the pixel of the chunk that the bytes begin with, whose first byte is `TAG`, by the chunk's
-// own bytes, if those are the output's. The pixel before the series is for the contract alone.
+// Stores the pixel of the chunk that the bytes begin with, whose first byte is `TAG`, by the
+// chunk's own bytes, if those are the output's. The pixel before the series is for the contract
+// alone.
 #[inline(always)]
 #[tactic(auto, using(crate::proofs::decoding::FastSteps::in_vector))]
 fn store_full<const N: usize, const F: usize, const TAG: u8>(
@@ -92,11 +93,11 @@ fn series_of<const N: usize, const F: usize, const TAG: u8>(
     let input_end = bytes.len() - INPUT_ROOM;
     let output_end = out.len() - DENSE_ROOM;
     loop {
-        let one = series.chunk_of(table, bytes, out);
+        let one = series.take_chunk(table, bytes, out);
         if one.to.next != TAG {
             return one.to.by_fields();
         }
-        series = one.chunk_of(table, bytes, out);
+        series = one.take_chunk(table, bytes, out);
         let Series { to, .. } = series;
         if to.next != TAG || input_end < to.taken || output_end < to.at {
             return to.by_fields();

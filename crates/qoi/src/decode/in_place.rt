@@ -1,5 +1,6 @@
-//! A piece of an image that is decoded in place: by `fast_loop` (`chunks_ahead` of `stretches`),
-//! near its end with room for one short chunk and a full one, up to a run to its end or past it.
+//! A piece of an image that is decoded in place: by `fast_loop` (`chunks_with_room` of
+//! `stretches`), near its end with room for one short chunk and a full one, up to a run to its end
+//! or past it.
 ghost use Rattle.std.specs.Prelude.{◌≡◌, ◌↔◌, IsTrue, false, ◌-◌, ◌*◌, ◌<◌, ◌≤◌, length, drop, Some};
 ghost use Rattle.qoi.specs.Qoi.{run_tag, rgb_tag};
 ghost use Rattle.qoi.specs.Raw.{IsChannels};
@@ -9,9 +10,9 @@ ghost use Rattle.qoi.specs.pieces.Unread.{TakesInPlace, IsInPlace};
 use crate::consts::{QOI_OP_RGB, QOI_OP_RUN};
 use crate::decode::deltas::advance;
 use crate::decode::fast::{INPUT_ROOM, OUTPUT_ROOM};
-use crate::decode::output::store_exactly;
+use crate::decode::output::store_within;
 use crate::decode::reached::{Decoded, Reached};
-use crate::decode::stretches::chunks_ahead;
+use crate::decode::stretches::chunks_with_room;
 use crate::decode::table::TermTable;
 
 // Whether a chunk with this first byte is a run with at least so many bytes of pixels.
@@ -48,7 +49,7 @@ fn last_run<const N: usize, const F: usize>(
         return (from, 0);
     }
     table.put(now.last);
-    store_exactly::<N, F>(out, now.at, now.last, rest / N);
+    store_within::<N, F>(out, now.at, now.last, rest / N);
     let (last, at) = (now.last, out.len());
     let now = Decoded {
         taken: from.taken + 1,
@@ -58,10 +59,10 @@ fn last_run<const N: usize, const F: usize>(
 }
 
 /// Decodes chunks from the front of the bytes into a piece of an image, `out`, after what others
-/// reached: until less than 32 bytes of the piece are open, or fewer than 22 bytes are ahead
-/// (`INPUT_ROOM`); but a run to the piece's end, or past it, is taken and fills it. What stays open
-/// is for `decode_while_runs_fit` and `decode_ahead` of `Unread`. Returns what was reached, and how
-/// many bytes of that run come after the piece.
+/// reached: of fewer than 22 bytes (`INPUT_ROOM`) none, else until less than 32 bytes of the piece
+/// are open or fewer than 22 are ahead, and then one more, if that is a run to the piece's end or
+/// past it, which fills it. What stays open is for `decode_while_runs_fit` and `decode_ahead` of
+/// `Unread`. Returns what was reached, and how many bytes of that run come after the piece.
 #[inline(always)]
 pub(super) fn take_in_place<const N: usize, const F: usize>(
     table: &mut TermTable,
@@ -83,12 +84,12 @@ pub(super) fn take_in_place<const N: usize, const F: usize>(
     if bytes.len() < INPUT_ROOM || out.len() < OUTPUT_ROOM {
         return (start, 0);
     }
-    let front = chunks_ahead::<N, F, 8>(table, start, bytes, out);
+    let front = chunks_with_room::<N, F, 8>(table, start, bytes, out);
     // Asked again in `last_run`; here it keeps the two ways apart: were they joined, what the loops
     // return would be copied, and the copy would wait for the stores before it.
     if is_run_to_end::<N>(bytes[front.taken], out.len() - front.reached.at) {
         return last_run::<N, F>(table, front, bytes, out);
     }
-    let near = chunks_ahead::<N, F, 1>(table, front, bytes, out);
+    let near = chunks_with_room::<N, F, 1>(table, front, bytes, out);
     last_run::<N, F>(table, near, bytes, out)
 }

@@ -47,8 +47,8 @@ pub(super) fn store_vector<const N: usize, const F: usize>(out: &mut [u8], at: u
         .copy_to_slice(&mut out[at..at + VECTOR]);
 }
 
-/// Stores a pixel at `at` by four bytes that begin with its own. A vector stands across two lines of
-/// the cache oftener, and then takes twice as long.
+/// Stores a pixel at `at` by four bytes that begin with its own. A vector stands across two lines
+/// of the cache oftener, and then takes twice as long.
 #[inline(always)]
 pub(super) fn store_four<const N: usize, const F: usize>(
     out: &mut [u8],
@@ -164,9 +164,11 @@ fn store_from_both_ends<const N: usize, const F: usize>(
     }
 }
 
-/// Stores a pixel `count` times from `at` on, and nothing past its last byte.
+/// Stores a pixel `count` times from `at` on, even if the output ends with the last of them. A few
+/// may be stored by a whole vector, if the output has room for it: what that changes behind them
+/// means nothing.
 #[inline(always)]
-pub(super) fn store_exactly<const N: usize, const F: usize>(
+pub(super) fn store_within<const N: usize, const F: usize>(
     out: &mut [u8],
     at: usize,
     px: Hashed,
@@ -186,7 +188,7 @@ pub(super) fn store_exactly<const N: usize, const F: usize>(
     }
 }
 
-/// `store_exactly` as a call: inlined into `fast_loop`, which seldom needs it, it slows each chunk.
+/// `store_within` as a call: inlined into `fast_loop`, which seldom needs it, it slows each chunk.
 #[inline(never)]
 pub(super) fn store_late_run<const N: usize, const F: usize>(
     out: &mut [u8],
@@ -198,7 +200,7 @@ pub(super) fn store_late_run<const N: usize, const F: usize>(
     requires short { count ≤ run_max }
     ensures { HasCopies F N at count px out.old out.new }
 {
-    store_exactly::<N, F>(out, at, px, count);
+    store_within::<N, F>(out, at, px, count);
 }
 
 /// Stores the last pixel `count` times, or as often as there is room, and returns where it stopped.

@@ -102,7 +102,7 @@ impl<R: Reader> Decoder<R> {
     }
 
     // Fills `out` with the next bytes of the image: with what is kept, and else by the reader. It
-    // may end within a pixel: only what is undecoded are whole pixels.
+    // may end within a pixel, but what stays undecoded are whole pixels.
     #[inline(always)]
     fn next_piece(&mut self, unread: &mut Unread, out: &mut [u8]) -> PieceResult<()>
         requires fits { length out.old ≤ bytes_left unread.old }
@@ -168,8 +168,8 @@ impl<R: Reader> PixelReader<R> {
         header.bytes_per_row()
     }
 
-    /// How many raw bytes of the image are unread: none after the last ones, and some for ever after
-    /// a refusal.
+    /// How many raw bytes of the image are unread: none after the last ones, and some for ever
+    /// after a refusal.
     #[tactic(auto, unfolding(crate::specs::pieces::PixelReader::unread_bytes, crate::specs::pieces::PixelReader::HasGiven))]
     pub fn left(&self) -> usize
         ensures left { result ≡ unread_bytes self.now }
@@ -266,7 +266,8 @@ impl<R: Reader> PixelReader<R> {
         }
     }
 
-    /// Refuses what is left of the image, as after a refusal of `read`: so many bytes count as left.
+    /// Refuses what is left of the image, as after a refusal of `read`: so many bytes count as
+    /// left.
     #[tactic(auto, unfolding(crate::specs::pieces::PixelReader::unread_bytes))]
     pub(crate) fn refuse_rest(&mut self, left: usize)
         requires some { 0 < left }
@@ -292,8 +293,8 @@ impl<R: Reader> PixelReader<R> {
 
 impl<R: Reader + Drop> PixelReader<R> {
     /// Takes what is left of the image, and the end marker, without handing the bytes out: a file
-    /// is checked, or its end found, without allocating. Gives back the decoder, which goes on behind
-    /// the end marker.
+    /// is checked, or its end found, without allocating. Gives back the decoder, which goes on
+    /// behind the end marker.
     ///
     /// Refusals are those of `read`, after one of them too. After a refusal the decoder is dropped
     /// with its reader, so no contract can say where that stood.

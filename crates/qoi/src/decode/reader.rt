@@ -22,8 +22,8 @@ use std::io::{BufRead, Read};
 use std::marker::Model;
 
 // Calls a function of a kind of reader for the channels of output and file, `N` and `F`, which are
-// constants of its loops. For output of three channels `F` is 3 even for an RGBA file: no alpha is
-// written.
+// constants of its loops. For output of three channels `F` is 3 even for an RGBA file: alpha is
+// decoded, since index positions depend on it, but not written.
 macro_rules! in_channels {
     ($conversion:expr, $($name:ident)::+[$($reader:ty)?]($($arg:expr),*)) => {
         match ($conversion.channels, $conversion.file_channels) {
@@ -42,8 +42,8 @@ pub struct Conversion {
     pub(super) file_channels: Channels,
 }
 
-/// Where a decoder takes its bytes from: `Bytes`, any `R: Read`, or a `Buffered` reader. No other type
-/// can be one.
+/// Where a decoder takes its bytes from: `Bytes`, any `R: Read`, or a `Buffered` reader. No other
+/// type can be one.
 ///
 /// ```
 /// fn has_alpha<R: Reader>(decoder: &Decoder<R>) -> bool {
@@ -114,8 +114,8 @@ pub trait Reader: Sized {
     /// Decodes the image ahead into an empty vector, which then has `size` bytes.
     ///
     /// The caller sees to it that the vector has capacity for `size` bytes, and that they are a
-    /// multiple of the channels. The vector grows by steps of 16384 pixels, each of which is decoded
-    /// before the next.
+    /// multiple of the channels. The vector grows by steps of 16384 pixels, each of which is
+    /// decoded before the next.
     #[doc(hidden)]
     fn decode_image_to_vec(
         &mut self,

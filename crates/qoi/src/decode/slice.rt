@@ -31,9 +31,10 @@ struct ChunksEnd<'a> {
 }
 
 // Decodes chunks one by one, with every test, after what others reached. If `WHILE_RUNS_FIT`, this
-// stops once `out` has no room for any run's vectors (`RUN_ROOM`), and so before the image's end,
-// which may be that of `out`; else once `out` is full. `None` if fewer than eight bytes of the file
-// are left before it stops: the file is cut, since its end marker alone has eight.
+// stops once the vectors of some run might have no room in `out` (`RUN_ROOM`), and so before the
+// image's end, which may be that of `out`; else once `out` is full. `None` if fewer than eight
+// bytes of the file are left before it stops: the file is cut, since its end marker alone has
+// eight.
 #[inline(never)]
 fn careful_chunks<
     'a,
@@ -70,7 +71,9 @@ fn careful_chunks<
     Some(ChunksEnd { reached: now, rest })
 }
 
-// What `careful_chunks` decodes: first by `fast_chunks` of `stretches`, then by itself.
+// Decodes chunks first by `fast_chunks` of `stretches`, then by `careful_chunks`. The first goes on
+// while `OUTPUT_ROOM` is open, even if `WHILE_RUNS_FIT`: it looks at the size of each long run, and
+// so may stop nearer to the end of `out` than the second would.
 #[inline(always)]
 fn slice_chunks<'a, const N: usize, const F: usize, const WHILE_RUNS_FIT: bool>(
     table: &mut TermTable,

@@ -57,7 +57,7 @@ fn take_dense<const N: usize, const F: usize>(
     dense
 }
 
-// `chunks_ahead` from a state of the loop: in stretches, if `AT_ONCE` is 8.
+// `chunks_with_room` from a state of the loop: in stretches, if `AT_ONCE` is 8.
 #[inline(always)]
 fn chunks_by_stretches<const N: usize, const F: usize, const AT_ONCE: usize>(
     table: &mut TermTable,
@@ -75,9 +75,9 @@ fn chunks_by_stretches<const N: usize, const F: usize, const AT_ONCE: usize>(
     let input_end = bytes.len() - INPUT_ROOM;
     let mut size = FIRST_STRETCH;
     while now.taken <= input_end {
-        let noise = table.is_dense();
+        let was_noise = table.is_dense();
         let dense = take_dense(table, now, bytes, out);
-        let stretch_end = input_end.min(dense.taken + if noise { SHORT_STRETCH } else { size });
+        let stretch_end = input_end.min(dense.taken + if was_noise { SHORT_STRETCH } else { size });
         // For this call the input ends behind the stretch.
         let stretch = dense.fast_loop::<8>(table, &bytes[..stretch_end + INPUT_ROOM], out);
         // Within the stretch the output has no room for what comes; or the input ends.
@@ -97,7 +97,7 @@ fn chunks_by_stretches<const N: usize, const F: usize, const AT_ONCE: usize>(
 /// Decodes chunks while `INPUT_ROOM` is ahead and the output has room for `AT_ONCE` short ones and
 /// a full one, up to a run that would fill it or has no room, from where other chunks stopped.
 #[inline(always)]
-pub(super) fn chunks_ahead<const N: usize, const F: usize, const AT_ONCE: usize>(
+pub(super) fn chunks_with_room<const N: usize, const F: usize, const AT_ONCE: usize>(
     table: &mut TermTable,
     from: Decoded,
     bytes: &[u8],
@@ -151,5 +151,5 @@ pub(super) fn fast_chunks<const N: usize, const F: usize, const LEAVES_SHORT: bo
     if has_no_room || bytes.len() < INPUT_ROOM {
         return start;
     }
-    chunks_ahead::<N, F, 8>(table, start, bytes, out)
+    chunks_with_room::<N, F, 8>(table, start, bytes, out)
 }

@@ -9,7 +9,7 @@ ghost use Rattle.qoi.specs.Styles.{Places, Tight, style_in};
 ghost use Rattle.qoi.specs.inner.BlockLoop.{InBlocks};
 ghost use Rattle.qoi.specs.inner.Coder.{pixels_in, kept_bytes};
 ghost use Rattle.qoi.specs.inner.block.Planes.{ArePacked, ArePlanes, block_pixels, last_pixel};
-ghost use Rattle.qoi.specs.inner.block.Vectors.{IsBlock, HasSpelled, AreChanges, ChangesFrom, FitsBlock, MissesNoBlank};
+ghost use Rattle.qoi.specs.inner.block.Vectors.{IsBlock, HasSpelled, AreChanges, ChangesFrom, FitsBlock, HasNoAbsentBlank};
 
 mod counting;
 mod lanes;
@@ -79,33 +79,33 @@ impl Block {
     }
 
     /// Whether in style `Tight` a fresh pixel of the block may be given by another index position
-    /// than its own: if it may be transparent black that doesn't stand at its position.
+    /// than its own: if it may be transparent black that doesn't stand at its position, 0.
     #[inline(always)]
-    pub(super) fn may_miss_blank(self, style: Style, table: &PixelTable) -> bool
+    pub(super) fn may_have_absent_blank(self, style: Style, table: &PixelTable) -> bool
         ensures tight { IsTrue result → style ≡ Tight }
         ensures none { (before : Planes) → ChangesFrom before (block_pixels self.words) self.changes
             → IsFalse result → style ≡ Tight
-            → MissesNoBlank table.now before (block_pixels self.words) }
+            → HasNoAbsentBlank table.now before (block_pixels self.words) }
     {
         match style {
             Reference | Places => false,
-            Tight => !self.misses_no_blank(table),
+            Tight => !self.has_no_absent_blank(table),
         }
     }
 
-    // Whether no fresh pixel of the block is transparent black, or that stands at its index
-    // position, where no other pixel of the block is put.
+    // Whether no fresh pixel of the block is transparent black, or the table holds transparent
+    // black at its index position, 0, and no other pixel of the block is put there.
     #[inline(always)]
-    fn misses_no_blank(self, table: &PixelTable) -> bool
+    fn has_no_absent_blank(self, table: &PixelTable) -> bool
         ensures { (before : Planes) → ChangesFrom before (block_pixels self.words) self.changes
-            → IsTrue result → MissesNoBlank table.now before (block_pixels self.words) }
+            → IsTrue result → HasNoAbsentBlank table.now before (block_pixels self.words) }
     {
-        let black = blanks(self.planes);
-        if all_set(self.changes.rep | !black) {
+        let blank = blanks(self.planes);
+        if all_set(self.changes.rep | !blank) {
             return true;
         }
         let elsewhere = !where_is(index_positions(self.planes), 0);
-        table.at(0).is_same(Packed::blank()) & all_set(black | elsewhere)
+        table.at(0).is_same(Packed::blank()) & all_set(blank | elsewhere)
     }
 
     // The block's chunks. `stands` marks the pixels that stand at their index positions, `indices`.
@@ -174,13 +174,13 @@ pub(super) fn write_in_lanes<'p, const N: usize, const STYLE: u8, const ROOM: us
     carry: Carry<N>,
 ) -> (Carry<N>, Piece<'p, ROOM>)
     requires { N ≡ 3 → AreOpaque (block_pixels block.words) }
-    ensures { (ahead : List ℕ) (n : ℕ) (rest more : List RgbaPixel)
+    ensures { (unsent : List ℕ) (n : ℕ) (rest more : List RgbaPixel)
         → FitsBlock (style_in STYLE block.told_style) table.old
         carry.entry.before (block_pixels block.words) block.changes
-        → InBlocks (style_in STYLE block.told_style) ahead n
+        → InBlocks (style_in STYLE block.told_style) unsent n
         (block_pixels block.words ++ rest) more
         table.old carry.entry (kept_bytes piece.entry.piece)
-        → InBlocks (style_in STYLE block.told_style) ahead n rest more
+        → InBlocks (style_in STYLE block.told_style) unsent n rest more
         table.new result.0 (kept_bytes result.1) }
 {
     let style = style_in::<STYLE>(block.told_style);
@@ -194,7 +194,8 @@ pub(super) fn write_in_lanes<'p, const N: usize, const STYLE: u8, const ROOM: us
     let read = read_indices::<ROOM, STYLE>(bytes, &in_vector);
     let stands = put_block(table, read, block.words);
     let x = block.spell::<N, STYLE>(stands, indices, carry);
-    // The run's byte is dropped if there are no repeats, or if the first pixel is one (255, not 0).
+    // The run's byte is dropped if there are no repeats, or if the first pixel repeats (255, not
+    // 0).
     let start = end + usize::from(carry.count > x.rep.to_array()[0]);
     let end = store_sixteen::<N>(bytes, start, x, block);
     (block.carry(style, x, stands), Piece { bytes, end })

@@ -72,8 +72,8 @@ pub(super) fn begin_with_rgba<const N: usize>(
 }
 
 // Writes the full runs of the carried repeats and those at the front; the others are carried.
-// Returns the rest, what is carried, and the piece. If repeats are carried, the rest begins with a
-// fresh pixel or is empty: 992 repeats, where counting ends, are sixteen full runs.
+// Returns the rest, what is carried on, and the piece. If repeats are carried on, the rest begins
+// with a fresh pixel or is empty: of 992 repeats, where counting ends, none are.
 #[inline(always)]
 fn write_full_runs<'a, 'p, const N: usize, const ROOM: usize>(
     piece: OpenPiece<'p, ROOM>,
@@ -130,7 +130,7 @@ fn write_front_block<'a, 'p, const N: usize, const STYLE: u8, const ROOM: usize>
         let rest = write_marked_pixels(&mut coder, table, &mut piece, pixels, marks);
         return (rest, Carry::of(coder.last), piece);
     }
-    if block.may_miss_blank(style, table) {
+    if block.may_have_absent_blank(style, table) {
         let mut piece = piece.piece;
         let mut coder = Coder::<N>::new(style, carry.last_pixel());
         let rest = coder.write_next_group(table, &mut piece, pixels.rest);
@@ -140,9 +140,9 @@ fn write_front_block<'a, 'p, const N: usize, const STYLE: u8, const ROOM: usize>
     (pixels.rest.skip(16), next_carry, piece)
 }
 
-/// Writes these pixels, which go by blocks in this style (`style_in`), until the piece is full or fewer
-/// than a block has are left, whatever pixels come meanwhile: afterwards one of the two is so.
-/// Returns the piece, and the rest.
+/// Writes these pixels, which go by blocks in this style (`style_in`), until the piece is full or
+/// fewer than a block has are left, whatever pixels come meanwhile: afterwards one of the two is
+/// so. Returns the piece, and the rest.
 ///
 /// `Reference` has a loop of its own, and another if `ALL_RGBA`: where an RGBA chunk is expected to
 /// give each pixel (`begin_with_rgba`). The other styles share one, which is told the style. This

@@ -157,11 +157,11 @@ impl<const N: usize> Coder<N> {
         ensures style { self.new.style ≡ self.old.style }
         ensures begun { (self.new.last.begun ≡ true) × (self.new.last.repeats ≡ 0) }
         ensures px { self.new.last.px ≡ next.entry.px }
-        ensures written { (ahead : List ℕ) (rest : List RgbaPixel)
+        ensures written { (unsent : List ℕ) (rest : List RgbaPixel)
             → next.entry.px ≢ self.old.last.px → self.old.last.repeats ≡ 0
-            → CoderBetween self.old.style ahead (next.entry.px ∷ rest) table.old self.old.last
+            → CoderBetween self.old.style unsent (next.entry.px ∷ rest) table.old self.old.last
             (kept_bytes piece.old)
-            → CoderBetween self.new.style ahead rest
+            → CoderBetween self.new.style unsent rest
             table.new self.new.last (kept_bytes piece.new) }
     {
         let px = next.px;
@@ -229,8 +229,8 @@ impl<const N: usize> Coder<N> {
         at_front
     }
 
-    /// Writes the repeats that came before these pixels and the first `at_front`, which repeat, too,
-    /// as one run, and the fresh pixel after them. Returns the rest.
+    /// Writes the repeats that came before these pixels and the first `at_front`, which repeat,
+    /// too, as one run, and the fresh pixel after them. Returns the rest.
     #[inline(always)]
     pub(super) fn write_short_group<'a, const ROOM: usize>(
         &mut self,
@@ -307,8 +307,8 @@ impl<const N: usize> Coder<N> {
         self.write_last_groups(table, piece, raw);
     }
 
-    /// Writes an image's last pixels, fewer than a block has, group by group (`write_next_group`), and
-    /// the repeats that wait, also if no pixel is left.
+    /// Writes an image's last pixels, fewer than a block has, group by group (`write_next_group`),
+    /// and the repeats that wait, also if no pixel is left.
     #[inline(always)]
     pub(super) fn write_last_groups<const ROOM: usize>(
         &mut self,

@@ -82,8 +82,8 @@ fn fill_in_channels<'a, 'p, const N: usize, const ROOM: usize>(
 
 // Writes the front of whole pixels, which are a block or more, into the piece: by blocks, until it
 // is full or no block is left (`write_blocks`); or only one group, the repeats and the fresh pixel
-// at the front (`write_one_group`), after which neither need be so. Returns the piece, and the rest.
-// Which of the two ways it goes is asked mostly once a piece (`fill_in_channels`).
+// at the front (`write_one_group`), after which neither need be so. Returns the piece, and the
+// rest. Which of the two ways it goes is asked mostly once a piece (`fill_in_channels`).
 #[inline(always)]
 fn fill_piece<'a, 'p, const ROOM: usize>(
     state: &mut ImageState,
@@ -143,8 +143,8 @@ fn write_last_in_channels<const N: usize, const ROOM: usize>(
 {
     let rest = Pixels::<N>::new(left);
     if rest.is_empty() || ROOM == LEAST_ROOM {
-        // As `Coder::write_last_groups_shared`, but inlined: it is little (no pixel is left), or most
-        // of what is done (an image below `LEAST_BLOCK`).
+        // As `Coder::write_last_groups_shared`, but inlined: it is little (no pixel is left), or
+        // most of what is done (an image below `LEAST_BLOCK`).
         coder.write_last_groups(table, piece, rest);
     } else {
         coder.write_last_groups_shared(table, piece, rest);
@@ -161,8 +161,8 @@ pub(super) fn write_last_pixels<const ROOM: usize>(
     requires whole { AreNextPixels state.old left.now }
     requires few { length left.now < 16 * pixel_size state.old }
     requires not_full { piece.old.end < ROOM - SPARE }
-    ensures { (ahead : List ℕ) → Between ahead state.old (kept_bytes piece.old) left.now
-        → ahead ≡ kept_bytes piece.new }
+    ensures { (unsent : List ℕ) → Between unsent state.old (kept_bytes piece.old) left.now
+        → unsent ≡ kept_bytes piece.new }
 {
     let (style, last) = (state.style, state.last);
     let table = &mut state.table;

@@ -128,7 +128,8 @@ impl<W: Write + Drop> PixelWriter<W> {
         self.workspace.state.style
     }
 
-    /// How many raw bytes of the image haven't come yet.
+    /// How many raw bytes of the image haven't come yet; after a fault, those of the call that
+    /// failed count, too.
     #[tactic(auto, unfolding(crate::specs::pieces::PixelWriter::HasTaken))]
     pub fn left(&self) -> usize
         ensures left { result ≡ missing_bytes self.now }
@@ -140,14 +141,16 @@ impl<W: Write + Drop> PixelWriter<W> {
 
     /// Takes the next raw bytes, any number of them. Up to 8,256 are held, so that several short
     /// rows are encoded at once. If there is no room for a call's bytes, or they are more than
-    /// 4,128, those that are held are encoded and sent, with as many of the call's as their last
-    /// block needs, but for fewer pixels than a block has. Of a call of more than 4,128 some 4,200
-    /// are held at most. Repeats whose run may go on aren't sent yet. It doesn't flush.
+    /// 4,128, those that are held are encoded, with as many of the call's as fill their last block,
+    /// and more of the call's until at most 4,128 of them are left. These are held, maybe behind a
+    /// few pixels, fewer than a block has. What was encoded is sent, but for repeats whose run may
+    /// go on. It doesn't flush.
     ///
     /// `InvalidImageLength`, with the number of all bytes that came, if there are more than the
     /// image has; then none of them is taken, and nothing is sent. `IoError` if the writer reports
-    /// a fault or takes no byte; then a beginning of the file was sent, `left` is as before, and each
-    /// further `write`, and `finish`, sends nothing and returns an `IoError` of kind `BrokenPipe`.
+    /// a fault or takes no byte; then a beginning of the file was sent, `left` is as before, and
+    /// each further `write`, and `finish`, sends nothing and returns an `IoError` of kind
+    /// `BrokenPipe`.
     #[tactic(auto, unfolding(crate::specs::pieces::PixelWriter::HasTaken))]
     pub fn write(&mut self, raw: &[u8]) -> Result<()>
         // A success: these raw bytes came, too.
@@ -187,9 +190,10 @@ impl<W: Write + Drop> PixelWriter<W> {
         Ok(())
     }
 
-    /// The refusal of `write` for so many raw bytes, before it takes them.
+    /// The refusal of `write` for so many raw bytes, before it takes them: the writer failed
+    /// before, or the image lacks fewer.
     #[tactic(auto, unfolding(crate::specs::pieces::PixelWriter::HasTaken))]
-    pub(crate) fn check_room(&self, more: usize) -> Result<()>
+    pub(crate) fn check_count(&self, more: usize) -> Result<()>
         requires { more ≤ 4 * pixels_max }
         ensures room { OnOk result (more ≤ missing_bytes self.now) }
         ensures many { IfTaken W.contents self.now (λ e before. IfErr result (λ error. (error

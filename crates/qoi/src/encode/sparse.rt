@@ -62,16 +62,16 @@ pub(super) fn write_marked_pixels<'a, const N: usize, const ROOM: usize>(
         coder.new table.new piece.new (pixels_in result) }
 {
     let mut rest = pixels.rest;
-    // How many pixels of the block are left, and their marks.
-    let mut count = 16;
-    let mut left = marks;
-    while left != 0 {
-        let zeros = left.trailing_zeros();
+    // What is left of the block: how many pixels, and their marks.
+    let mut pixels_left = 16;
+    let mut marks_left = marks;
+    while marks_left != 0 {
+        let zeros = marks_left.trailing_zeros();
         let at_front = zeros as usize;
         rest = coder.write_short_group(table, piece, rest, at_front);
-        count -= at_front + 1;
-        left = (left >> zeros) / 2;
+        pixels_left -= at_front + 1;
+        marks_left = (marks_left >> zeros) / 2;
     }
-    coder.last.repeats += count;
-    rest.skip(count)
+    coder.last.repeats += pixels_left;
+    rest.skip(pixels_left)
 }

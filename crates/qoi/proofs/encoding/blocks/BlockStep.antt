@@ -8,10 +8,10 @@ use Rattle.qoi.specs.declared.encode.block.planes.Planes.{Planes}
 use Rattle.qoi.specs.declared.encode.block.spelling.Spelled.{Spelled}
 use Rattle.qoi.specs.Qoi.{RgbaPixel, pixel_eq, seen, hash}
 use Rattle.qoi.specs.Styles.{Style, Places, Tight, names}
-use Rattle.qoi.specs.inner.block.Lanes.{fresh_marks, mask, State, lanes_of, is_rep, group_bytes, block_bytes, NoneBlank, next_by, goes_on}
+use Rattle.qoi.specs.inner.block.Lanes.{fresh_marks, mask, State, lanes_of, is_rep, group_bytes, block_bytes, NoAbsentBlank, next_by, goes_on}
 use Rattle.qoi.specs.inner.BlockLoop.{InBlocks, Carry}
 use Rattle.qoi.specs.inner.block.Vectors.{counts, HasSpelled}
-use Rattle.qoi.specs.inner.Coder.{Ahead}
+use Rattle.qoi.specs.inner.Coder.{Unsent}
 use Rattle.qoi.specs.inner.Table.{Holds}
 use Rattle.qoi.specs.inner.block.Planes.{AreSixteen, ArePlanes, last_pixel}
 use Rattle.qoi.specs.inner.block.Positions.{stand_tests}
@@ -57,10 +57,10 @@ spelled_anew style s p ps x e h = record {
 -- The repeats before the block are written, if a fresh pixel follows them: the state from which its
 -- chunks are written, with the same pixels put and the same last pixel. The pixels that still come
 -- begin as the block does.
-pub record Ready (style : Style) (ahead : List ℕ) (s : State) (ps pixels : List RgbaPixel) (x : Spelled) (kept : List ℕ) : Type 0 where
+pub record Ready (style : Style) (unsent : List ℕ) (s : State) (ps pixels : List RgbaPixel) (x : Spelled) (kept : List ℕ) : Type 0 where
   pub begun : Bool
   pub state : State
-  pub carrying : Carrying begun style ahead state pixels kept
+  pub carrying : Carrying begun style unsent state pixels kept
   pub goes_on_is : CarryGoesOn state ps
   pub few : state.carry ≤ 45
   pub spelled : HasSpelled style state ps x
@@ -74,22 +74,22 @@ same_group style a b q n e = refl
 
 -- From the state before the block: the byte of its repeats is stored at `at`, and counts if it ends at
 -- `end`.
-pub ready : {begun : Bool} (style : Style) (ahead : List ℕ) (s : State) (ps rest : List RgbaPixel) (x : Spelled) (placed : Bool) (at end : ℕ) (kept next : List ℕ)
-    → s.carry < 62 → (slice_get (ps ++ rest) 0 ≡ Some s.last → s.carry ≤ 45) → Carrying begun style ahead s (ps ++ rest) kept → HasSpelled style s ps x → AreSixteen ps
+pub ready : {begun : Bool} (style : Style) (unsent : List ℕ) (s : State) (ps rest : List RgbaPixel) (x : Spelled) (placed : Bool) (at end : ℕ) (kept next : List ℕ)
+    → s.carry < 62 → (slice_get (ps ++ rest) 0 ≡ Some s.last → s.carry ≤ 45) → Carrying begun style unsent s (ps ++ rest) kept → HasSpelled style s ps x → AreSixteen ps
     → (style ≡ Places → s.named ≡ placed) → take at next ≡ kept → (0 < s.carry → take (at + 1) next ≡ kept ++ group_bytes style placed s.last s.carry)
-    → end ≡ at + bool_byte (nat_lt (slice_index x.rep 0) s.carry) → Ready style ahead s ps (ps ++ rest) x (take end next)
-ready style ahead s [] rest x placed at end kept next small few c h sixteen named_is front run end_is = absurd (let l = sixteen.long in omega arith)
-ready {begun} style ahead s (p ∷ ps) rest x placed at end kept next small few c h sixteen named_is front run end_is = go (pixel_eq p s.last) refl
+    → end ≡ at + bool_byte (nat_lt (slice_index x.rep 0) s.carry) → Ready style unsent s ps (ps ++ rest) x (take end next)
+ready style unsent s [] rest x placed at end kept next small few c h sixteen named_is front run end_is = absurd (let l = sixteen.long in omega arith)
+ready {begun} style unsent s (p ∷ ps) rest x placed at end kept next small few c h sixteen named_is front run end_is = go (pixel_eq p s.last) refl
   where
     ends : (b t : Bool) (k : ℕ) → pixel_eq p s.last ≡ b → s.carry ≡ k → nat_lt (mask b) k ≡ t → end ≡ at + bool_byte t
     ends b t k e count test =
         end_is ∙ (λ i. at + bool_byte (nat_lt ((ap (λ z. slice_index z 0) h.rep_is ∙ ap mask e) i) (count i))) ∙ ap (λ t. at + bool_byte t) test
 
-    stays : end ≡ at + 0 → CarryGoesOn s (p ∷ ps) → s.carry ≤ 45 → Ready style ahead s (p ∷ ps) (p ∷ (ps ++ rest)) x (take end next)
+    stays : end ≡ at + 0 → CarryGoesOn s (p ∷ ps) → s.carry ≤ 45 → Ready style unsent s (p ∷ ps) (p ∷ (ps ++ rest)) x (take end next)
     stays is on fits = record {
       begun = begun;
       state = s;
-      carrying = subst (Carrying begun style ahead s (p ∷ (ps ++ rest))) (sym (ap (λ m. take m next) (is ∙ omega arith) ∙ front)) c;
+      carrying = subst (Carrying begun style unsent s (p ∷ (ps ++ rest))) (sym (ap (λ m. take m next) (is ∙ omega arith) ∙ front)) c;
       goes_on_is = on;
       few = fits;
       spelled = h;
@@ -97,7 +97,7 @@ ready {begun} style ahead s (p ∷ ps) rest x placed at end kept next small few 
       last_is = refl;
     }
 
-    fresh : pixel_eq p s.last ≡ false → (k : ℕ) → s.carry ≡ k → Ready style ahead s (p ∷ ps) (p ∷ (ps ++ rest)) x (take end next)
+    fresh : pixel_eq p s.last ≡ false → (k : ℕ) → s.carry ≡ k → Ready style unsent s (p ∷ ps) (p ∷ (ps ++ rest)) x (take end next)
     fresh e zero none = stays (ends false false 0 e none (le-ltb 0 0 (omega arith))) (λ some. absurd (omega (arith, none, some))) (omega (arith, none))
     fresh e (suc k) some =
         let differs : p ≢ s.last = λ same. true≢false (sym (pixel_eq-from p s.last same) ∙ e) in
@@ -107,7 +107,7 @@ ready {begun} style ahead s (p ∷ ps) rest x placed at end kept next small few 
         record {
           begun = true;
           state = flushed_state s;
-          carrying = subst (Carrying true style ahead (flushed_state s) (p ∷ (ps ++ rest))) bytes (flushed s p (ps ++ rest) k c differs some (omega (arith, some, small)));
+          carrying = subst (Carrying true style unsent (flushed_state s) (p ∷ (ps ++ rest))) bytes (flushed s p (ps ++ rest) k c differs some (omega (arith, some, small)));
           goes_on_is = λ some. absurd (omega arith);
           few = omega arith;
           spelled = spelled_anew style s p ps x e h;
@@ -115,7 +115,7 @@ ready {begun} style ahead s (p ∷ ps) rest x placed at end kept next small few 
           last_is = refl;
         }
 
-    go : (b : Bool) → pixel_eq p s.last ≡ b → Ready style ahead s (p ∷ ps) (p ∷ (ps ++ rest)) x (take end next)
+    go : (b : Bool) → pixel_eq p s.last ≡ b → Ready style unsent s (p ∷ ps) (p ∷ (ps ++ rest)) x (take end next)
     go true e =
         let same = pixel_eq-true p s.last e in
         stays (ends true false s.carry e refl (le-ltb 255 s.carry (omega (arith, small)))) (λ some. same) (few (ap Some same))
@@ -184,20 +184,20 @@ end_placed s (p ∷ ps) mixed = go (end_placed t ps) (cases_eq (fresh_marks p ps
         before some ∙ sym (ap (λ n. get_or tests n false) later)
 
 -- over a block of these pixels
-pub block_step : {N : ℕ} (style : Style) (ahead : List ℕ) (n : ℕ) (s : State) (rest more all : List RgbaPixel) (x : Spelled) (p : Planes) (table : List RgbaPixel) (carry : Carry N) (kept next : List ℕ)
+pub block_step : {N : ℕ} (style : Style) (unsent : List ℕ) (n : ℕ) (s : State) (rest more all : List RgbaPixel) (x : Spelled) (p : Planes) (table : List RgbaPixel) (carry : Carry N) (kept next : List ℕ)
     → AreSixteen all → fresh_marks s.last all ≢ 0 → ArePlanes all p
-    → Ready style ahead s all (all ++ (rest ++ more)) x kept → Holds table (reverse all ++ s.held)
-    → (style ≡ Tight → NoneBlank s.held s.last all)
+    → Ready style unsent s all (all ++ (rest ++ more)) x kept → Holds table (reverse all ++ s.held)
+    → (style ≡ Tight → NoAbsentBlank s.held s.last all)
     → carry.before ≡ p → carry.count ≡ slice_index x.count 15 % 16
     → (style ≡ Places → carry.named ≡ get_or (stand_tests s.held all) (15 - carry.count) false)
     → ((t : State) → HasSpelled style t all x → t.last ≡ s.last → t.carry ≤ 45 → next ≡ kept ++ block_bytes style t all)
-    → InBlocks style ahead n rest more table carry next
-block_step style ahead n s rest more all x p table carry kept next sixteen mixed planes r holds none before_is count_is named bytes =
+    → InBlocks style unsent n rest more table carry next
+block_step style unsent n s rest more all x p table carry kept next sixteen mixed planes r holds none before_is count_is named bytes =
     let t = r.state in
     let end = end_state t all in
     let long = sixteen.long in
     let few : t.carry + length all < 62 = (let f = r.few in omega arith) in
-    let done = block_written t all (rest ++ more) (omega arith) r.carrying r.goes_on_is few (λ tight. subst (λ h. NoneBlank h t.last all) (sym r.held_is) (subst (λ q. NoneBlank s.held q all) (sym r.last_is) (none tight))) in
+    let done = block_written t all (rest ++ more) (omega arith) r.carrying r.goes_on_is few (λ tight. subst (λ h. NoAbsentBlank h t.last all) (sym r.held_is) (subst (λ q. NoAbsentBlank s.held q all) (sym r.last_is) (none tight))) in
     let counted = last_counted t r.spelled in
     let mixed_lanes : fresh_marks t.last all ≢ 0 = subst (λ q. fresh_marks q all ≢ 0) (sym r.last_is) mixed in
     let below = carry_below t all mixed_lanes in
@@ -212,8 +212,8 @@ block_step style ahead n s rest more all x p table carry kept next sixteen mixed
       between = record {
         past = done.past;
         before = done.before;
-        to_write = subst (λ k. Ahead style ahead done.past done.before k (rest ++ more) next) carried
-            (subst (Ahead style ahead done.past done.before end.carry (rest ++ more)) (sym (bytes t r.spelled r.last_is r.few)) done.to_write);
+        to_write = subst (λ k. Unsent style unsent done.past done.before k (rest ++ more) next) carried
+            (subst (Unsent style unsent done.past done.before end.carry (rest ++ more)) (sym (bytes t r.spelled r.last_is r.few)) done.to_write);
         state = record {
           table_is = λ i l. holds i l ∙ ap Some (ap (λ h. seen h i) (sym (end_held t all ∙ ap (λ h. reverse all ++ h) r.held_is)) ∙ done.held_is i);
           last_is = sym (done.last_is ∙ last);

@@ -8,7 +8,7 @@ use Rattle.qoi.specs.Qoi.{Chunk, Place, Run, RgbaPixel, IsPixel, Past, previous,
 use Rattle.qoi.specs.Runs.{runs_by}
 use Rattle.qoi.specs.Written.{fresh, IsFirst}
 use Rattle.qoi.specs.Styles.{Style, Reference, Places, Tight, some_fresh, names, choice_in}
-use Rattle.qoi.specs.inner.Coder.{put_in, single_chunk, last_chunk, Ahead}
+use Rattle.qoi.specs.inner.Coder.{put_in, single_chunk, last_chunk, Unsent}
 use Rattle.qoi.proofs.format.SamePixels.{pixel_eq-true, pixel_eq-from, pixel_eq-ne, hash_below, cases_pixel}
 use Rattle.qoi.proofs.format.SeenTable.{seen_copies, put_again}
 use Rattle.qoi.proofs.encoding.lists.NotedPixels.{fresh_repeat, fresh_more, seen_same}
@@ -17,7 +17,7 @@ use Rattle.qoi.proofs.encoding.lists.RunBytes.{few_by}
 use Rattle.qoi.proofs.encoding.coder.CoderSteps.{over_repeat, over_group, over_fresh}
 use Rattle.qoi.proofs.encoding.coder.CoderTable.{fresh_held_in, fresh_repeats, place_chosen, spelled_out}
 use Rattle.qoi.proofs.encoding.lists.WrittenExists.{spells_no_place}
-use Rattle.qoi.specs.inner.block.Lanes.{lane_bytes, State, lane_of, group_bytes, next_by, step_by, block_bytes, NoneBlank, goes_on, lanes_of}
+use Rattle.qoi.specs.inner.block.Lanes.{lane_bytes, State, lane_of, group_bytes, next_by, step_by, block_bytes, NoAbsentBlank, goes_on, lanes_of}
 use Rattle.qoi.proofs.encoding.blocks.LaneBytes.{carry_few}
 use Rattle.qoi.proofs.encoding.coder.Spelled.{first_after}
 use Rattle.qoi.proofs.encoding.blocks.LastCount.{next_state, end_state}
@@ -36,10 +36,10 @@ flushed_state s = record { held = s.held; last = s.last; carry = 0; named = fals
 
 -- Written up to `carry` repeats of the last pixel, which have come. `begun` says whether a fresh
 -- pixel came; if not, the next one is fresh, and no repeats are carried.
-pub record Carrying (begun : Bool) (style : Style) (ahead : List ℕ) (s : State) (rest : List RgbaPixel) (kept : List ℕ) : Type 0 where
+pub record Carrying (begun : Bool) (style : Style) (unsent : List ℕ) (s : State) (rest : List RgbaPixel) (kept : List ℕ) : Type 0 where
   pub past : Past
   pub before : Option Chunk
-  pub to_write : Ahead style ahead past before s.carry rest kept
+  pub to_write : Unsent style unsent past before s.carry rest kept
   pub last_is : previous past ≡ s.last
   pub begun_is : some_fresh past ≡ begun
   pub opens : begun ≡ false → (s.carry ≡ 0) × (slice_get rest 0 ≢ Some s.last)
@@ -47,13 +47,13 @@ pub record Carrying (begun : Bool) (style : Style) (ahead : List ℕ) (s : State
   pub named_is : s.named ≡ names before (hash s.last)
 
 -- A group of fewer than 62 repeats is written, before a fresh pixel.
-group_next : {style : Style} {ahead : List ℕ} {past : Past} {before : Option Chunk} {kept : List ℕ} (k : ℕ) (p : RgbaPixel) (more : List RgbaPixel)
-    (placed : Bool) (q : RgbaPixel) → Ahead style ahead past before (suc k) (p ∷ more) kept → p ≢ previous past → k < 61 → some_fresh past ≡ true
+group_next : {style : Style} {unsent : List ℕ} {past : Past} {before : Option Chunk} {kept : List ℕ} (k : ℕ) (p : RgbaPixel) (more : List RgbaPixel)
+    (placed : Bool) (q : RgbaPixel) → Unsent style unsent past before (suc k) (p ∷ more) kept → p ≢ previous past → k < 61 → some_fresh past ≡ true
     → previous past ≡ q → placed ≡ names before (hash q)
-    → Ahead style ahead (replicate (suc k) (previous past) ++ past) (last_chunk before (runs_by (Run 1) (suc k))) 0 (p ∷ more)
+    → Unsent style unsent (replicate (suc k) (previous past) ++ past) (last_chunk before (runs_by (Run 1) (suc k))) 0 (p ∷ more)
     (kept ++ group_bytes style placed q (suc k))
-group_next {style} {ahead} {past} {before} {kept} k p more placed q b differs few begun last_is named_is =
-    subst (λ z. Ahead style ahead (replicate (suc k) (previous past) ++ past) (last_chunk before (runs_by (Run 1) (suc k))) 0 (p ∷ more) (kept ++ z))
+group_next {style} {unsent} {past} {before} {kept} k p more placed q b differs few begun last_is named_is =
+    subst (λ z. Unsent style unsent (replicate (suc k) (previous past) ++ past) (last_chunk before (runs_by (Run 1) (suc k))) 0 (p ∷ more) (kept ++ z))
     (bytes_are k few)
     (over_group (suc k) (p ∷ more) (one (suc k)) b (inl (λ e. differs (same_Some _ _ e))) (λ _. inr (λ none. cc none, refl)))
   where
@@ -119,27 +119,27 @@ chosen Tight past p c first differs none = record {
   spelled = λ _ _. first;
 }
 
-module _ {begun : Bool} {style : Style} {ahead : List ℕ} (s : State) (p : RgbaPixel) (tail : List RgbaPixel) {kept : List ℕ} where
+module _ {begun : Bool} {style : Style} {unsent : List ℕ} (s : State) (p : RgbaPixel) (tail : List RgbaPixel) {kept : List ℕ} where
   -- if the next pixel repeats, a fresh one came
-  begun_at : (c : Carrying begun style ahead s (p ∷ tail) kept) → p ≡ s.last → some_fresh c.past ≡ true
+  begun_at : (c : Carrying begun style unsent s (p ∷ tail) kept) → p ≡ s.last → some_fresh c.past ≡ true
   begun_at c e = c.begun_is ∙ true_from_ne_false begun (λ no. (c.opens no).1 (ap Some e))
 
   -- if repeats are carried, one came
-  begun_carried : (c : Carrying begun style ahead s (p ∷ tail) kept) (k : ℕ) → s.carry ≡ suc k → some_fresh c.past ≡ true
+  begun_carried : (c : Carrying begun style unsent s (p ∷ tail) kept) (k : ℕ) → s.carry ≡ suc k → some_fresh c.past ≡ true
   begun_carried c k some = c.begun_is ∙ true_from_ne_false begun (λ no. absurd (omega (arith, (c.opens no).0, some)))
 
   -- and the last pixel stands at its position
-  put_there : (c : Carrying begun style ahead s (p ∷ tail) kept) → some_fresh c.past ≡ true → previous c.past ≡ p → seen s.held (hash p) ≡ p
+  put_there : (c : Carrying begun style unsent s (p ∷ tail) kept) → some_fresh c.past ≡ true → previous c.past ≡ p → seen s.held (hash p) ≡ p
   put_there c has is = subst (λ q. seen s.held (hash q) ≡ q) is (c.held_is _ ∙ stands_there style c.past has)
 
   -- a repeat that another one follows, or nothing, is carried
-  repeat_on : Carrying begun style ahead s (p ∷ tail) kept → p ≡ s.last → Carrying true style ahead (next_by true true s p) tail (kept ++ [])
+  repeat_on : Carrying begun style unsent s (p ∷ tail) kept → p ≡ s.last → Carrying true style unsent (next_by true true s p) tail (kept ++ [])
   repeat_on c e =
       let has = begun_at c e in
       record {
         past = c.past;
         before = c.before;
-        to_write = subst (Ahead style ahead c.past c.before (suc s.carry) tail) (sym (append-nil kept)) (over_repeat c.to_write (e ∙ sym c.last_is));
+        to_write = subst (Unsent style unsent c.past c.before (suc s.carry) tail) (sym (append-nil kept)) (over_repeat c.to_write (e ∙ sym c.last_is));
         last_is = c.last_is ∙ sym e;
         begun_is = begun_at c e;
         opens = λ no. absurd (true≢false no);
@@ -148,19 +148,19 @@ module _ {begun : Bool} {style : Style} {ahead : List ℕ} (s : State) (p : Rgba
       }
 
   -- a fresh pixel is written
-  fresh_one : Carrying begun style ahead s (p ∷ tail) kept → p ≢ s.last → s.carry ≡ 0 → (style ≡ Tight → seen s.held (hash p) ≢ p → p ≢ blank) → (more : Bool)
-      → Carrying true style ahead (next_by false more s p) tail (kept ++ lane_bytes (lane_of s.held s.last p))
+  fresh_one : Carrying begun style unsent s (p ∷ tail) kept → p ≢ s.last → s.carry ≡ 0 → (style ≡ Tight → seen s.held (hash p) ≢ p → p ≢ blank) → (more : Bool)
+      → Carrying true style unsent (next_by false more s p) tail (kept ++ lane_bytes (lane_of s.held s.last p))
   fresh_one c n zero_carry none more = by_place (cases_pixel (seen s.held (hash p)) p)
     where
-      start : Ahead style ahead c.past c.before 0 (p ∷ tail) kept
-      start = subst (λ k. Ahead style ahead c.past c.before k (p ∷ tail) kept) zero_carry c.to_write
+      start : Unsent style unsent c.past c.before 0 (p ∷ tail) kept
+      start = subst (λ k. Unsent style unsent c.past c.before k (p ∷ tail) kept) zero_carry c.to_write
 
       differs : p ≢ previous c.past
       differs e = n (e ∙ c.last_is)
 
       after : (d : Chunk) → IsChunk d → choice_in style c.past p d → lane_bytes (lane_of s.held s.last p) ≡ bytes_of d
           → pixel_eq (seen s.held (hash p)) p ≡ names (Some d) (hash p)
-          → Carrying true style ahead (next_by false more s p) tail (kept ++ lane_bytes (lane_of s.held s.last p))
+          → Carrying true style unsent (next_by false more s p) tail (kept ++ lane_bytes (lane_of s.held s.last p))
       after d is choice bytes named = record {
         past = p ∷ c.past;
         before = Some d;
@@ -172,7 +172,7 @@ module _ {begun : Bool} {style : Style} {ahead : List ℕ} (s : State) (p : Rgba
         named_is = named;
       }
 
-      by_place : (seen s.held (hash p) ≡ p) ⊎ (seen s.held (hash p) ≢ p) → Carrying true style ahead (next_by false more s p) tail (kept ++ lane_bytes (lane_of s.held s.last p))
+      by_place : (seen s.held (hash p) ≡ p) ⊎ (seen s.held (hash p) ≢ p) → Carrying true style unsent (next_by false more s p) tail (kept ++ lane_bytes (lane_of s.held s.last p))
       by_place (inl there) =
           let t = pixel_eq-from _ p there in
           after (Place (hash p)) (hash_below p) (place_chosen style c.past p (sym (c.held_is (hash p)) ∙ there)) (rw t refl) (t ∙ sym (eq-eqb (hash p) (hash p) refl))
@@ -185,12 +185,12 @@ module _ {begun : Bool} {style : Style} {ahead : List ℕ} (s : State) (p : Rgba
           after d is.0 (chosen style c.past p d first (λ e. away (c.held_is (hash p) ∙ e)) (λ t. none t away)) (rw f refl) (f ∙ sym (spells_no_place d (hash p) first.spells))
 
   -- a repeat before a fresh pixel: the group is written
-  repeat_end : Carrying begun style ahead s (p ∷ tail) kept → p ≡ s.last → (q : RgbaPixel) (more : List RgbaPixel) → tail ≡ q ∷ more → q ≢ p → s.carry < 61
-      → Carrying true style ahead (next_by true false s p) tail (kept ++ group_bytes style s.named p (suc s.carry))
+  repeat_end : Carrying begun style unsent s (p ∷ tail) kept → p ≡ s.last → (q : RgbaPixel) (more : List RgbaPixel) → tail ≡ q ∷ more → q ≢ p → s.carry < 61
+      → Carrying true style unsent (next_by true false s p) tail (kept ++ group_bytes style s.named p (suc s.carry))
   repeat_end c e q more next differs few =
       let has = begun_at c e in
       let p_is : previous c.past ≡ p = c.last_is ∙ sym e in
-      let joined = subst (λ z. Ahead style ahead c.past c.before (suc s.carry) z kept) next (over_repeat c.to_write (sym p_is)) in
+      let joined = subst (λ z. Unsent style unsent c.past c.before (suc s.carry) z kept) next (over_repeat c.to_write (sym p_is)) in
       record {
         past = replicate (suc s.carry) (previous c.past) ++ c.past;
         before = last_chunk c.before (runs_by (Run 1) (suc s.carry));
@@ -204,11 +204,11 @@ module _ {begun : Bool} {style : Style} {ahead : List ℕ} (s : State) (p : Rgba
       }
 
   -- the carried repeats before a fresh pixel are written
-  pub flushed : (k : ℕ) → Carrying begun style ahead s (p ∷ tail) kept → p ≢ s.last → s.carry ≡ suc k → k < 61
-      → Carrying true style ahead (flushed_state s) (p ∷ tail) (kept ++ group_bytes style s.named s.last (suc k))
+  pub flushed : (k : ℕ) → Carrying begun style unsent s (p ∷ tail) kept → p ≢ s.last → s.carry ≡ suc k → k < 61
+      → Carrying true style unsent (flushed_state s) (p ∷ tail) (kept ++ group_bytes style s.named s.last (suc k))
   flushed k c differs some few =
       let has = begun_carried c k some in
-      let start = subst (λ n. Ahead style ahead c.past c.before n (p ∷ tail) kept) some c.to_write in
+      let start = subst (λ n. Unsent style unsent c.past c.before n (p ∷ tail) kept) some c.to_write in
       record {
         past = replicate (suc k) (previous c.past) ++ c.past;
         before = last_chunk c.before (runs_by (Run 1) (suc k));
@@ -235,13 +235,13 @@ none_at : (n : ℕ) → (0 < n → ⊥) → n ≡ 0
 none_at zero never = refl
 none_at (suc n) never = absurd (never (omega arith))
 
-module _ (style : Style) (ahead : List ℕ) (s : State) (p : RgbaPixel) (kept : List ℕ) (few : s.carry < 61) where
+module _ (style : Style) (unsent : List ℕ) (s : State) (p : RgbaPixel) (kept : List ℕ) (few : s.carry < 61) where
   -- after a lane: from whether it repeats, and whether the next one does
   abbrev After : Bool → Bool → List RgbaPixel → Type 0
-  After b m tail = Carrying true style ahead (next_by b m s p) tail (kept ++ step_by b m style s p)
+  After b m tail = Carrying true style unsent (next_by b m s p) tail (kept ++ step_by b m style s p)
 
   -- over a repeat
-  over_same : {begun : Bool} (ps rest : List RgbaPixel) → Carrying begun style ahead s (p ∷ (ps ++ rest)) kept → p ≡ s.last → After true (goes_on (lanes_of (p ∷ s.held) p ps)) (ps ++ rest)
+  over_same : {begun : Bool} (ps rest : List RgbaPixel) → Carrying begun style unsent s (p ∷ (ps ++ rest)) kept → p ≡ s.last → After true (goes_on (lanes_of (p ∷ s.held) p ps)) (ps ++ rest)
   over_same [] rest c e = repeat_on s p rest c e
   over_same (q ∷ qs) rest c e = go (cases_pixel q p)
     where
@@ -250,7 +250,7 @@ module _ (style : Style) (ahead : List ℕ) (s : State) (p : RgbaPixel) (kept : 
       go (inr other) = rw (pixel_eq-ne q p other) (repeat_end s p (q ∷ (qs ++ rest)) c e q (qs ++ rest) refl other few)
 
   -- over a lane's pixel
-  over_lane : {begun : Bool} (ps rest : List RgbaPixel) → Carrying begun style ahead s (p ∷ (ps ++ rest)) kept → (0 < s.carry → p ≡ s.last)
+  over_lane : {begun : Bool} (ps rest : List RgbaPixel) → Carrying begun style unsent s (p ∷ (ps ++ rest)) kept → (0 < s.carry → p ≡ s.last)
       → (style ≡ Tight → p ≢ s.last → seen s.held (hash p) ≢ p → p ≢ blank) → After (pixel_eq p s.last) (goes_on (lanes_of (p ∷ s.held) p ps)) (ps ++ rest)
   over_lane ps rest c on none = go (cases_pixel p s.last)
     where
@@ -260,16 +260,16 @@ module _ (style : Style) (ahead : List ℕ) (s : State) (p : RgbaPixel) (kept : 
           (fresh_one s p (ps ++ rest) c n (none_at s.carry (λ some. n (on some))) (λ t away. none t n away) (goes_on (lanes_of (p ∷ s.held) p ps)))
 
 -- A block's pixels are written, but for the repeats at their end.
-pub block_written : {begun : Bool} {style : Style} {ahead : List ℕ} (s : State) (ps rest : List RgbaPixel) {kept : List ℕ} → 0 < length ps
-    → Carrying begun style ahead s (ps ++ rest) kept → CarryGoesOn s ps → s.carry + length ps < 62 → (style ≡ Tight → NoneBlank s.held s.last ps)
-    → Carrying true style ahead (end_state s ps) rest (kept ++ block_bytes style s ps)
+pub block_written : {begun : Bool} {style : Style} {unsent : List ℕ} (s : State) (ps rest : List RgbaPixel) {kept : List ℕ} → 0 < length ps
+    → Carrying begun style unsent s (ps ++ rest) kept → CarryGoesOn s ps → s.carry + length ps < 62 → (style ≡ Tight → NoAbsentBlank s.held s.last ps)
+    → Carrying true style unsent (end_state s ps) rest (kept ++ block_bytes style s ps)
 block_written s [] rest some c on few none = absurd (omega arith)
-block_written {style = style} {ahead} s (p ∷ []) rest {kept} some c on few none =
-    subst (λ b. Carrying true style ahead (next_state s p []) rest (kept ++ b)) (sym (append-nil (step_by (pixel_eq p s.last) true style s p)))
-    (over_lane style ahead s p kept (omega arith) [] rest c on (λ t. (none t).0))
-block_written {begun} {style} {ahead} s (p ∷ q ∷ ps) rest {kept} some c on few none =
+block_written {style = style} {unsent} s (p ∷ []) rest {kept} some c on few none =
+    subst (λ b. Carrying true style unsent (next_state s p []) rest (kept ++ b)) (sym (append-nil (step_by (pixel_eq p s.last) true style s p)))
+    (over_lane style unsent s p kept (omega arith) [] rest c on (λ t. (none t).0))
+block_written {begun} {style} {unsent} s (p ∷ q ∷ ps) rest {kept} some c on few none =
     let m = pixel_eq q p in
     let next = next_state s p (q ∷ ps) in
-    let one = over_lane style ahead s p kept (omega arith) (q ∷ ps) rest c on (λ t. (none t).0) in
-    subst (Carrying true style ahead (end_state next (q ∷ ps)) rest) (append_assoc kept (step_by (pixel_eq p s.last) m style s p) (block_bytes style next (q ∷ ps)))
+    let one = over_lane style unsent s p kept (omega arith) (q ∷ ps) rest c on (λ t. (none t).0) in
+    subst (Carrying true style unsent (end_state next (q ∷ ps)) rest) (append_assoc kept (step_by (pixel_eq p s.last) m style s p) (block_bytes style next (q ∷ ps)))
     (block_written {begun = true} next (q ∷ ps) rest (omega arith) one (carry_on s p (q ∷ ps)) (omega (arith, carry_few (pixel_eq p s.last) m s p)) (λ t. (none t).1))

@@ -22,27 +22,27 @@ more_some (p ∷ ps) more some = λ e. (let no : ◌≡◌ {A = List RgbaPixel} 
 -- one step after another
 pub then_passes : {N size : ℕ} {a b c : Coder N} {ta tb tc : List RgbaPixel} {pa pb pc : Piece size} {xs ys zs : List RgbaPixel}
     → CoderPasses a ta pa xs b tb pb ys → CoderPasses b tb pb ys c tc pc zs → CoderPasses a ta pa xs c tc pc zs
-then_passes p q = record { style = q.style ∙ p.style; on = λ ahead more b. q.on ahead more (p.on ahead more b) }
+then_passes p q = record { style = q.style ∙ p.style; on = λ unsent more b. q.on unsent more (p.on unsent more b) }
 
 -- a coder with this style and last pixel stands ahead of these
-pub of_coder : {ahead kept : List ℕ} {rest table : List RgbaPixel} {s t : Style} {q l : LastPixel} → t ≡ s → l ≡ q
-    → CoderBetween s ahead rest table q kept → CoderBetween t ahead rest table l kept
+pub of_coder : {unsent kept : List ℕ} {rest table : List RgbaPixel} {s t : Style} {q l : LastPixel} → t ≡ s → l ≡ q
+    → CoderBetween s unsent rest table q kept → CoderBetween t unsent rest table l kept
 of_coder style last b = rw (style, last) b
 
-module _ {N size : ℕ} {style : Style} {ahead : List ℕ} {pixels rest table table' : List RgbaPixel} {c c' : Coder N} {piece piece' : Piece size} where
+module _ {N size : ℕ} {style : Style} {unsent : List ℕ} {pixels rest table table' : List RgbaPixel} {c c' : Coder N} {piece piece' : Piece size} where
   -- a coder keeps its style
   pub in_style : CoderPasses c table piece pixels c' table' piece' rest → c.style ≡ style → {last : LastPixel} → c.last ≡ last → (more : List RgbaPixel)
-      → CoderBetween style ahead (pixels ++ more) table last (kept_bytes piece) → CoderBetween style ahead (rest ++ more) table' c'.last (kept_bytes piece')
-  in_style p is last_is more b = of_coder (sym (p.style ∙ is)) refl (p.on ahead more (of_coder is last_is b))
+      → CoderBetween style unsent (pixels ++ more) table last (kept_bytes piece) → CoderBetween style unsent (rest ++ more) table' c'.last (kept_bytes piece')
+  in_style p is last_is more b = of_coder (sym (p.style ∙ is)) refl (p.on unsent more (of_coder is last_is b))
 
-module _ {N : ℕ} {style : Style} {ahead : List ℕ} {n : ℕ} {pixels more : List RgbaPixel} {table : List RgbaPixel} {carry : Carry N} {kept : List ℕ} where
+module _ {N : ℕ} {style : Style} {unsent : List ℕ} {n : ℕ} {pixels more : List RgbaPixel} {table : List RgbaPixel} {carry : Carry N} {kept : List ℕ} where
   -- a fresh pixel came if the next one repeats the last
-  pub begun_by_repeat : (b : InBlocks style ahead n pixels more table carry kept) → slice_get pixels 0 ≡ Some (last_pixel carry.before) → b.last.begun ≡ true
+  pub begun_by_repeat : (b : InBlocks style unsent n pixels more table carry kept) → slice_get pixels 0 ≡ Some (last_pixel carry.before) → b.last.begun ≡ true
   begun_by_repeat b first = true_from_ne_false b.last.begun (λ no. (b.goes.opens no).1 (first ∙ ap Some b.is.px_is))
 
   -- in style Tight, or if fewer than n pixels are left, one came, and a coder can go on
   pub still_between : {last : LastPixel} → IsCarried last carry → last.begun ≡ true → (style ≡ Tight) ⊎ (length pixels < n)
-      → InBlocks style ahead n pixels more table carry kept → CoderBetween style ahead (pixels ++ more) table last kept
+      → InBlocks style unsent n pixels more table carry kept → CoderBetween style unsent (pixels ++ more) table last kept
   still_between is begun ends b =
       let came = true_from_ne_false b.last.begun (λ no. elim ends [
         | inl tight ↦ (b.goes.opens no).3 tight
@@ -57,9 +57,9 @@ pub goes_on : {style : Style} {last : LastPixel} {n : ℕ} {rest : List RgbaPixe
 goes_on begun few = record { opens = λ no. absurd (true≢false (sym begun ∙ no)); few = few }
 
 -- once the first bytes that are kept are gone, the same holds of the others
-pub coder_sent : {style : Style} {ahead : List ℕ} {pixels : List RgbaPixel} {table : List RgbaPixel} {last : LastPixel} {kept : List ℕ}
-    → CoderBetween style ahead pixels table last kept → (gone left : List ℕ) → kept ≡ gone ++ left
-    → (later : List ℕ) × (ahead ≡ gone ++ later) × CoderBetween style later pixels table last left
+pub coder_sent : {style : Style} {unsent : List ℕ} {pixels : List RgbaPixel} {table : List RgbaPixel} {last : LastPixel} {kept : List ℕ}
+    → CoderBetween style unsent pixels table last kept → (gone left : List ℕ) → kept ≡ gone ++ left
+    → (later : List ℕ) × (unsent ≡ gone ++ later) × CoderBetween style later pixels table last left
 coder_sent b gone left split =
     let sent = over_sent gone left split b.to_write in
     (sent.0, sent.1, record { past = b.past; before = b.before; to_write = sent.2; state = b.state })

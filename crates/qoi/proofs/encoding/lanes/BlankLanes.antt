@@ -2,7 +2,7 @@
 use Rattle.std.proofs.Common.{◌≡◌, ℕ, ◌+◌, ◌-◌, ◌%◌, ◌<◌, Bool, true, false, not, ◌||◌, ◌&&◌, ◌==◌, List, [], ◌∷◌, map, bit_or, if◌then◌else◌, refl, sym, ap, ap₂, ◌∙◌, arith}
 use Rattle.std.proofs.lemmas.Bool.{and_parts, true≢false}
 use Rattle.qoi.specs.Qoi.{RgbaPixel, Past, pixel_eq, blank, seen, hash}
-use Rattle.qoi.specs.inner.block.Lanes.{Lane, IsLane, mask, step_of, lanes_of, is_rep, NoneBlank}
+use Rattle.qoi.specs.inner.block.Lanes.{Lane, IsLane, mask, step_of, lanes_of, is_rep, NoAbsentBlank}
 use Rattle.std.specs.List.{list_all}
 use Rattle.qoi.proofs.format.SamePixels.{pixel_eq-true, pixel_eq-from, pixel_eq-ne}
 use Rattle.qoi.proofs.encoding.lanes.LaneBits.{or_below, one_zero}
@@ -41,7 +41,7 @@ abbrev pub is_plain : Lane → Bool
 is_plain l = is_rep l || not (is_blank l.px)
 
 -- if each does, no fresh pixel is transparent black
-pub plain_lanes : (held : Past) (q : RgbaPixel) (ps : List RgbaPixel) → list_all (λ b. b) (map is_plain (lanes_of held q ps)) ≡ true → NoneBlank held q ps
+pub plain_lanes : (held : Past) (q : RgbaPixel) (ps : List RgbaPixel) → list_all (λ b. b) (map is_plain (lanes_of held q ps)) ≡ true → NoAbsentBlank held q ps
 plain_lanes held q [] all = tt
 plain_lanes held q (p ∷ ps) all =
     let a = and_parts (pixel_eq p q || not (is_blank p)) (list_all (λ b. b) (map is_plain (lanes_of (p ∷ held) p ps))) all in (
@@ -54,7 +54,7 @@ abbrev pub is_elsewhere : RgbaPixel → Bool
 is_elsewhere p = is_blank p || not (hash p == 0)
 
 -- if each is, transparent black stays at its index position
-pub blank_stays : (held : Past) (q : RgbaPixel) (ps : List RgbaPixel) → seen held 0 ≡ blank → list_all (λ b. b) (map is_elsewhere ps) ≡ true → NoneBlank held q ps
+pub blank_stays : (held : Past) (q : RgbaPixel) (ps : List RgbaPixel) → seen held 0 ≡ blank → list_all (λ b. b) (map is_elsewhere ps) ≡ true → NoAbsentBlank held q ps
 blank_stays held q [] there all = tt
 blank_stays held q (p ∷ ps) there all =
     let a = and_parts (is_elsewhere p) (list_all (λ b. b) (map is_elsewhere ps)) all in (

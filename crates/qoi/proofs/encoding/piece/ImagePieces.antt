@@ -17,7 +17,7 @@ use Rattle.qoi.proofs.decoding.ImageSize.{channels_are}
 use Rattle.qoi.proofs.encoding.coder.PixelsIn.{byte_count}
 use Rattle.qoi.proofs.encoding.coder.CoderLink.{coder_sent}
 use Rattle.qoi.proofs.encoding.coder.CoderSteps.{all_bytes, coder_starts}
-use Rattle.qoi.proofs.encoding.piece.BytesAhead.{goes_to}
+use Rattle.qoi.proofs.encoding.piece.BytesUnsent.{goes_to}
 use Rattle.qoi.proofs.encoding.piece.WriterProgress.{Follows, begins, but_all, but_more, but_on}
 
 -- before the first pixel, if the front of the header went and the rest is kept
@@ -28,7 +28,7 @@ image_starts e a b p front kept are new split went =
     let chunks = chunk_bytes (written_list p.style (pixels_of (pixel_size p) e.raw)) in
     let pixels_are = pixels_of_are (pixel_size p) e.raw (channels_are p.channels (pixel_size p) refl) (all_bytes e.raw are) in
     record {
-      ahead = kept ++ chunks;
+      unsent = kept ++ chunks;
       went = record {
         front = front;
         split = (λ i. split i ++ (chunk_bytes (written_list (sym new.style_is i) (pixels_of (channels_number (sym new.channels_is i)) e.raw)) ++ end_marker))
@@ -46,35 +46,35 @@ module _ {W : Type 0} {wrote : W → List ℕ → W → Type 0} {e : EncoderStat
   image_ready b whole large fits = record {
     whole = whole;
     large = large;
-    enough = inl (b.ahead, b.between, omega (arith, fits, ap length b.went.split, length-append b.went.front (b.ahead ++ end_marker), length-append b.ahead end_marker));
+    enough = inl (b.unsent, b.between, omega (arith, fits, ap length b.went.split, length-append b.went.front (b.unsent ++ end_marker), length-append b.unsent end_marker));
   }
 
   -- what is kept is a part of the file, before its end marker
   pub image_kept : {q : ImageState} {raw kept' raw' : List ℕ} → ImageBetween wrote e a now p kept raw → CoderGoes p kept raw q kept' raw'
       → length kept' + marker_size ≤ length (image_file e.style e.header e.raw)
   image_kept {kept' = kept'} b goes =
-      let t = coder_sent (goes_to goes b.ahead b.between) kept' [] (sym (append-nil kept')) in
-      omega (arith, ap length t.1, length-append kept' t.0, ap length b.went.split, length-append b.went.front (b.ahead ++ end_marker), length-append b.ahead end_marker)
+      let t = coder_sent (goes_to goes b.unsent b.between) kept' [] (sym (append-nil kept')) in
+      omega (arith, ap length t.1, length-append kept' t.0, ap length b.went.split, length-append b.went.front (b.unsent ++ end_marker), length-append b.unsent end_marker)
 
   module _ (both : Follows wrote wrote) where
     -- it went on
     pub image_on : {next : W} {p' : ImageState} {kept' raw raw' : List ℕ} (more : List ℕ) → ImageBetween wrote e a now p kept (raw ++ more)
         → GoesOn wrote now p kept raw next p' kept' raw' → ImageBetween wrote e a next p' kept' (raw' ++ more)
     image_on more b g =
-        let u = g.on b.ahead more b.between in
-        record { ahead = u.0; went = but_on both b.went (but_more end_marker u.1); between = u.2 }
+        let u = g.on b.unsent more b.between in
+        record { unsent = u.0; went = but_on both b.went (but_more end_marker u.1); between = u.2 }
 
     -- or broke off
     pub image_off : {next : W} {raw : List ℕ} (more : List ℕ) → ImageBetween wrote e a now p kept (raw ++ more) → BreaksOff wrote now p kept raw next
         → WroteBeginning wrote a (image_file e.style e.header e.raw) next
     image_off more b h =
-        let w = begins end_marker refl (h.off b.ahead more b.between) in
+        let w = begins end_marker refl (h.off b.unsent more b.between) in
         (w.0, but_on both b.went w.1)
 
   -- or ended, or ended early
   pub image_ends : {next : W} {raw : List ℕ} {later : W → List ℕ → W → Type 0} → Follows wrote later → ImageBetween wrote e a now p kept raw
       → Ends later now p kept raw next → later a (image_file e.style e.header e.raw) next
-  image_ends follows b h = but_all follows b.went (h.all b.ahead b.between)
+  image_ends follows b h = but_all follows b.went (h.all b.unsent b.between)
 
 -- so many raw bytes as an image has are whole pixels
 pub new_whole : (h : Header) {style : Style} {p : ImageState} {n : ℕ} → IsNew h.channels style p → n ≡ image_byte_count h → n % pixel_size p ≡ 0
@@ -118,10 +118,10 @@ pub fills : {N size : ℕ} {style : Style} {table : List RgbaPixel} {last : Last
     → pixel_size p ≡ N → p.style ≡ style → raw.bytes.now ≡ bytes → WritesSome style raw p.table p.last piece.piece result.1.now table last result.0
     → FillsPiece p piece bytes (record p { table = table; last = last }) result
 fills {N} {style = style} {table} {last} p piece bytes raw result size is same w =
-    let Goes = λ (n : ℕ) (s : Style). (ahead more : List ℕ) → CoderBetween s ahead (pixels_of n (raw.bytes.now ++ more)) p.table p.last (kept_bytes piece.piece)
-    → CoderBetween s ahead (pixels_of n (result.1.now ++ more)) table last (kept_bytes result.0) in
-    let here : Goes N style = λ ahead more s.
-    rw (whole_ahead N result.1.now more raw.channels w.whole) (w.on ahead (pixels_of N more) (rw (whole_ahead N raw.bytes.now more raw.channels raw.whole) at s)) in
+    let Goes = λ (n : ℕ) (s : Style). (unsent more : List ℕ) → CoderBetween s unsent (pixels_of n (raw.bytes.now ++ more)) p.table p.last (kept_bytes piece.piece)
+    → CoderBetween s unsent (pixels_of n (result.1.now ++ more)) table last (kept_bytes result.0) in
+    let here : Goes N style = λ unsent more s.
+    rw (whole_ahead N result.1.now more raw.channels w.whole) (w.on unsent (pixels_of N more) (rw (whole_ahead N raw.bytes.now more raw.channels raw.whole) at s)) in
     subst (λ d. FillsPiece p piece d (record p { table = table; last = last }) result) same (record {
       stays = (refl, refl);
       goes = record { on = subst (λ n. Goes n p.style) (sym size) (subst (Goes N) (sym is) here) };

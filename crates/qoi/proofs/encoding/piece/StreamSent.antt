@@ -16,19 +16,19 @@ module _ {W : Type 0} (contents : W → Option (List ℕ)) {s t : GenericWriter 
   but_sent_to w = record { front = w.front; split = w.split; went = all_sent_to w.went }
 
   module _ {p : ImageState} {kept raw : List ℕ} where
-    -- what was ahead, as far as it went on
+    -- what was unsent, as far as it went on
     pub on_sent_to : {q : ImageState} {kept' raw' : List ℕ} → GoesOn (StreamWrote contents) s p kept raw t q kept' raw'
         → GoesOn appended (contents a) p kept raw (contents b) q kept' raw'
-    on_sent_to h = record { opaque = h.opaque; part = h.part; on = λ ahead more z. (let v = h.on ahead more z in (v.0, but_sent_to v.1, v.2)) }
+    on_sent_to h = record { opaque = h.opaque; part = h.part; on = λ unsent more z. (let v = h.on unsent more z in (v.0, but_sent_to v.1, v.2)) }
 
     -- or until it broke off
     pub off_sent_to : BreaksOff (StreamWrote contents) s p kept raw t → BreaksOff appended (contents a) p kept raw (contents b)
-    off_sent_to h = record { off = λ ahead more z. (let v = h.off ahead more z in (v.0, but_sent_to v.1)) }
+    off_sent_to h = record { off = λ unsent more z. (let v = h.off unsent more z in (v.0, but_sent_to v.1)) }
 
     -- all of it, to the end
     pub ends_sent_to : Ends (StreamWrote contents) s p kept raw t → Ends appended (contents a) p kept raw (contents b)
-    ends_sent_to h = record { all = λ ahead z. all_sent_to (h.all ahead z) }
+    ends_sent_to h = record { all = λ unsent z. all_sent_to (h.all unsent z) }
 
     -- or a beginning
     pub early_sent_to : Ends (WroteBeginning (StreamWrote contents)) s p kept raw t → Ends (WroteBeginning appended) (contents a) p kept raw (contents b)
-    early_sent_to h = record { all = λ ahead z. (let v = h.all ahead z in (v.0, but_sent_to v.1)) }
+    early_sent_to h = record { all = λ unsent z. (let v = h.all unsent z in (v.0, but_sent_to v.1)) }

@@ -116,9 +116,9 @@ block_bytes style s (p ∷ ps) =
     step_by rep more style s p ++ block_bytes style (next_by rep more s p) ps
 
 -- of pixels after q no fresh one is transparent black that isn't at its position
-abbrev pub NoneBlank : Past → RgbaPixel → List RgbaPixel → Type 0
-NoneBlank held q [] = Unit {0}
-NoneBlank held q (p ∷ ps) = (p ≢ q → seen held (hash p) ≢ p → p ≢ blank) × NoneBlank (p ∷ held) p ps
+abbrev pub NoAbsentBlank : Past → RgbaPixel → List RgbaPixel → Type 0
+NoAbsentBlank held q [] = Unit {0}
+NoAbsentBlank held q (p ∷ ps) = (p ≢ q → seen held (hash p) ≢ p → p ≢ blank) × NoAbsentBlank (p ∷ held) p ps
 
 -- a bit for each pixel that differs from the one before it, the lowest for the first
 abbrev pub fresh_marks : RgbaPixel → List RgbaPixel → ℕ

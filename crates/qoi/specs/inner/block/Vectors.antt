@@ -8,7 +8,7 @@ pub use Rattle.qoi.specs.declared.encode.block.spelling.Fits.{Fits}
 pub use Rattle.qoi.specs.declared.encode.block.spelling.Spelled.{Spelled}
 use Rattle.qoi.specs.Styles.{Style, Places, Tight}
 use Rattle.qoi.specs.Qoi.{RgbaPixel, Past, hash, IsPixel}
-use Rattle.qoi.specs.inner.block.Lanes.{Lane, mask, step_of, same_alpha, fits_diff, fits_luma, is_rep, first_of, size_of, goes_on, second_of, State, lanes_of, IsLane, fresh_marks, NoneBlank}
+use Rattle.qoi.specs.inner.block.Lanes.{Lane, mask, step_of, same_alpha, fits_diff, fits_luma, is_rep, first_of, size_of, goes_on, second_of, State, lanes_of, IsLane, fresh_marks, NoAbsentBlank}
 use Rattle.qoi.specs.inner.block.Planes.{Planes, AreSixteen, last_pixel}
 use Rattle.qoi.specs.inner.block.Positions.{stand_tests}
 use Rattle.qoi.specs.inner.Table.{Holds}
@@ -102,8 +102,8 @@ pub record HasSpelled (style : Style) (s : State) (ps : List RgbaPixel) (x : Spe
   pub rgba_is : IsTrue x.all_rgba → AreAllRgba (lanes_of s.held s.last ps)
 
 -- from whatever the table holds, no fresh pixel is transparent black that isn't at its position
-abbrev pub MissesNoBlank : List RgbaPixel → Planes → List RgbaPixel → Type 0
-MissesNoBlank table before ps = (held : Past) → Holds table held → NoneBlank held (last_pixel before) ps
+abbrev pub HasNoAbsentBlank : List RgbaPixel → Planes → List RgbaPixel → Type 0
+HasNoAbsentBlank table before ps = (held : Past) → Holds table held → NoAbsentBlank held (last_pixel before) ps
 
 -- the steps from the pixels before to these, and which of these repeat
 abbrev pub ChangesFrom : Planes → List RgbaPixel → Changes → Type 0
@@ -113,4 +113,4 @@ ChangesFrom before ps x = (held : Past) → AreChanges (lanes_of held (last_pixe
 pub record FitsBlock (style : Style) (table : List RgbaPixel) (before : Planes) (ps : List RgbaPixel) (x : Changes) : Type 0 where
   pub changes : ChangesFrom before ps x
   pub mixed : fresh_marks (last_pixel before) ps ≢ 0
-  pub no_blank : style ≡ Tight → MissesNoBlank table before ps
+  pub no_blank : style ≡ Tight → HasNoAbsentBlank table before ps

@@ -20,26 +20,26 @@ pub(super) const DECODED_AHEAD: usize = 3072;
 /// A piece with at least so many bytes open behind kept ones is long. If `RUN_ROOM` of the image
 /// follows it, what a slice or a reader's buffer shows is decoded in place (`take_in_place`, which
 /// doesn't ask for `SHORT_OUTPUT`). Into what is open then, or all if less follows, `some_chunks`
-/// decodes as long as any run fits (`RUN_ROOM`).
+/// decodes at least as long as any run fits (`RUN_ROOM`).
 pub(super) const IN_PLACE: usize = 512;
 
-/// The room to decode ahead into, if as much is left of the image, for so many bytes that a piece
-/// has open behind kept ones, of which the first `filled` are decoded: all that can be kept if none
-/// are, else what the piece lacks (little, behind `Unread::decode_while_runs_fit`) and room for a
-/// run, in whole pixels.
+/// The room to decode ahead into, if as much is left of the image, for a piece that asks for `asked`
+/// bytes behind kept ones, of which the first `filled` are decoded: all that can be kept if none of
+/// them are, else what the piece lacks (little, behind `Unread::decode_while_runs_fit`) and room for
+/// a run, in whole pixels.
 #[inline]
-pub(super) fn kept_room(piece: usize, filled: usize) -> usize
-    requires within { filled ≤ piece }
-    requires last { 0 < filled → piece < filled + (RUN_ROOM + 3) }
-    requires short { filled ≡ 0 → piece < IN_PLACE }
+pub(super) fn kept_room(asked: usize, filled: usize) -> usize
+    requires within { filled ≤ asked }
+    requires last { 0 < filled → asked < filled + (RUN_ROOM + 3) }
+    requires short { filled ≡ 0 → asked < IN_PLACE }
     ensures within { result ≤ DECODED_AHEAD }
     ensures whole { result % 12 ≡ 0 }
-    ensures enough { piece - filled + RUN_ROOM ≤ result }
+    ensures enough { asked - filled + RUN_ROOM ≤ result }
 {
     if filled == 0 {
         DECODED_AHEAD
     } else {
-        (piece - filled + (RUN_ROOM + 11)) / 12 * 12
+        (asked - filled + (RUN_ROOM + 11)) / 12 * 12
     }
 }
 

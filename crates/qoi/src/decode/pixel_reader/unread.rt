@@ -57,8 +57,8 @@ impl Unread {
         Unread::behind(TermTable::new(), Hashed::start(), 0, size)
     }
 
-    /// So many raw bytes of an image, none of them decoded, behind chunks that left this table and
-    /// this last pixel. The first `run` are the rest of its run.
+    /// So many raw bytes of an image, `undecoded`, behind chunks that left this table and this last
+    /// pixel. The first `run` of them are the rest of the last chunk's run.
     #[inline(always)]
     pub(super) fn behind(table: TermTable, last: Hashed, run: usize, undecoded: usize) -> Unread
         ensures chunks { (result.table ≡ table) × (result.last ≡ last) }
@@ -186,13 +186,13 @@ impl Unread {
         self.give(out)
     }
 
-    // Gives the rest of a run and, if `out` isn't short and `RUN_ROOM` of the image follows `out`
-    // (so that any run ends in the image), the chunks behind the run that a slice or a reader's
-    // buffer shows (those of other readers `decode_while_runs_fit` may take). Returns how many
-    // bytes, and keeps what has no room of the first run; the last one that is decoded may go on
-    // past the piece (`run`).
+    // Gives the rest of the run that the piece before left and, if `out` isn't short and `RUN_ROOM`
+    // of the image follows `out` (so that any run ends in the image), the chunks behind it that a
+    // slice or a reader's buffer shows (those of other readers `decode_while_runs_fit` may take).
+    // Returns how many bytes, and keeps what has no room of that run; the last run that is decoded
+    // may go on past the piece (`run`).
     #[inline(always)]
-    fn piece_front<R: Chunks<N, F>, const N: usize, const F: usize>(
+    fn decode_in_place<R: Chunks<N, F>, const N: usize, const F: usize>(
         &mut self,
         reader: &mut R,
         out: &mut [u8],
@@ -227,9 +227,9 @@ impl Unread {
         Ok(now.at + self.give_run::<N, F>(&mut out[now.at..]))
     }
 
-    // Decodes chunks into `out`, a piece without its first `done` bytes, as long as any run has
-    // room, and returns how many bytes: 0 below `RUN_ROOM` (as mostly from a slice), or below
-    // `IN_PLACE` if `done` is 0, since a short piece is given from kept bytes.
+    // Decodes chunks into `out`, a piece without its first `done` bytes, at least as long as any
+    // run has room, and returns how many bytes: 0 below `RUN_ROOM` (as mostly from a slice), or
+    // below `IN_PLACE` if `done` is 0, since a short piece is given from kept bytes.
     #[inline]
     fn decode_while_runs_fit<R: Chunks<N, F>, const N: usize, const F: usize>(
         &mut self,
@@ -319,8 +319,9 @@ impl Unread {
     /// marker. Returns how many are in `out`, maybe none; what `out` lacks, and more, is kept. They
     /// come in three ways, one after the other:
     /// - the rest of a run, and behind it what a slice or a reader's buffer shows, in place
-    ///   (`piece_front`);
-    /// - chunks of any reader, as long as any run has room in `out` (`decode_while_runs_fit`);
+    ///   (`decode_in_place`);
+    /// - chunks of any reader, at least as long as any run has room in `out`
+    ///   (`decode_while_runs_fit`);
     /// - chunks that are decoded ahead, and kept (`decode_ahead`).
     pub(in crate::decode) fn decode_more<R: Chunks<N, F>, const N: usize, const F: usize>(
         &mut self,
@@ -333,7 +334,7 @@ impl Unread {
             self.old self.new out.new (λ size. size) result }
         ensures enough { IfOk result (λ size. length out.new ≤ size + kept_count self.new) }
     {
-        let done = self.piece_front::<R, N, F>(reader, out)?;
+        let done = self.decode_in_place::<R, N, F>(reader, out)?;
         if done == out.len() {
             return Ok(done);
         }

@@ -1,5 +1,5 @@
 //! The chunks of an image whose raw bytes come in several calls, through the encoder's `Piece`,
-//! which holds bytes of the file, to a writer (QOI specification 1.0, "Data").
+//! which keeps bytes of the file, to a writer (QOI specification 1.0, "Data").
 ghost use Rattle.std.specs.Prelude.{◌≡◌, ◌⊎◌, ◌+◌, ◌*◌, ◌<◌, ◌≤◌, [], ◌++◌, length, IfOk, IfErr, OnOk};
 ghost use Rattle.qoi.specs.Errors.{IsIoError};
 ghost use Rattle.qoi.specs.Qoi.{pixels_max};
@@ -31,9 +31,9 @@ pub(crate) fn send_bytes<W: Write>(writer: &mut W, bytes: &[u8]) -> Result<()>
 }
 
 // If raw bytes are held, writes them and as many of `raw` as their last block needs, else whole
-// pixels of `raw`. Holds the pixels that are left, fewer than a block has (even of whole blocks
-// some may be), and returns the rest. There always is `room`: a new `GenericWriter` has
-// `usize::MAX`.
+// pixels of `raw`. Holds the pixels that are left, fewer than a block has (some may be left of
+// whole blocks, too, since `write_one_group` ends behind any pixel), and returns the rest. There
+// always is `room`: a new `GenericWriter` has `usize::MAX`.
 #[inline(always)]
 fn write_held_or_raw<'a, 'p, W: Writer>(
     writer: &mut W,

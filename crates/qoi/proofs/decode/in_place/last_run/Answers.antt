@@ -16,6 +16,6 @@ returns-clause-takes g c gone n start h =
     let b1 = slice_index bytes from.taken in
     let run = c.is_run_to_end.ensures.0 c.if-not-is_run_to_end.false in
     let rest = times_rest g.row.N (length c.args.out.now) from.reached.at is c.requires.room.fillable.whole.0 c.requires.room.fillable.whole.1 in
-    piece_ends _ (b1 - 191) c.args.out.now c.store_exactly.new.out _ _ is c.requires.room.inside h (omega (arith, run)) (omega (arith, run)) c.put.ensures
+    piece_ends _ (b1 - 191) c.args.out.now c.store_within.new.out _ _ is c.requires.room.inside h (omega (arith, run)) (omega (arith, run)) c.put.ensures
     (next_taken bytes from.taken (b1 - 191) c.requires.ahead (omega (arith, run)))
-    c.store_exactly.ensures (omega (arith, rest, c.requires.room.inside, c.store_exactly.auto.out)) refl _ rest run.2 (omega (arith, c.advance.ensures.run run.0 run.1))
+    c.store_within.ensures (omega (arith, rest, c.requires.room.inside, c.store_within.auto.out)) refl _ rest run.2 (omega (arith, c.advance.ensures.run run.0 run.1))

@@ -7,8 +7,8 @@ returns-then-bytes-lt-INPUT_ROOM-clause-takes g c gone n before h =
     piece_stops c.args.out.now c.requires.fillable.three_or_four c.requires.inside h
 
 pub returns-then-is_run_to_end-clause-takes : goal.returns-then-is_run_to_end-clause-takes
-returns-then-is_run_to_end-clause-takes g c gone n before h = c.last_run.ensures.takes gone n before (c.chunks_ahead-front.ensures.takes.between gone n before h)
+returns-then-is_run_to_end-clause-takes g c gone n before h = c.last_run.ensures.takes gone n before (c.chunks_with_room-front.ensures.takes.between gone n before h)
 
 pub returns-clause-takes : goal.returns-clause-takes
 returns-clause-takes g c gone n before h =
-    c.last_run-2.ensures.takes gone n before (c.chunks_ahead-near.ensures.takes.between gone n before (c.chunks_ahead-front.ensures.takes.between gone n before h))
+    c.last_run-2.ensures.takes gone n before (c.chunks_with_room-near.ensures.takes.between gone n before (c.chunks_with_room-front.ensures.takes.between gone n before h))

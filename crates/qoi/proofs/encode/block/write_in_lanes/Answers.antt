@@ -65,7 +65,7 @@ put_block-stands-requires-clause-below g c = λ k lt.
     omega (arith, hashes_below (block_pixels w) k, ap (λ z. slice_index z k) (c.read_indices-read.ensures ∙ at))
 
 pub returns : goal.returns
-returns g c = λ ahead n rest more fits b.
+returns g c = λ unsent n rest more fits b.
     let style = style_in g.row.STYLE c.args.block.told_style in
     let carry = c.args.carry in
     let now = b.between in
@@ -81,7 +81,7 @@ returns g c = λ ahead n rest more fits b.
     let first : slice_get (all ++ later) 0 ≡ slice_get (all ++ rest) 0 = ap (λ x. slice_get x 0) (sym assoc) ∙ first_more (all ++ rest) more some in
     let q_is = b.is.px_is ∙ now.state.last_is in
     let last : IsPixel q = subst IsPixel (sym q_is) now.to_write.before_is in
-    let start : Carrying b.last.begun style ahead s (all ++ later) (take c.args.piece.piece.end c.args.piece.piece.bytes.now) = record {
+    let start : Carrying b.last.begun style unsent s (all ++ later) (take c.args.piece.piece.end c.args.piece.piece.bytes.now) = record {
       past = now.past;
       before = now.before;
       to_write = rw (b.is.count_is, ← assoc) now.to_write;
@@ -103,10 +103,10 @@ returns g c = λ ahead n rest more fits b.
     let spelled = c.spell-x.ensures s (fits.changes s.held) refl placed
     (record { sixteen = sixteen; last_is = last; red_is = planes.r_is; stands_are = put.stands_are; indices_are = at }) in
     let x = c.spell-x.result in
-    let ready_now = ready style ahead s all later x carry.named end (end + c.from.result) _ c.store_run.new.out c.args.carry.few
+    let ready_now = ready style unsent s all later x carry.named end (end + c.from.result) _ c.store_run.new.out c.args.carry.few
     (λ e. omega (arith, b.is.count_is, b.goes.few (sym first ∙ e ∙ ap Some b.is.px_is))) start spelled sixteen placed (c.store_run.ensures.front ∙ front)
     (λ some. run some ∙ ap (λ z. z ++ group_bytes style carry.named q carry.count) front) (ap (λ n. end + n) c.from.ensures) in
-    block_step style ahead n s rest more all x c.args.block.planes c.put_block-stands.new.table c.carry.result _ _ sixteen fits.mixed planes ready_now put.holds
+    block_step style unsent n s rest more all x c.args.block.planes c.put_block-stands.new.table c.carry.result _ _ sixteen fits.mixed planes ready_now put.holds
     (λ tight. fits.no_blank tight s.held now.state.table_is)
     c.carry.ensures.before c.carry.ensures.count (λ is. c.carry.ensures.named (stand_tests s.held all) (c.style_in-style.ensures ∙ is) put.stands_are)
     (λ t same last_is few. c.store_sixteen-end.ensures.written style t (subst IsPixel (sym last_is) last) same (omega arith)

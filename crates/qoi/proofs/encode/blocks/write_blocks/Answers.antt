@@ -13,7 +13,7 @@ pub loop-rest-init : goal.loop-rest-init
 loop-rest-init g c = record {
   same = refl;
   less = inr (refl, c.args.piece.not_full);
-  written = λ ahead more b. record {
+  written = λ unsent more b. record {
     last = c.args.state.now.last;
     is = c.of-carry.ensures;
     between = b;
@@ -32,8 +32,8 @@ loop-rest-preserved g c =
     record {
       same = ap (λ (s : ImageState). record s { table = c.write_front_block.new.table }) i.same;
       less = inl (elim i.less [ inl less ↦ omega (arith, step.less, size, less) | inr same ↦ omega (arith, step.less, size, same.0) ]);
-      written = λ ahead more b. rw same at
-          (step.written ahead (length (pixels_in c.args.raw)) more (omega (arith, ap (λ w. length (pixels_in w)) c.in_loop.ensures.whole)) (rw (same, front, c.open.ensures) (i.written ahead more b)));
+      written = λ unsent more b. rw same at
+          (step.written unsent (length (pixels_in c.args.raw)) more (omega (arith, ap (λ w. length (pixels_in w)) c.in_loop.ensures.whole)) (rw (same, front, c.open.ensures) (i.written unsent more b)));
     }
 
 pub returns : goal.returns
@@ -52,5 +52,5 @@ returns g c =
       opaque = after.opaque;
       whole = c.loop-rest.rest.whole;
       less = less;
-      on = λ ahead more b. still_between after.carried after.begun (inr less) (i.written ahead more b);
+      on = λ unsent more b. still_between after.carried after.begun (inr less) (i.written unsent more b);
     }))

@@ -10,8 +10,8 @@ abbrev pub invariant-loop-rest : goal.invariant-loop-rest
 invariant-loop-rest g l = record {
   same : l.state ≡ record l.fn.state { table = l.state.table };
   less : (length (pixels_in l.rest) < length (pixels_in l.fn.raw)) ⊎ ((length (pixels_in l.rest) ≡ length (pixels_in l.fn.raw)) × (l.piece.end < g.row.ROOM - SPARE));
-  written : (ahead : List ℕ) (more : List RgbaPixel) → CoderBetween (style_in g.row.STYLE l.fn.state.style) ahead (pixels_in l.fn.raw ++ more) l.fn.state.table l.fn.state.last (kept_bytes l.fn.piece.piece)
-      → InBlocks (style_in g.row.STYLE l.fn.state.style) ahead (length (pixels_in l.fn.raw)) (pixels_in l.rest) more l.state.table l.carry (kept_bytes l.piece);
+  written : (unsent : List ℕ) (more : List RgbaPixel) → CoderBetween (style_in g.row.STYLE l.fn.state.style) unsent (pixels_in l.fn.raw ++ more) l.fn.state.table l.fn.state.last (kept_bytes l.fn.piece.piece)
+      → InBlocks (style_in g.row.STYLE l.fn.state.style) unsent (length (pixels_in l.fn.raw)) (pixels_in l.rest) more l.state.table l.carry (kept_bytes l.piece);
 }
 
 abbrev pub decreases-loop-rest : goal.decreases-loop-rest

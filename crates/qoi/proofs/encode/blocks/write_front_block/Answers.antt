@@ -44,7 +44,7 @@ returns-then-goes_by_marks g c =
     let next = c.write_marked_pixels-rest.ensures in
     record {
       less = next.less;
-      written = λ ahead n more whole b. record {
+      written = λ unsent n more whole b. record {
         last = c.write_marked_pixels-rest.new.coder.last;
         is = c.of.ensures;
         between = in_style next.written (coder.style ∙ c.style_in-style.ensures) coder.last more
@@ -53,18 +53,18 @@ returns-then-goes_by_marks g c =
       };
     }
 
-pub returns-then-may_miss_blank : goal.returns-then-may_miss_blank
-returns-then-may_miss_blank g c =
-    let coder = c.new-coder-then-may_miss_blank.ensures in
-    let before = c.last_pixel-then-may_miss_blank.ensures in
+pub returns-then-may_have_absent_blank : goal.returns-then-may_have_absent_blank
+returns-then-may_have_absent_blank g c =
+    let coder = c.new-coder-then-may_have_absent_blank.ensures in
+    let before = c.last_pixel-then-may_have_absent_blank.ensures in
     let next = c.write_next_group-rest.ensures in
     let last = c.write_next_group-rest.new.self.last in
-    let tight = sym c.style_in-style.ensures ∙ c.may_miss_blank.ensures.tight c.if-may_miss_blank.true in
+    let tight = sym c.style_in-style.ensures ∙ c.may_have_absent_blank.ensures.tight c.if-may_have_absent_blank.true in
     record {
       less = next.less;
-      written = λ ahead n more whole b. record {
+      written = λ unsent n more whole b. record {
         last = last;
-        is = c.of-then-may_miss_blank.ensures;
+        is = c.of-then-may_have_absent_blank.ensures;
         between = in_style next.written (coder.style ∙ c.style_in-style.ensures) coder.last more (still_between before.carried before.begun (inl tight) b);
         goes = goes_on {rest = pixels_in c.write_next_group-rest.result} (next.begun (ap (λ (l : LastPixel). l.begun) coder.last ∙ before.begun))
             (λ e. omega (arith, next.none (λ none. (let no : ◌≡◌ {A = Option RgbaPixel} None (Some last.px) = sym (ap (λ ps. slice_get ps 0) none) ∙ e in cc))));
@@ -82,11 +82,11 @@ returns g c =
     let fits : FitsBlock style c.args.table.now before ps c.first-block.result.changes = record {
       changes = block.changes;
       mixed = λ none. c.if-marks-eq0.false (c.marks-marks.ensures before block.changes ∙ none);
-      no_blank = λ tight. c.may_miss_blank.ensures.none before block.changes c.if-may_miss_blank.false (c.style_in-style.ensures ∙ sym same ∙ tight);
+      no_blank = λ tight. c.may_have_absent_blank.ensures.none before block.changes c.if-may_have_absent_blank.false (c.style_in-style.ensures ∙ sym same ∙ tight);
     } in
     let front = sym (take-append-drop 16 (pixels_in c.args.pixels.rest)) ∙ ap (λ ps. ps ++ after) (sym block.pixels) in
     record {
       less = omega (arith, c.skip.ensures.size);
-      written = λ ahead n more whole b.
-          rw (c.skip.ensures.rest, ← same) (c.write_in_lanes-piece.ensures ahead n after more fits (rw (same, ← front) b));
+      written = λ unsent n more whole b.
+          rw (c.skip.ensures.rest, ← same) (c.write_in_lanes-piece.ensures unsent n after more fits (rw (same, ← front) b));
     }

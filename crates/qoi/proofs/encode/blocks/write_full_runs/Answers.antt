@@ -26,13 +26,13 @@ no_full zero r few = sym (lt-ltb (62 * 0 + r) 62 (omega (arith, few)))
 no_full (suc k) r few = ne_eqb (62 * suc k) 0 (λ e. omega arith) ∙ sym (le-ltb (62 * suc k + r) 62 (omega arith))
 
 -- n repeats more come, which make k full runs with those that are carried
-blocks_on : {N : ℕ} {style : Style} {ahead : List ℕ} {size : ℕ} {rest more table : List RgbaPixel} {kept : List ℕ} (carry after : Carry N) (n k : ℕ)
+blocks_on : {N : ℕ} {style : Style} {unsent : List ℕ} {size : ℕ} {rest more table : List RgbaPixel} {kept : List ℕ} (carry after : Carry N) (n k : ℕ)
     → carry.count + n ≡ 62 * k + after.count → after.count < 62 → after.before ≡ carry.before
     → after.named ≡ carry.named && nat_lt (carry.count + n) 62 → (slice_get rest 0 ≡ Some (last_pixel carry.before) → after.count ≤ 45)
     → slice_get (replicate n (last_pixel carry.before) ++ rest) 0 ≡ Some (last_pixel carry.before)
-    → InBlocks style ahead size (replicate n (last_pixel carry.before) ++ rest) more table carry kept
-    → InBlocks style ahead size rest more table after (kept ++ chunk_bytes (replicate k (Run 62)))
-blocks_on {style = style} {ahead} {size} {rest} {more} {table} {kept} carry after n k sum small same placed few first b =
+    → InBlocks style unsent size (replicate n (last_pixel carry.before) ++ rest) more table carry kept
+    → InBlocks style unsent size rest more table after (kept ++ chunk_bytes (replicate k (Run 62)))
+blocks_on {style = style} {unsent} {size} {rest} {more} {table} {kept} carry after n k sum small same placed few first b =
     let begun = begun_by_repeat b first in
     let px = b.is.px_is in
     let split = append_assoc (replicate n (last_pixel carry.before)) rest more ∙ ap (λ p. replicate n p ++ (rest ++ more)) px in
@@ -52,7 +52,7 @@ blocks_on {style = style} {ahead} {size} {rest} {more} {table} {kept} carry afte
       goes = goes_on begun (λ e. few (e ∙ ap Some (sym px)));
     }
 
--- the repeats stand ahead
+-- the repeats stand at the front
 near : (g : Over) (c : After-repeats_of-at_front g)
     → NearGroup (last_pixel c.args.carry.before) (REPEATS_AT_ONCE - c.from-carried.result) (pixels_in c.args.raw) c.repeats_of-at_front.result
 near g c =
@@ -64,9 +64,9 @@ pub returns : goal.returns
 returns g c = λ style least table.
     let group = near g (goal.at.returns g c).After-repeats_of-at_front in
     let carry = c.args.carry in
-    let ahead = c.repeats_of-at_front.result in
-    let count = c.from-carried.result + ahead in
-    let later = drop ahead (pixels_in c.args.raw) in
+    let at_front = c.repeats_of-at_front.result in
+    let count = c.from-carried.result + at_front in
+    let later = drop at_front (pixels_in c.args.raw) in
     let first = subst (λ x. slice_get x 0 ≡ Some (last_pixel carry.before)) group.same c.requires in
     let few : slice_get later 0 ≡ Some (last_pixel carry.before) → count % 62 ≤ 45 = λ e. (elim group.ends as (λ _. count % 62 ≤ 45) [
       | inl other ↦ absurd (other e)
@@ -75,7 +75,7 @@ returns g c = λ style least table.
     record {
       less = omega (arith, c.skip.ensures.size, near_some _ _ _ _ group c.requires (omega (arith, c.from-carried.ensures, carry.few)));
       written = λ all n more whole b. rw (c.skip.ensures.rest, c.append_full_runs.ensures.kept)
-          (blocks_on carry _ ahead (count / 62) (omega (arith, c.from-carried.ensures)) (omega arith) refl
-          (ap (λ k. carry.named && nat_lt (k + ahead) 62) c.from-carried.ensures) few first
+          (blocks_on carry _ at_front (count / 62) (omega (arith, c.from-carried.ensures)) (omega arith) refl
+          (ap (λ k. carry.named && nat_lt (k + at_front) 62) c.from-carried.ensures) few first
           (subst (λ x. InBlocks style all n x more table carry (kept_bytes c.args.piece.piece)) group.same b));
     }

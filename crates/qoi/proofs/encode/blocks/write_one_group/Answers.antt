@@ -12,5 +12,5 @@ returns g c =
       opaque = group.new.self.opaque;
       whole = group.result.whole;
       less = group.ensures.less;
-      on = λ ahead more b. in_style group.ensures.written coder.style coder.last more b;
+      on = λ unsent more b. in_style group.ensures.written coder.style coder.last more b;
     })

@@ -1,4 +1,4 @@
--- The header, and then what is ahead.
+-- The header, and then what is unsent.
 use Rattle.std.proofs.Common.{◌≡◌, ◌-◌, ◌≤◌, ℕ, List, [], Ok, Err, MatchResult, length, sym, ap, ◌∙◌, arith, subst}
 use Rattle.qoi.specs.Encoded.{IsFileOf, image_file, max_file_len}
 use Rattle.qoi.specs.Writers.{WroteBeginning}
@@ -7,7 +7,7 @@ use Rattle.qoi.specs.EncoderState.{EncoderState}
 use Rattle.qoi.specs.inner.Coder.{kept_bytes}
 use Rattle.qoi.proofs.FileOf.{file_of_image}
 use Rattle.qoi.proofs.decoding.Refusals.{handed_on}
-use Rattle.qoi.proofs.encoding.piece.BytesAhead.{all_sent, room_end, then_ends, ends_early}
+use Rattle.qoi.proofs.encoding.piece.BytesUnsent.{all_sent, room_end, then_ends, ends_early}
 use Rattle.qoi.proofs.encoding.piece.ImagePieces.{image_starts, image_ready, image_ends, new_whole, new_opaque}
 use Rattle.qoi.proofs.encoding.piece.PieceSent.{kept_length}
 use Rattle.qoi.proofs.encoding.piece.WriterProgress.{begins_after}

@@ -1,4 +1,4 @@
--- The file of an image in one piece: the header, then all that is ahead of its first pixel, and the end
+-- The file of an image in one piece: the header, then all that is unsent before its first pixel, and the end
 -- marker.
 use Rattle.std.proofs.Common.{◌≡◌, inl, inr, ◌-◌, ◌*◌, ◌<◌, ◌≤◌, ◌++◌, ◌∙◌, List, ℕ, [], length, refl, sym, ap, arith, subst, append_assoc}
 use Rattle.std.proofs.lemmas.Bool.{cases_lt}
@@ -12,7 +12,7 @@ use Rattle.qoi.specs.EncoderState.{EncoderState}
 use Rattle.qoi.proofs.FileOf.{file_of_image}
 use Rattle.qoi.proofs.decoding.ImageSize.{channels_are}
 use Rattle.qoi.proofs.decoding.Refusals.{handed_on}
-use Rattle.qoi.proofs.encoding.piece.BytesAhead.{all_sent, goes_to, stands}
+use Rattle.qoi.proofs.encoding.piece.BytesUnsent.{all_sent, goes_to, stands}
 use Rattle.qoi.proofs.encoding.piece.ImagePieces.{image_starts, image_kept, image_ends, new_whole, new_opaque}
 use Rattle.qoi.proofs.encoding.piece.PieceSent.{kept_length}
 use Rattle.qoi.proofs.encode.image.encode_in_one_piece.Given.{Over}
@@ -70,7 +70,7 @@ loop-state-preserved g c =
     let goes = rw c.open.ensures at filled.goes in
     record {
       stays = (filled.stays.0 ∙ i.stays.0, filled.stays.1 ∙ i.stays.1);
-      goes = record { on = λ ahead more s. goes.on ahead more (i.goes.on ahead more s) };
+      goes = record { on = λ unsent more s. goes.on unsent more (i.goes.on unsent more s) };
       whole = filled.whole;
       less = omega (arith, filled.less, i.less);
       same = λ few. absurd (omega (arith, few, c.loop-state-test.true));
@@ -97,8 +97,8 @@ made : (g : Over) (c : After-front g) → IsFileOf c.args.encoder.now.style c.ar
 made g c =
     let here = (goal.at.write_many-requires g c).After-new-state in
     let follows = λ (a b z xs ys : List ℕ) (e : b ≡ a ++ xs) (h : z ≡ b ++ ys). h ∙ ap (λ x. x ++ ys) e ∙ append_assoc a xs ys in
-    let ends : (ahead : List ℕ) → Between ahead c.new-state.result (kept_bytes c.with_header-piece.result) (own g here).raw → ahead ≡ kept_bytes c.write_last_pixels.new.piece
-    = λ ahead s. c.write_last_pixels.ensures ahead (goes_to c.loop-state.invariant.goes ahead s) in
+    let ends : (unsent : List ℕ) → Between unsent c.new-state.result (kept_bytes c.with_header-piece.result) (own g here).raw → unsent ≡ kept_bytes c.write_last_pixels.new.piece
+    = λ unsent s. c.write_last_pixels.ensures unsent (goes_to c.loop-state.invariant.goes unsent s) in
     let is = c.front.ensures ∙ c.store_marker-end.ensures.stored ∙ image_ends follows (starts g here) (all_sent ends refl) in
     subst (λ (s : EncoderState). IsFileOf s.style s.header s.raw c.front.result.now) c.encoder.view_is
     (subst (IsFileOf (own g here).style (own g here).header (own g here).raw) (sym is) (file g here))

@@ -3,7 +3,7 @@ use Rattle.std.proofs.Common.{◌-◌, sym, ◌∙◌, arith, subst}
 use Rattle.std.proofs.lemmas.Result.{err_from_is_err_and}
 use Rattle.qoi.specs.Writers.{WroteBut}
 use Rattle.qoi.specs.inner.Coder.{kept_bytes}
-use Rattle.qoi.proofs.encoding.piece.BytesAhead.{then_on, then_breaks, sent_on, sent_part, room_kept, still_ready}
+use Rattle.qoi.proofs.encoding.piece.BytesUnsent.{then_on, then_breaks, sent_on, sent_part, room_kept, still_ready}
 use Rattle.qoi.proofs.encoding.piece.PieceSent.{kept_length, sent_but}
 use Rattle.qoi.proofs.encoding.piece.WriterProgress.{none_but}
 use Rattle.qoi.proofs.encode.image.write_pixels.Goals.{then-is_full+in_ok-send, else-is_full}

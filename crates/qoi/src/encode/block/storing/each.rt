@@ -89,8 +89,8 @@ fn store_eight(out: &mut [u8], at: usize, sizes: u64, one: [u64; 4], two: [u64; 
     at + after(e, 7)
 }
 
-/// Stores the chunks of sixteen pixels from `at` on, and returns where they end. Of each four bytes
-/// stand in `chunks`, the fifth is `alpha`, and `size` says how many it has.
+/// Stores the chunks of sixteen pixels from `at` on, and returns where they end. Four bytes
+/// of each stand in `chunks`, the fifth is `alpha`, and `size` says how many it has.
 #[inline(always)]
 pub(in crate::encode) fn store_each(
     out: &mut [u8],

@@ -12,7 +12,7 @@ use Rattle.qoi.proofs.encode.coder.Coder.write_fresh_pixel.Goals as goal
 use Rattle.qoi.proofs.encode.coder.Coder.write_fresh_pixel.Goals.{in-Reference, in-Places}
 
 pub returns-clause-written : goal.returns-clause-written
-returns-clause-written g c ahead rest differs none b =
+returns-clause-written g c unsent rest differs none b =
     let p = c.args.next.px in
     let style = c.args.self.now.style in
     let past = b.past in

@@ -26,9 +26,9 @@ loop-rest-preserved g c =
 
 pub returns : goal.returns
 returns g c = record {
-  all = λ ahead b.
+  all = λ unsent b.
       let now = c.loop-rest in
       let none : pixels_in now.rest ≡ [] = c.is_empty.ensures.0 c.loop-rest-test.false in
-      let end = rw none at (now.invariant.written.on ahead [] (rw (append-nil (pixels_in c.args.raw)) b)) in
+      let end = rw none at (now.invariant.written.on unsent [] (rw (append-nil (pixels_in c.args.raw)) b)) in
       last_run end.to_write ∙ sym (c.append_run.ensures.kept (Run 1) refl);
 }

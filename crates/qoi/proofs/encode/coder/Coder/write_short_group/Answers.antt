@@ -26,11 +26,11 @@ returns-clause-written g c = record {
       let count = last.repeats + n in
       let after = pixels_in c.skip-after.result in
       let px = c.first.result.px in
-      let ahead : after ≡ px ∷ drop 1 after = c.first.ensures in
+      let first_is : after ≡ px ∷ drop 1 after = c.first.ensures in
       let rest = drop n raw in
       let later = rest ++ more in
-      let first : slice_get later 0 ≡ Some px = ap (λ ps. slice_get (ps ++ more) 0) (sym c.skip-after.ensures.rest ∙ ahead) in
-      let is : slice_get raw n ≡ Some px = sym (get_drop n raw) ∙ ap (λ ps. slice_get ps 0) (sym c.skip-after.ensures.rest ∙ ahead) in
+      let first : slice_get later 0 ≡ Some px = ap (λ ps. slice_get (ps ++ more) 0) (sym c.skip-after.ensures.rest ∙ first_is) in
+      let is : slice_get raw n ≡ Some px = sym (get_drop n raw) ∙ ap (λ ps. slice_get ps 0) (sym c.skip-after.ensures.rest ∙ first_is) in
       let differs : px ≢ last.px = λ e. c.requires.fresh (is ∙ ap Some e) in
       let split : raw ++ more ≡ replicate n last.px ++ later =
       ap (λ ps. ps ++ more) (sym (take-append-drop n raw) ∙ ap (λ ps. ps ++ rest) c.requires.repeat) ∙ append_assoc (replicate n last.px) rest more in
@@ -39,7 +39,7 @@ returns-clause-written g c = record {
       let group = group_written b n later one split (inl (λ e. differs (same_Some _ _ (sym first ∙ e)))) (λ _. inr (some, refl))
       (c.append_run.ensures.kept _ c.single_repeat_byte.ensures) c.update_after_repeats.ensures.left c.update_after_repeats.ensures.state in
       let same = c.update_after_repeats.ensures.same.0 in
-      let stand = subst (λ ps. CoderBetween c.update_after_repeats.new.self.style all (ps ++ more) c.update_after_repeats.new.table c.update_after_repeats.new.self.last (kept_bytes c.append_run.new.self)) (sym c.skip-after.ensures.rest ∙ ahead)
+      let stand = subst (λ ps. CoderBetween c.update_after_repeats.new.self.style all (ps ++ more) c.update_after_repeats.new.table c.update_after_repeats.new.self.last (kept_bytes c.append_run.new.self)) (sym c.skip-after.ensures.rest ∙ first_is)
       (of_coder c.update_after_repeats.ensures.style refl group) in
       rw c.skip.ensures.rest (c.write_fresh_pixel.ensures.written all (drop 1 after ++ more) (λ e. differs (e ∙ same)) c.update_after_repeats.ensures.left stand);
 }

@@ -5,8 +5,8 @@ use Rattle.qoi.proofs.decoding.Refusals.{handed_as, handed_on}
 use Rattle.qoi.specs.pieces.PixelWriter.{and_raw}
 use Rattle.qoi.proofs.encode.pixel_writer.PixelWriter.copy_raw_from.Goals as goal
 
-pub returns-in_err-check_room-clause-spent : goal.returns-in_err-check_room-clause-spent
-returns-in_err-check_room-clause-spent g c e before f = rw (handed_as _ c.from_residual.ensures.1 refl) (c.in_err-check_room.ensures.spent e before f, refl, refl)
+pub returns-in_err-check_count-clause-spent : goal.returns-in_err-check_count-clause-spent
+returns-in_err-check_count-clause-spent g c e before f = rw (handed_as _ c.from_residual.ensures.1 refl) (c.in_err-check_count.ensures.spent e before f, refl, refl)
 
 pub returns-in_err-take_raw_piece-clause-refused : goal.returns-in_err-take_raw_piece-clause-refused
 returns-in_err-take_raw_piece-clause-refused g c e before t =
@@ -17,7 +17,7 @@ returns-in_err-take_raw_piece-clause-refused g c e before t =
     (c.in_err-take_raw_piece.ensures.refused (and_raw e raw) before taken))
 
 pub returns-in_err-take_raw_piece-clause-spent : goal.returns-in_err-take_raw_piece-clause-spent
-returns-in_err-take_raw_piece-clause-spent g c e before f = absurd (c.in_ok-check_room.ensures.spent e before f)
+returns-in_err-take_raw_piece-clause-spent g c e before f = absurd (c.in_ok-check_count.ensures.spent e before f)
 
 pub returns-clause-spent : goal.returns-clause-spent
-returns-clause-spent g c e before f = absurd (c.in_ok-check_room.ensures.spent e before f)
+returns-clause-spent g c e before f = absurd (c.in_ok-check_count.ensures.spent e before f)

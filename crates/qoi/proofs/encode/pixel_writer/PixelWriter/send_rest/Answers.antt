@@ -14,7 +14,7 @@ use Rattle.qoi.proofs.encode.pixel_writer.PixelWriter.send_rest.Given.{Over}
 use Rattle.qoi.proofs.encode.pixel_writer.PixelWriter.send_rest.Goals.{After-write_end}
 use Rattle.qoi.proofs.encode.pixel_writer.PixelWriter.send_rest.Goals as goal
 
--- only the bytes that are held are ahead, and the file is that of the image
+-- only the chunks of the bytes that are held are unsent, and the file is that of the image
 starts : (g : Over) (c : After-write_end g) (e : EncoderState) (before : _) → c.self.inside.left ≡ 0 → HasTaken g.W.Write.contents e before c.args.self.now
     → ImageBetween appended e before (g.W.Write.contents c.self.inside.writer) c.deref_mut-workspace.result.now.state [] c.deref_mut-workspace.result.now.held
     × IsFileOf e.style e.header e.raw (image_file e.style e.header e.raw)

@@ -8,7 +8,7 @@ use Rattle.qoi.specs.EncoderState.{EncoderState}
 use Rattle.qoi.specs.pieces.PixelWriter.{and_raw, HasTaken}
 use Rattle.qoi.proofs.FileOf.{file_of_image, sends_part}
 use Rattle.qoi.proofs.encoding.piece.ImagePieces.{image_on, image_off, begins_appended}
-use Rattle.qoi.proofs.encoding.piece.BytesAhead.{stays}
+use Rattle.qoi.proofs.encoding.piece.BytesUnsent.{stays}
 use Rattle.qoi.proofs.decoding.StreamReads.{bytes_append}
 use Rattle.qoi.proofs.decoding.Refusals.{handed_on}
 use Rattle.qoi.proofs.encode.pixel_writer.PixelWriter.write.Given.{Over}

@@ -2,7 +2,7 @@
 use Rattle.std.proofs.Common.{rules, refl, sym, ◌∙◌, arith, append-nil}
 use Rattle.std.proofs.KnownBytes.{Appends-trans}
 use Rattle.qoi.specs.inner.Coder.{kept_bytes}
-use Rattle.qoi.proofs.encoding.piece.BytesAhead.{then_on, then_breaks, stands, sent_on, sent_part}
+use Rattle.qoi.proofs.encoding.piece.BytesUnsent.{then_on, then_breaks, stands, sent_on, sent_part}
 use Rattle.qoi.proofs.encoding.piece.StreamSent.{on_sent_to, off_sent_to}
 use Rattle.qoi.proofs.decoding.Refusals.{handed_on}
 use Rattle.qoi.proofs.encode.pixel_writer.sending.take_raw.Goals as goal

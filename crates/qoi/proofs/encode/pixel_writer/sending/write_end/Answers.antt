@@ -1,10 +1,10 @@
--- All that was ahead, and the end marker, was sent.
+-- All that was unsent, and the end marker, was sent.
 use Rattle.std.proofs.Common.{rules, arith, List, ℕ, [], ◌∙◌, subst}
 use Rattle.std.proofs.lemmas.Result.{MatchResult-from_both, MatchResult-weaker}
 use Rattle.qoi.specs.inner.Coder.{kept_bytes}
 use Rattle.qoi.specs.inner.Sending.{appended, Ends}
 use Rattle.qoi.specs.Writers.{WroteBeginning, wrote_laws}
-use Rattle.qoi.proofs.encoding.piece.BytesAhead.{all_sent, room_end, then_ends, ends_early}
+use Rattle.qoi.proofs.encoding.piece.BytesUnsent.{all_sent, room_end, then_ends, ends_early}
 use Rattle.qoi.proofs.encoding.piece.PieceSent.{kept_length}
 use Rattle.qoi.proofs.encoding.piece.StreamSent.{ends_sent_to, early_sent_to}
 use Rattle.qoi.proofs.encoding.piece.WriterProgress.{begins_after}

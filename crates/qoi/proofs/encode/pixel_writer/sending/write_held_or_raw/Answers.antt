@@ -1,6 +1,6 @@
 -- Whole pixels are written: of what is held, or of what came.
 use Rattle.std.proofs.Common.{◌≡◌, ◌++◌, length, sym, ap, ◌∙◌, arith, append_assoc, take-append-drop}
-use Rattle.qoi.proofs.encoding.piece.BytesAhead.{goes_within, breaks_within}
+use Rattle.qoi.proofs.encoding.piece.BytesUnsent.{goes_within, breaks_within}
 use Rattle.std.proofs.lemmas.List.{nil_from_length}
 use Rattle.qoi.proofs.decoding.Refusals.{handed_on}
 use Rattle.qoi.proofs.encode.pixel_writer.sending.write_held_or_raw.Given.{Over}

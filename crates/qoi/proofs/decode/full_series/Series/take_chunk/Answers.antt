@@ -4,7 +4,7 @@ use Rattle.qoi.specs.inner.Filling.{Progress}
 use Rattle.qoi.specs.Qoi.{pixel}
 use Rattle.qoi.proofs.decoding.FastSteps.{Stores, full_step}
 use Rattle.qoi.proofs.decoding.Vectors.{written_fewer}
-use Rattle.qoi.proofs.decode.full_series.Series.chunk_of.Goals as goal
+use Rattle.qoi.proofs.decode.full_series.Series.take_chunk.Goals as goal
 
 pub returns-clause-step : goal.returns-clause-step
 returns-clause-step g c =

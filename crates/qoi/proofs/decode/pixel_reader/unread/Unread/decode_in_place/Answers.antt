@@ -3,7 +3,7 @@
 use Rattle.std.proofs.Common.{◌*◌, ◌/◌, length, drop, length-append, arith}
 use Rattle.qoi.proofs.decoding.GivenMore.{gives_placed, gives_two, refuses_lent}
 use Rattle.qoi.proofs.decoding.PieceSteps.{piece_lent}
-use Rattle.qoi.proofs.decode.pixel_reader.unread.Unread.piece_front.Goals as goal
+use Rattle.qoi.proofs.decode.pixel_reader.unread.Unread.decode_in_place.Goals as goal
 
 pub returns-then-out-lt-IN_PLACE-clause-step : goal.returns-then-out-lt-IN_PLACE-clause-step
 returns-then-out-lt-IN_PLACE-clause-step g c = c.give_run.ensures.gives _
