@@ -26,16 +26,16 @@ const PIECE: usize = 4096;
 
 impl<R: Reader> PixelReader<R> {
     /// Copies all that is left of the image to a writer of pieces, by an array of 4,096 bytes: it
-    /// allocates nothing. It doesn't finish the writer, which may take the bytes of further images,
-    /// too. Raw bytes are copied as they come: whether both sides have the same channels isn't
-    /// asked.
+    /// allocates nothing. It doesn't finish the writer, whose one image may get the pixels of other
+    /// readers, too. Raw bytes are copied as they come: whether both sides have the same channels
+    /// isn't asked.
     ///
     /// Refusals, in this order: `IoError` of kind `BrokenPipe` if the writer reported a fault
     /// before; `InvalidImageLength` if more bytes are left than the writer takes; and then nothing
-    /// is read. Else those of `read`, behind which the writer has the pieces that came before and
-    /// takes more; and `IoError` as in `write`. Then the reader stands behind the piece with which
-    /// the writer failed, of at most 4,096 bytes, perhaps within a row: `left` says where. It goes
-    /// on there, to another writer.
+    /// is read. Else those of `read`: the writer has the pieces that came before and takes more,
+    /// but no more of the image can be read. Or `IoError` as in `write`: the reader stands behind
+    /// the piece with which the writer failed, of at most 4,096 bytes, perhaps within a row, as
+    /// `left` says, and goes on there, to another writer.
     ///
     /// Whose an `IoError` is, `writer.write(&[])` tells: that call returns one, too, if the writer
     /// failed.

@@ -118,21 +118,21 @@ gives_after_none {f} {c} {ahead} {middle} {rest} {old} {between} {new} {out} {si
 
 -- a piece in place gives what it filled
 pub gives_placed : {f c : ℕ} {ahead rest : Option (List ℕ)} {p : Unread} {before out table : List ℕ} {to : Reached} {run : ℕ} (now behind : List ℕ)
-    → IsChannels c → Asks c p (length before) → 512 ≤ length before → length before + 256 ≤ p.undecoded → length out ≡ length before
+    → IsChannels c → Asks c p (length before) → 512 ≤ length before → length before + 256 ≤ p.unstored → length out ≡ length before
     → HasWritten f c before 0 out (0 + c * (p.run / c)) (replicate (p.run / c) (pixel_of_lanes p.last))
     → TakesInPlace f c ahead rest (filling p.table (reached p.last p.run) (take (length before / c * c) out)) table now to run
     → IsInPlace c (length now) to run → length now ≡ length (take (length before / c * c) out)
-    → GivesMore f c ahead rest p (record p { table = table; last = to.last; run = run; undecoded = p.undecoded - to.at }) (now ++ behind) to.at
+    → GivesMore f c ahead rest p (record p { table = table; last = to.last; run = run; unstored = p.unstored - to.at }) (now ++ behind) to.at
 gives_placed {f} {c} {ahead} {rest} {p} {before} {out} {table} {to} {run} now behind is asks long fits same written takes sizes size =
     let whole = asks.pixels in
-    let room : to.at + 256 ≤ p.undecoded = omega (arith, sizes.within, size, length-take (length before / c * c) out, whole_within c (length before) is, fits) in
+    let room : to.at + 256 ≤ p.unstored = omega (arith, sizes.within, size, length-take (length before / c * c) out, whole_within c (length before) is, fits) in
     let short : run ≤ raw_per_byte = grind (arith, is, sizes.run_short) in
     record {
       read = λ n start given h.
           let l = piece_lent p before out is h asks.none whole long fits same written in
           piece_read l.gone now behind to run h asks.none l.so_far (takes l.gone _ _ l.before) sizes.within (omega (arith, room));
       within = omega (arith, sizes.within, length-append now behind);
-      pixels = (whole.0, minus_whole c p.undecoded to.at is whole.1 sizes.whole, sizes.run_whole, sizes.run_short, λ some. omega (arith, short, room));
+      pixels = (whole.0, minus_whole c p.unstored to.at is whole.1 sizes.whole, sizes.run_whole, sizes.run_short, λ some. omega (arith, short, room));
       left = omega (arith, room);
       fault = refl;
     }

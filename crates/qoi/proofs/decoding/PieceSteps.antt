@@ -59,9 +59,9 @@ pub none_kept : (p : Unread) (given : List ℕ) → kept_count p ≡ 0 → given
 none_kept p given same = ap (λ k. given ++ take k (drop p.from p.bytes)) same ∙ append-nil given
 
 -- as many pixels are gone as the given bytes have: those of a rest are all others, and those of fewer bytes no more
-pub gone_count : (f c n m : ℕ) (gone : Past) (given : List ℕ) (undecoded : ℕ) → IsChannels c → given ≡ output f c (reverse gone)
-    → length given + undecoded ≡ c * n → (undecoded ≡ c * m → length gone + m ≡ n) × (c * m ≤ undecoded → length gone + m ≤ n)
-gone_count f c n m gone given undecoded is so_far all =
+pub gone_count : (f c n m : ℕ) (gone : Past) (given : List ℕ) (unstored : ℕ) → IsChannels c → given ≡ output f c (reverse gone)
+    → length given + unstored ≡ c * n → (unstored ≡ c * m → length gone + m ≡ n) × (c * m ≤ unstored → length gone + m ≤ n)
+gone_count f c n m gone given unstored is so_far all =
     let size : length given ≡ c * length gone = ap length so_far ∙ length-output_reverse f c gone is in
     (λ d. grind (arith, is, size, all), λ d. grind (arith, is, size, all))
 
@@ -110,7 +110,7 @@ begun {f} {c} {gone} {start} {ahead} {table} {last} m run out is s size whole fi
 
 -- the same of what is unread
 run_lent : {f c n : ℕ} {start old : Option (List ℕ)} {given : List ℕ} (p : Unread) (m : ℕ) (out : List ℕ) → IsChannels c → IsUnread f c n start old given p
-    → kept_count p ≡ 0 → 0 < p.undecoded → length out ≡ c * m → length out ≤ p.undecoded → p.run % c ≡ 0 → p.run ≤ length out → take p.run out ≡ output f c (copies c p.run p.last)
+    → kept_count p ≡ 0 → 0 < p.unstored → length out ≡ c * m → length out ≤ p.unstored → p.run % c ≡ 0 → p.run ≤ length out → take p.run out ≡ output f c (copies c p.run p.last)
     → Lent f c n m start old given p out p.run
 run_lent {f} {c} {n} {start} {old} {given} p m out is h same some size fits whole inside bytes =
     let (gone, stands, all) = h.goes_on some in
@@ -119,20 +119,20 @@ run_lent {f} {c} {n} {start} {old} {given} p m out is h same some size fits whol
       gone = gone;
       before = begun m p.run out is stands size whole inside bytes;
       so_far = so_far;
-      most = (gone_count f c n m gone given p.undecoded is so_far (omega (arith, same, h.size))).1 (subst (λ k. k ≤ p.undecoded) size fits);
+      most = (gone_count f c n m gone given p.unstored is so_far (omega (arith, same, h.size))).1 (subst (λ k. k ≤ p.unstored) size fits);
       ends = gone_bytes f c m gone given out is so_far size;
     }
 
 -- with no run
 pub lent : {f c n : ℕ} {start old : Option (List ℕ)} {given : List ℕ} {p : Unread} (m : ℕ) (out : List ℕ) → IsChannels c → IsUnread f c n start old given p
-    → KeepsNothing p → 0 < p.undecoded → length out ≡ c * m → length out ≤ p.undecoded → Lent f c n m start old given p out 0
+    → KeepsNothing p → 0 < p.unstored → length out ≡ c * m → length out ≤ p.unstored → Lent f c n m start old given p out 0
 lent {f} {c} {n} {start} {old} {given} {p} m out is h none some size fits =
     let few : p.run / c ≡ 0 = grind (arith, is, none) in
     subst (Lent f c n m start old given p out) none.1 (run_lent p m out is h none.0 some size fits (rw none.1 (none_written c is)) (omega (arith, none)) (rw (few, none.1) refl))
 
 -- the whole pixels of an output with a run in front are lent
 pub piece_lent : {f c n : ℕ} {start old : Option (List ℕ)} {given : List ℕ} (p : Unread) (before out : List ℕ) → IsChannels c → IsUnread f c n start old given p
-    → kept_count p ≡ 0 → OwesWholePixels c p → 512 ≤ length before → length before + 256 ≤ p.undecoded → length out ≡ length before
+    → kept_count p ≡ 0 → OwesWholePixels c p → 512 ≤ length before → length before + 256 ≤ p.unstored → length out ≡ length before
     → HasWritten f c before 0 out (0 + c * (p.run / c)) (replicate (p.run / c) (pixel_of_lanes p.last))
     → Lent f c n (length before / c) start old given p (take (length before / c * c) out) p.run
 piece_lent {c = c} p before out is h same whole long fits same_size written =
@@ -148,9 +148,9 @@ piece_lent {c = c} p before out is h same whole long fits same_size written =
 pub run_kept : {f c n : ℕ} {start now : Option (List ℕ)} {given : List ℕ} (p : Unread) (bytes : List ℕ) → IsChannels c → IsUnread f c n start now given p
     → kept_count p ≡ 0 → 0 < p.run → OwesWholePixels c p → 256 ≤ length bytes
     → HasWritten f c p.bytes 0 bytes (0 + c * (p.run / c)) (replicate (p.run / c) (pixel_of_lanes p.last))
-    → IsUnread f c n start now given (record p { bytes = bytes; from = 0; to = p.run; run = 0; undecoded = p.undecoded - p.run })
+    → IsUnread f c n start now given (record p { bytes = bytes; from = 0; to = p.run; run = 0; unstored = p.unstored - p.run })
 run_kept {f} {c} {n} {start} {now} {given} p bytes is h same some whole room written =
-    let fits : p.run < p.undecoded = whole.4 some in
+    let fits : p.run < p.unstored = whole.4 some in
     let (gone, stands, all) = h.goes_on (omega (arith, fits)) in
     let recent = copies c p.run p.last in
     let many : p.run - 0 ≡ 0 + c * (p.run / c) = omega (arith, whole_pixels c p.run is whole.2) in
@@ -183,13 +183,13 @@ front_lent {c = c} p out is h none fits some =
 -- a piece of what was lent was taken
 pub piece_read : {f c n : ℕ} {start old new : Option (List ℕ)} {given : List ℕ} {p : Unread} {table : List ℕ} (gone : Past)
     (now rest : List ℕ) (to : Reached) (run : ℕ) → IsUnread f c n start old given p → kept_count p ≡ 0 → given ≡ output f c (reverse gone)
-    → LacksRun f c start new table to.last run (output f c (reverse gone) ++ take to.at now) → to.at ≤ length now → to.at < p.undecoded
+    → LacksRun f c start new table to.last run (output f c (reverse gone) ++ take to.at now) → to.at ≤ length now → to.at < p.unstored
     → IsUnread f c n start new (given ++ take to.at (now ++ rest))
-    (record p { table = table; last = to.last; run = run; undecoded = p.undecoded - to.at })
+    (record p { table = table; last = to.last; run = run; unstored = p.unstored - to.at })
 piece_read {f} {c} {n} {start} {old} {new} {given} {p} {table} gone now rest to run h same so_far t inside fits =
     let at = to.at in
     let front : take at (now ++ rest) ≡ take at now = take-append-le at now rest inside in
-    let then : Unread = record p { table = table; last = to.last; run = run; undecoded = p.undecoded - at } in
+    let then : Unread = record p { table = table; last = to.last; run = run; unstored = p.unstored - at } in
     let more = given ++ take at (now ++ rest) in
     let size : length more ≡ length given + at = length-append given (take at (now ++ rest)) ∙ ap (λ k. length given + k) (ap length front ∙ length-take-le at now inside) in
     record {
@@ -208,16 +208,16 @@ piece_stops {f} {c} {gone = gone} {start} {ahead} {table} {now} out is inside h 
 -- chunks were decoded into what was lent
 pub long_read : {f c n m : ℕ} {start old new : Option (List ℕ)} {given : List ℕ} {p : Unread} {out : List ℕ} {table : List ℕ} {to : Reached}
     (now rest : List ℕ) → IsChannels c → IsUnread f c n start old given p → KeepsNothing p → (l : Lent f c n m start old given p out 0)
-    → DecoderBetween f c l.gone m start new (filling table to now) → to.at < length now → length now ≤ p.undecoded
-    → IsUnread f c n start new (given ++ take to.at (now ++ rest)) (record p { table = table; last = to.last; undecoded = p.undecoded - to.at })
+    → DecoderBetween f c l.gone m start new (filling table to now) → to.at < length now → length now ≤ p.unstored
+    → IsUnread f c n start new (given ++ take to.at (now ++ rest)) (record p { table = table; last = to.last; unstored = p.unstored - to.at })
 long_read {f} {c} {n} {m} {start} {old} {new} {given} {p} {out} {table} {to} now rest is h same l after inside fits =
     rw same.1 (piece_read l.gone now rest to 0 h same.0 l.so_far (piece_stops now is inside after) (omega (arith, inside)) (omega (arith, inside, fits)))
 
 -- chunks were decoded into the front of what is kept
 pub kept_read : {f c n m : ℕ} {start old new : Option (List ℕ)} {given : List ℕ} {p : Unread} {out : List ℕ} {table : List ℕ} {to : Reached}
     (now rest : List ℕ) → IsChannels c → IsUnread f c n start old given p → KeepsNothing p → (l : Lent f c n m start old given p out 0)
-    → DecoderBetween f c l.gone m start new (filling table to now) → to.at < length now → length now < p.undecoded
-    → IsUnread f c n start new given (record p { table = table; last = to.last; bytes = now ++ rest; from = 0; to = to.at; undecoded = p.undecoded - to.at })
+    → DecoderBetween f c l.gone m start new (filling table to now) → to.at < length now → length now < p.unstored
+    → IsUnread f c n start new given (record p { table = table; last = to.last; bytes = now ++ rest; from = 0; to = to.at; unstored = p.unstored - to.at })
 kept_read {f} {c} {n} {m} {start} {old} {new} {given} {p} {out} {table} {to} now rest is h same l after inside fits =
     let (all, stands, e) = closes given now is after inside l.so_far in
     let at : to.at - 0 ≡ to.at = omega arith in
@@ -233,19 +233,19 @@ kept_read {f} {c} {n} {m} {start} {old} {new} {given} {p} {out} {table} {to} now
 
 -- the rest of the image are the pixels that are missing
 pub rest_count : {f c n m : ℕ} {start old : Option (List ℕ)} {given : List ℕ} {p : Unread} {out : List ℕ} → IsChannels c → IsUnread f c n start old given p
-    → KeepsNothing p → (l : Lent f c n m start old given p out 0) → p.undecoded ≡ c * m → length l.gone + m ≡ n
+    → KeepsNothing p → (l : Lent f c n m start old given p out 0) → p.unstored ≡ c * m → length l.gone + m ≡ n
 rest_count {f} {c} {n} {m} {start} {old} {given} {p} is h same l all =
-    (gone_count f c n m l.gone given p.undecoded is l.so_far (omega (arith, same, h.size))).0 all
+    (gone_count f c n m l.gone given p.unstored is l.so_far (omega (arith, same, h.size))).0 all
 
 -- the rest of the image was decoded and is kept, and the end marker was taken
 pub rest_read : {f c n m : ℕ} {start old new : Option (List ℕ)} {given : List ℕ} {p : Unread} {out : List ℕ} {table : List ℕ} {last : ℕ}
     (now : List ℕ) → IsChannels c → IsUnread f c n start old given p → KeepsNothing p → (l : Lent f c n m start old given p out 0)
-    → ReadsImage f c (length l.gone + m) start new (output f c (reverse l.gone) ++ take p.undecoded now)
-    → p.undecoded ≤ length now → p.undecoded ≡ c * m
-    → IsUnread f c n start new given (record p { table = table; last = last; bytes = now; from = 0; to = p.undecoded; undecoded = 0 })
+    → ReadsImage f c (length l.gone + m) start new (output f c (reverse l.gone) ++ take p.unstored now)
+    → p.unstored ≤ length now → p.unstored ≡ c * m
+    → IsUnread f c n start new given (record p { table = table; last = last; bytes = now; from = 0; to = p.unstored; unstored = 0 })
 rest_read {f} {c} {n} {m} {start} {old} {new} {given} {p} {out} {table} {last} now is h same l read fits all =
     let count : length l.gone + m ≡ n = rest_count is h same l all in
-    let size : p.undecoded - 0 ≡ p.undecoded = omega arith in
+    let size : p.unstored - 0 ≡ p.unstored = omega arith in
     record {
       size = omega (arith, same, h.size);
       goes_on = λ some. absurd (omega arith);
@@ -254,7 +254,7 @@ rest_read {f} {c} {n} {m} {start} {old} {new} {given} {p} {out} {table} {last} n
 
 -- the rest of the image are whole pixels
 pub rest_whole : {f c n : ℕ} {start now : Option (List ℕ)} {given : List ℕ} {p : Unread} → IsChannels c → IsUnread f c n start now given p → kept_count p ≡ 0
-    → 0 < p.undecoded → p.undecoded ≡ c * (p.undecoded / c)
+    → 0 < p.unstored → p.unstored ≡ c * (p.unstored / c)
 rest_whole {f} {c} {n} {start} {now} {given} {p} is h same some =
     let (gone, stands, all) = h.goes_on some in
     let size : length given ≡ c * length gone = ap length (sym (none_kept p given same) ∙ all) ∙ length-output_reverse f c gone is in
@@ -294,10 +294,10 @@ pub record GoesOn (f c n : ℕ) (start ahead : Option (List ℕ)) (table : List 
   pub fewer : length all < n
 
 -- pixels are missing behind a run
-run_short : (c : ℕ) (p : Unread) → OwesWholePixels c p → 0 < p.undecoded → p.run < p.undecoded
+run_short : (c : ℕ) (p : Unread) → OwesWholePixels c p → 0 < p.unstored → p.run < p.unstored
 run_short c p whole some = elim (cases_lt 0 p.run) [ inl run ↦ whole.4 run | inr none ↦ omega (arith, none, some) ]
 
-pub still_goes : {f c n : ℕ} {start now : Option (List ℕ)} {given : List ℕ} (p : Unread) → IsChannels c → IsUnread f c n start now given p → OwesWholePixels c p → 0 < p.undecoded
+pub still_goes : {f c n : ℕ} {start now : Option (List ℕ)} {given : List ℕ} (p : Unread) → IsChannels c → IsUnread f c n start now given p → OwesWholePixels c p → 0 < p.unstored
     → GoesOn f c n start now p.table p.last given
 still_goes {f} {c} {n} {start} {now} {given} p is h whole some =
     let (gone, stands, e) = h.goes_on some in

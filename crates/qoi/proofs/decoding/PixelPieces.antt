@@ -33,7 +33,7 @@ seam xs ys zs e = sym (ap (take (length xs)) e ∙ take-append_seam xs ys)
 pub unread_within : (f c n : ℕ) (start now : Option (List ℕ)) (given : List ℕ) (p : Unread) → IsChannels c → IsUnread f c n start now given p → OwesWholePixels c p
     → TakesAtMost (5 * n + 8) start now
 unread_within f c n start now given p is h whole =
-    elim (cases_lt 0 p.undecoded) [
+    elim (cases_lt 0 p.unstored) [
       | inl some ↦
           let so_far = still_goes p is h whole some in
           let stands = so_far.stands in
@@ -57,14 +57,14 @@ pub front_given : (channels : Channels) (h : Header) (start now : Option (List �
     → IfSome start (λ bytes. given ≡ take (length given) (front_image channels h bytes))
 front_given channels h None now given p s whole = tt
 front_given channels h (Some bytes) now given p s whole =
-    elim (cases_lt 0 p.undecoded) [
+    elim (cases_lt 0 p.unstored) [
       | inl some ↦ going now given p s whole some
       | inr none ↦ let read = image_read channels h bytes now (given ++ kept_raw p) (s.ends (omega (arith, none))) in
           seam given (kept_raw p) _ (sym (image_is channels h bytes read.0 (given ++ kept_raw p) read.2))
     ]
   where
     going : (now : Option (List ℕ)) (given : List ℕ) (p : Unread) → IsUnread (channels_number h.channels) (channels_number channels) (pixel_count h) (Some bytes) now given p
-        → OwesWholePixels (channels_number channels) p → 0 < p.undecoded → given ≡ take (length given) (front_image channels h bytes)
+        → OwesWholePixels (channels_number channels) p → 0 < p.unstored → given ≡ take (length given) (front_image channels h bytes)
     going None given p s whole some = let (gone, stands, e) = s.goes_on some in absurd stands.taken
     going (Some left) given p s whole some =
         let f = channels_number h.channels in

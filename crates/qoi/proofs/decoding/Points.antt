@@ -33,10 +33,10 @@ point_stands channels h file p row m s (is, given, r) =
     let own : channels_number p.channels ≡ c = ap channels_number r.channels in
     let (gone, stands, so_far) = r.unread.goes_on s.some in
     let run : m.run ≡ p.unread.run / c = s.run ∙ ap (λ k. p.unread.run / k) own in
-    let left : m.left ≡ p.unread.undecoded / c = s.left ∙ ap (λ k. p.unread.undecoded / k) own in
-    let whole : p.unread.undecoded % c ≡ 0 = ap (λ k. p.unread.undecoded % k) (sym own) ∙ s.whole in
-    let some : p.unread.undecoded ≡ c * m.left = whole_pixels c p.unread.undecoded is_c whole ∙ ap (λ k. c * k) (sym left) in
-    let size : length (given ++ kept_raw p.unread) + p.unread.undecoded ≡ c * pixel_count h =
+    let left : m.left ≡ p.unread.unstored / c = s.left ∙ ap (λ k. p.unread.unstored / k) own in
+    let whole : p.unread.unstored % c ≡ 0 = ap (λ k. p.unread.unstored % k) (sym own) ∙ s.whole in
+    let some : p.unread.unstored ≡ c * m.left = whole_pixels c p.unread.unstored is_c whole ∙ ap (λ k. c * k) (sym left) in
+    let size : length (given ++ kept_raw p.unread) + p.unread.unstored ≡ c * pixel_count h =
     omega (arith, r.unread.size, length-append given (kept_raw p.unread), kept_long p.unread s.within) in
     record {
       cs = stands.cs;
@@ -48,16 +48,16 @@ point_stands channels h file p row m s (is, given, r) =
       pixels = stands.pixels ∙ ap (λ z. z ++ gone) (sym (copies_of c p.unread.run p.unread.last m.run m.last run s.last));
       table = s.table (then_chunks [] stands.cs) (subst (HoldsSeen p.unread.table) (sym stands.pixels) stands.has_seen.table_is);
       last = s.last ∙ stands.has_seen.last_is ∙ ap previous (sym stands.pixels);
-      left = (gone_count f c (pixel_count h) m.left gone (given ++ kept_raw p.unread) p.unread.undecoded is_c so_far size).0 some;
+      left = (gone_count f c (pixel_count h) m.left gone (given ++ kept_raw p.unread) p.unread.unstored is_c so_far size).0 some;
     }
 
 -- the bytes of all pixels are those before the point and behind it
-all_bytes : (c gone left n given undecoded : ℕ) → IsChannels c → given ≡ c * gone → undecoded ≡ left * c → gone + left ≡ n → given + undecoded ≡ c * n
-all_bytes c gone left n given undecoded is g u all = grind (arith, is)
+all_bytes : (c gone left n given unstored : ℕ) → IsChannels c → given ≡ c * gone → unstored ≡ left * c → gone + left ≡ n → given + unstored ≡ c * n
+all_bytes c gone left n given unstored is g u all = grind (arith, is)
 
 -- fewer pixels have fewer bytes, and some have some
-fewer_bytes : (c run left bytes undecoded : ℕ) → IsChannels c → bytes ≡ run * c → undecoded ≡ left * c → run < left → bytes < undecoded
-fewer_bytes c run left bytes undecoded is a b less = grind (arith, is)
+fewer_bytes : (c run left bytes unstored : ℕ) → IsChannels c → bytes ≡ run * c → unstored ≡ left * c → run < left → bytes < unstored
+fewer_bytes c run left bytes unstored is a b less = grind (arith, is)
 
 -- the file behind the point is the rest of its chunks
 rest_at : (file : List ℕ) (n : ℕ) (m : PointState) (p : StandsAt n file m) → drop m.at file ≡ p.rest
@@ -88,9 +88,9 @@ point_resumes channels h file m q s is p =
       has_seen = record { table_is = subst (HoldsSeen q.unread.table) all (s.table (then_chunks [] p.cs) p.table); last_is = s.last ∙ p.last ∙ ap previous all };
     } in
     let size : length given ≡ c * length p.gone = length-output_reverse f c p.gone is_c in
-    let more : q.unread.run < q.unread.undecoded = fewer_bytes c m.run m.left q.unread.run q.unread.undecoded is_c s.run s.left s.behind in
+    let more : q.unread.run < q.unread.unstored = fewer_bytes c m.run m.left q.unread.run q.unread.unstored is_c s.run s.left s.behind in
     let unread : IsUnread f c n start (Some q.reader) given q.unread = record {
-      size = omega (arith, all_bytes c (length p.gone) m.left n (length given) q.unread.undecoded is_c size s.left p.left, s.none);
+      size = omega (arith, all_bytes c (length p.gone) m.left n (length given) q.unread.unstored is_c size s.left p.left, s.none);
       goes_on = λ some. (p.gone, after, none_kept q.unread given (omega (arith, s.none)));
       ends = λ none. absurd (omega (arith, none, more));
     } in

@@ -216,9 +216,9 @@ point_at h file row p m s (is, given, r) here =
     let c = channels_number h.channels in
     let is_c = channels_are h.channels c refl in
     let own : channels_number p.channels ≡ c = ap channels_number r.channels in
-    let whole : p.unread.undecoded % c ≡ 0 = ap (λ k. p.unread.undecoded % k) (sym own) ∙ s.whole in
-    let some : p.unread.undecoded ≡ c * m.left =
-    whole_pixels c p.unread.undecoded is_c whole ∙ ap (λ k. c * k) (ap (λ k. p.unread.undecoded / k) (sym own) ∙ sym s.left) in
+    let whole : p.unread.unstored % c ≡ 0 = ap (λ k. p.unread.unstored % k) (sym own) ∙ s.whole in
+    let some : p.unread.unstored ≡ c * m.left =
+    whole_pixels c p.unread.unstored is_c whole ∙ ap (λ k. c * k) (ap (λ k. p.unread.unstored / k) (sym own) ∙ sym s.left) in
     record {
       row_is = s.row_is;
       below = fewer_pixels c h.width (h.height - row) m.left (kept_count p.unread) (unread_bytes p) is_c here (omega (arith, some));

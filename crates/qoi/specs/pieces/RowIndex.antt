@@ -112,14 +112,14 @@ IsNearest channels h first points p = (k : ℕ) (m : PointState) → k < length 
 -- the point behind what a reader keeps, noted for this row, of which some pixels are to come
 pub record IsPointOf (file : List ℕ) (row : ℕ) (p : PixelsState (List ℕ)) (m : PointState) : Type 0 where
   pub row_is : m.row ≡ row
-  pub some : 0 < p.unread.undecoded
+  pub some : 0 < p.unread.unstored
   pub few : kept_count p.unread ≤ decoded_ahead
   pub within : KeepsWithin p.unread
-  pub whole : p.unread.undecoded % channels_number p.channels ≡ 0
+  pub whole : p.unread.unstored % channels_number p.channels ≡ 0
   pub table : (past : Past) → HoldsSeen p.unread.table past → Holds m.table past
   pub last : m.last ≡ pixel_of_lanes p.unread.last
   pub at : m.at ≡ length file - length p.reader
-  pub left : m.left ≡ p.unread.undecoded / channels_number p.channels
+  pub left : m.left ≡ p.unread.unstored / channels_number p.channels
   pub run : m.run ≡ p.unread.run / channels_number p.channels
 
 -- a reader that goes on at a point, with these bytes ahead and into these channels
@@ -133,6 +133,6 @@ pub record GoesOnAt (c : Channels) (h : Header) (rest : List ℕ) (m : PointStat
   pub pixels : OwesWholePixels (channels_number c) q.unread
   pub table : (past : Past) → Holds m.table past → HoldsSeen q.unread.table past
   pub last : pixel_of_lanes q.unread.last ≡ m.last
-  pub left : q.unread.undecoded ≡ m.left * channels_number c
+  pub left : q.unread.unstored ≡ m.left * channels_number c
   pub run : q.unread.run ≡ m.run * channels_number c
   pub behind : m.run < m.left

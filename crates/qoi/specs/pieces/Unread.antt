@@ -18,9 +18,9 @@ kept_count p = p.to - p.from
 abbrev pub kept_raw : Unread → List ℕ
 kept_raw p = take (kept_count p) (drop p.from p.bytes)
 
--- how many bytes of the image aren't given yet: `undecoded` counts the rest of a run, too
+-- how many bytes of the image aren't given yet: `unstored` counts the rest of a run, too
 abbrev pub bytes_left : Unread → ℕ
-bytes_left p = kept_count p + p.undecoded
+bytes_left p = kept_count p + p.unstored
 
 -- the kept bytes lie in their array
 abbrev pub KeepsWithin : Unread → Type 0
@@ -32,8 +32,8 @@ KeepsNothing p = (kept_count p ≡ 0) × (p.run ≡ 0)
 
 -- the kept bytes lie there, those that aren't stored are whole pixels, and others follow those of a run
 abbrev pub OwesWholePixels : ℕ → Unread → Type 0
-OwesWholePixels channels p = KeepsWithin p × (p.undecoded % channels ≡ 0) × (p.run % channels ≡ 0) × (p.run ≤ channels * run_max)
-    × (0 < p.run → p.run < p.undecoded)
+OwesWholePixels channels p = KeepsWithin p × (p.unstored % channels ≡ 0) × (p.run % channels ≡ 0) × (p.run ≤ channels * run_max)
+    × (0 < p.run → p.run < p.unstored)
 
 -- what is unread of an image of this header in these channels: no more than all of it, as `OwesWholePixels`
 -- says unless the image was refused, and `fault` has no error
@@ -51,9 +51,9 @@ LacksRun f c start now table last run bytes =
 pub record IsUnread (file_channels channels n : ℕ) (start now : Option (List ℕ)) (given : List ℕ) (p : Unread) : Type 0 where
   pub size : length given + bytes_left p ≡ channels * n
   -- pixels are missing, and all bytes of those so far were given or are kept, but for those of a run
-  pub goes_on : 0 < p.undecoded → LacksRun file_channels channels start now p.table p.last p.run (given ++ kept_raw p)
+  pub goes_on : 0 < p.unstored → LacksRun file_channels channels start now p.table p.last p.run (given ++ kept_raw p)
   -- or the image and the end marker were read
-  pub ends : p.undecoded ≡ 0 → ReadsImage file_channels channels n start now (given ++ kept_raw p)
+  pub ends : p.unstored ≡ 0 → ReadsImage file_channels channels n start now (given ++ kept_raw p)
 
 -- A step gave the first `size` bytes of `out`: of each image they follow those that were given before.
 pub record GivesMore (file_channels channels : ℕ) (ahead rest : Option (List ℕ)) (old new : Unread) (out : List ℕ) (size : ℕ) : Type 0 where

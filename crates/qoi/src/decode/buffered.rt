@@ -18,9 +18,10 @@ use crate::error::{Error, Result};
 use std::io;
 use std::io::BufRead;
 
-// Decodes chunks from what the reader's buffer shows, after what others reached, while there is room
-// ahead, and takes just those. The reader is asked for its buffer only while pixels are missing, so
-// a fault leaves the image cut, and so does the reader's end: behind either it isn't asked again.
+// Decodes chunks from what the reader's buffer shows, after what others reached, while it shows
+// `INPUT_ROOM` and `OUTPUT_ROOM` is open, and takes just those. The reader is asked for its buffer
+// only while pixels are missing, so a fault leaves the image cut, and so does the reader's end:
+// behind either it isn't asked again.
 #[inline(always)]
 fn chunks_in_buffer<R: BufRead, const N: usize, const F: usize>(
     reader: &mut R,

@@ -119,18 +119,18 @@ impl<const N: usize, const F: usize> Progress<N, F> {
         }
     }
 
-    /// Decodes short chunks that follow each other, `AT_ONCE` at most: one or four. `short_series`
-    /// has all of them that `fast_loop` tests room for.
+    /// Decodes short chunks that follow each other, `MOST` at most: one or four. `short_series`
+    /// decodes up to as many as `fast_loop` tests room for.
     #[inline(always)]
-    pub(super) fn short_chunks<const AT_ONCE: usize>(
+    pub(super) fn short_chunks<const MOST: usize>(
         self,
         table: &mut TermTable,
         bytes: &[u8],
         out: &mut [u8],
     ) -> Self
-        requires most { (AT_ONCE ≡ 1) ⊎ (AT_ONCE ≡ 4) }
-        requires ahead { HasAhead 9 (16 * AT_ONCE) bytes.now out.old self }
-        ensures step { FastStep 0 (2 * AT_ONCE) (16 * AT_ONCE) bytes.now
+        requires most { (MOST ≡ 1) ⊎ (MOST ≡ 4) }
+        requires ahead { HasAhead 9 (16 * MOST) bytes.now out.old self }
+        ensures step { FastStep 0 (2 * MOST) (16 * MOST) bytes.now
             self.entry table.old out.old result table.new out.new }
         ensures some { result.next ≤ run_tag - 1 + 16 / N → self.entry.taken < result.taken }
     {
@@ -138,7 +138,7 @@ impl<const N: usize, const F: usize> Progress<N, F> {
             return self;
         }
         let one = self.short_chunk::<0>(table, bytes, out);
-        if AT_ONCE == 1 || !is_short::<N>(one.next) {
+        if MOST == 1 || !is_short::<N>(one.next) {
             return one.taken_further(1);
         }
         let two = one.short_chunk::<1>(table, bytes, out);

@@ -80,7 +80,7 @@ pub(super) fn take_in_place<const N: usize, const F: usize>(
         taken: 0,
         reached: from,
     };
-    // `out` is never so short here (`IN_PLACE`): that is tested for the prover.
+    // `out` is never so short here (`LONG_PIECE`): that is tested for the prover.
     if bytes.len() < INPUT_ROOM || out.len() < OUTPUT_ROOM {
         return (start, 0);
     }

@@ -102,7 +102,7 @@ impl<R: Reader> Decoder<R> {
     }
 
     // Fills `out` with the next bytes of the image: with what is kept, and else by the reader. It
-    // may end within a pixel, but what stays undecoded are whole pixels.
+    // may end within a pixel, but what stays unstored are whole pixels.
     #[inline(always)]
     fn next_piece(&mut self, unread: &mut Unread, out: &mut [u8]) -> PieceResult<()>
         requires fits { length out.old ≤ bytes_left unread.old }

@@ -134,8 +134,8 @@ pub trait Reader: Sized {
     /// `decode_more` of `unread`, from this reader and in these channels. After a refusal the error
     /// stands in `unread`, and of bytes in memory none are taken.
     ///
-    /// Only `PixelReader` can call it, and no other type can be a reader, since nobody else has an
-    /// `Unread`.
+    /// Only the module `pixel_reader` can call it, and no other type can be a reader, since nobody
+    /// else has an `Unread`.
     #[doc(hidden)]
     fn decode_piece(
         &mut self,

@@ -98,7 +98,8 @@ fn write_full_runs<'a, 'p, const N: usize, const ROOM: usize>(
 }
 
 // Writes what is at the front, in one of four ways:
-// - if the block repeats whole, the full runs of the repeats there, if any (`write_full_runs`);
+// - if each of the block's pixels repeats, the full runs of the repeats there, if any
+//   (`write_full_runs`);
 // - if few of its pixels are fresh, the block, from one to the next of them (`goes_by_marks`);
 // - if in style `Tight` a pixel may be given by another index position than its own, repeats and
 //   the fresh pixel after them;
@@ -181,9 +182,10 @@ pub(super) fn write_blocks<'a, 'p, const N: usize, const STYLE: u8, const ROOM: 
 }
 
 /// Writes the front of these pixels, a block or more that don't go by blocks (`goes_by_blocks`),
-/// also in mid-image: the repeats that wait, those at the front and the fresh pixel after them, or
-/// of over 992 repeats only full runs. Returns the piece, and the rest. It isn't inlined: in one
-/// function with it the loop over blocks would be slower.
+/// also in mid-image: the repeats that wait, those at the front and the fresh pixel after them; but
+/// only full runs if over 992 repeat, or if no pixel is left behind the repeats: those behind the
+/// full runs then wait. Returns the piece, and the rest. It isn't inlined: in one function with it
+/// the loop over blocks would be slower.
 #[inline(never)]
 pub(super) fn write_one_group<'a, 'p, const N: usize, const ROOM: usize>(
     state: &mut ImageState,

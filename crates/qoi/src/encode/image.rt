@@ -81,9 +81,10 @@ fn fill_in_channels<'a, 'p, const N: usize, const ROOM: usize>(
 }
 
 // Writes the front of whole pixels, which are a block or more, into the piece: by blocks, until it
-// is full or no block is left (`write_blocks`); or only one group, the repeats and the fresh pixel
-// at the front (`write_one_group`), after which neither need be so. Returns the piece, and the
-// rest. Which of the two ways it goes is asked mostly once a piece (`fill_in_channels`).
+// is full or no block is left (`write_blocks`); or only one group, the repeats at the front and the
+// fresh pixel after them, if one comes (`write_one_group`), after which neither need be so. Returns
+// the piece, and the rest. Which of the two ways it goes is asked mostly once a piece
+// (`fill_in_channels`).
 #[inline(always)]
 fn fill_piece<'a, 'p, const ROOM: usize>(
     state: &mut ImageState,

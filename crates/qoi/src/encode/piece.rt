@@ -15,10 +15,9 @@ use crate::utils::{copy_after, pick};
 use crate::writers::Writer;
 use std::simd::prelude::*;
 
-/// How many bytes of a piece's room come after the first `ROOM - SPARE`, which make it full and are
-/// sent at once: for what goes past those (the chunks of a block, runs, or the last chunks and the
-/// end marker), and for what is stored after that and isn't sent, such as a block's index
-/// positions.
+/// A piece with `ROOM - SPARE` bytes is full, and sends these at once. So many bytes of room come
+/// behind them: for the chunks that go past them (of a block, runs, or the last ones), the end
+/// marker, and what is stored behind and never sent, such as a block's index positions.
 pub(super) const SPARE: usize = 128;
 
 /// How many bytes a piece in `LARGE_ROOM` sends at once.

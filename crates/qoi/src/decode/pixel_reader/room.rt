@@ -1,7 +1,7 @@
 //! How many bytes of an image are decoded at once, and the calls that do it.
 ghost use Rattle.std.specs.Prelude.{true, ◌≡◌, ◌+◌, ◌-◌, ◌%◌, ◌<◌, ◌≤◌, length, take, IfOk, IfErr, OnOk};
 ghost use Rattle.qoi.specs.Raw.{IsChannels};
-ghost use Rattle.qoi.specs.declared.decode.pixel_reader.room.TheConstants.{DECODED_AHEAD, IN_PLACE};
+ghost use Rattle.qoi.specs.declared.decode.pixel_reader.room.TheConstants.{DECODED_AHEAD, LONG_PIECE};
 ghost use Rattle.qoi.specs.inner.Chunks.{TakesChunks, RefusesFilling, ReadsRest, RefusesRest};
 ghost use Rattle.qoi.specs.inner.Filling.{RUN_ROOM, reached, filling};
 
@@ -21,17 +21,17 @@ pub(super) const DECODED_AHEAD: usize = 3072;
 /// follows it, what a slice or a reader's buffer shows is decoded in place (`take_in_place`, which
 /// doesn't ask for `SHORT_OUTPUT`). Into what is open then, or all if less follows, `some_chunks`
 /// decodes at least as long as any run fits (`RUN_ROOM`).
-pub(super) const IN_PLACE: usize = 512;
+pub(super) const LONG_PIECE: usize = 512;
 
-/// The room to decode ahead into, if as much is left of the image, for a piece that asks for `asked`
-/// bytes behind kept ones, of which the first `filled` are decoded: all that can be kept if none of
-/// them are, else what the piece lacks (little, behind `Unread::decode_while_runs_fit`) and room for
-/// a run, in whole pixels.
+/// The room to decode ahead into, if as much is left of the image, for a piece that asks for
+/// `asked` bytes behind kept ones, of which the first `filled` are decoded: all that can be kept if
+/// none of them are, else what the piece lacks (little, behind `Unread::decode_while_runs_fit`) and
+/// room for a run, in whole pixels.
 #[inline]
 pub(super) fn kept_room(asked: usize, filled: usize) -> usize
     requires within { filled ≤ asked }
     requires last { 0 < filled → asked < filled + (RUN_ROOM + 3) }
-    requires short { filled ≡ 0 → asked < IN_PLACE }
+    requires short { filled ≡ 0 → asked < LONG_PIECE }
     ensures within { result ≤ DECODED_AHEAD }
     ensures whole { result % 12 ≡ 0 }
     ensures enough { asked - filled + RUN_ROOM ≤ result }

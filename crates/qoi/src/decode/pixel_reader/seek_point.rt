@@ -104,30 +104,30 @@ pub(super) fn size_in(channels: Channels, pixels: usize) -> usize
 }
 
 // How many raw bytes of the image aren't decoded: some, if more are left than a reader keeps.
-fn undecoded(unread: &Unread) -> usize
+fn unstored(unread: &Unread) -> usize
     requires { KeepsWithin unread.now }
-    ensures same { result ≡ unread.now.undecoded }
+    ensures same { result ≡ unread.now.unstored }
     ensures some { decoded_ahead < bytes_left unread.now → 0 < result }
     ensures few { kept_count unread.now ≤ decoded_ahead }
 {
-    unread.undecoded
+    unread.unstored
 }
 
 impl SeekPoint {
-    /// The point behind what a reader of the file keeps, noted for this row. It isn't the end of the
-    /// image, since more is left than a reader keeps.
+    /// The point behind what a reader of the file keeps, noted for this row. It isn't the end of
+    /// the image, since more is left than a reader keeps.
     pub(super) fn of(file: &[u8], reader: &PixelReader<Bytes<'_>>, row: u32) -> SeekPoint
         requires going { reader.now.refused ≡ false }
         requires some { decoded_ahead < bytes_left reader.now.unread }
         ensures { IsPointOf file.now row reader.now result }
     {
         let channels = reader.decoder.channels.as_u8() as usize;
-        let undecoded = undecoded(&reader.unread);
+        let unstored = unstored(&reader.unread);
         SeekPoint {
             table: pixels_of(&reader.unread.table),
             last: packed(reader.unread.last),
             at: file.len().saturating_sub(reader.decoder.reader.0.len()),
-            undecoded_pixels: undecoded / channels,
+            undecoded_pixels: unstored / channels,
             run_pixels: reader.unread.run / channels,
             row,
         }

@@ -3,21 +3,21 @@
 ghost use Rattle.std.specs.Prelude.{◌≡◌, ℕ, ◌+◌, ◌-◌, ◌*◌, ◌%◌, ◌^◌, ◌<◌, ◌≤◌, List, [], length, min, Option, Some, IfOk, OnOk, IfSome, None};
 ghost use Rattle.qoi.specs.Raw.{IsChannels};
 ghost use Rattle.qoi.specs.inner.Filling.{RUN_ROOM};
-ghost use Rattle.qoi.specs.declared.decode.pixel_reader.room.TheConstants.{DECODED_AHEAD, IN_PLACE};
+ghost use Rattle.qoi.specs.declared.decode.pixel_reader.room.TheConstants.{DECODED_AHEAD, LONG_PIECE};
 
 use crate::decode::chunks::Chunks;
 use crate::decode::hashed::Hashed;
 use crate::decode::output::{RUN_ROOM, store_run};
 use crate::decode::pixel_reader::room::{
-    DECODED_AHEAD, IN_PLACE, keep_rest_of_image, keep_some_chunks, kept_room,
+    DECODED_AHEAD, LONG_PIECE, keep_rest_of_image, keep_some_chunks, kept_room,
 };
 use crate::decode::reached::Reached;
 use crate::decode::table::TermTable;
 use crate::error::Error;
 
-/// What is unread of an image: the stored `bytes` from `from` to `to`, and `undecoded` raw bytes,
+/// What is unread of an image: the stored `bytes` from `from` to `to`, and `unstored` raw bytes,
 /// of which the first `run` are copies of the last pixel, the rest of its run; `run` and, until a
-/// refusal, `undecoded` are whole pixels. While some are undecoded, table and last pixel are those
+/// refusal, `unstored` are whole pixels. While some are unstored, table and last pixel are those
 /// behind all chunks so far. After a refusal its error stands in `fault`, until it is returned.
 #[derive(Drop)]
 pub struct Unread {
@@ -27,7 +27,7 @@ pub struct Unread {
     pub(super) from: usize,
     pub(super) to: usize,
     pub(super) run: usize,
-    pub(super) undecoded: usize,
+    pub(super) unstored: usize,
     pub(super) fault: Option<Error>,
 }
 
@@ -51,19 +51,19 @@ impl Unread {
         ensures pixels { (c n : ℕ) → IsChannels c → size ≡ c * n → OwesWholePixels c result }
         ensures left { bytes_left result ≡ size }
         ensures within { KeepsWithin result }
-        ensures undecoded { (result.undecoded ≡ size) × (result.run ≡ 0) }
+        ensures unstored { (result.unstored ≡ size) × (result.run ≡ 0) }
         ensures fault { result.fault ≡ None }
     {
         Unread::behind(TermTable::new(), Hashed::start(), 0, size)
     }
 
-    /// So many raw bytes of an image, `undecoded`, behind chunks that left this table and this last
+    /// So many raw bytes of an image, `unstored`, behind chunks that left this table and this last
     /// pixel. The first `run` of them are the rest of the last chunk's run.
     #[inline(always)]
-    pub(super) fn behind(table: TermTable, last: Hashed, run: usize, undecoded: usize) -> Unread
+    pub(super) fn behind(table: TermTable, last: Hashed, run: usize, unstored: usize) -> Unread
         ensures chunks { (result.table ≡ table) × (result.last ≡ last) }
         ensures none { (result.from ≡ 0) × (result.to ≡ 0) }
-        ensures undecoded { (result.run ≡ run) × (result.undecoded ≡ undecoded) }
+        ensures unstored { (result.run ≡ run) × (result.unstored ≡ unstored) }
         ensures fault { result.fault ≡ None }
     {
         Unread {
@@ -73,7 +73,7 @@ impl Unread {
             from: 0,
             to: 0,
             run,
-            undecoded,
+            unstored,
             fault: None,
         }
     }
@@ -97,7 +97,7 @@ impl Unread {
         requires fits { bytes_left self.now < 2 ^ 64 }
         ensures { result ≡ bytes_left self.now }
     {
-        self.to - self.from + self.undecoded
+        self.to - self.from + self.unstored
     }
 
     // Puts the error of a refusal into `fault`.
@@ -123,7 +123,7 @@ impl Unread {
         self.from = 0;
         self.to = 0;
         self.run = 0;
-        self.undecoded = left;
+        self.unstored = left;
         match self.fault.take() {
             Some(e) => e,
             None => Error::UnexpectedBufferEnd,
@@ -163,7 +163,7 @@ impl Unread {
         store_run::<N, F>(&mut self.bytes, 0, self.last, self.run / N);
         self.from = 0;
         self.to = self.run;
-        self.undecoded -= self.run;
+        self.unstored -= self.run;
         self.run = 0;
     }
 
@@ -203,8 +203,8 @@ impl Unread {
             self.old self.new out.new (λ size. size) result }
         ensures none { IfOk result (λ size. size < length out.new → KeepsNothing self.new) }
     {
-        // `out` is no longer than what is undecoded, since nothing is kept (`Asks`).
-        if out.len() < IN_PLACE || self.undecoded - out.len() < RUN_ROOM {
+        // `out` has at most `unstored` bytes, since nothing is kept (`Asks`).
+        if out.len() < LONG_PIECE || self.unstored - out.len() < RUN_ROOM {
             return Ok(self.give_run::<N, F>(out));
         }
         let size = out.len() / N * N;
@@ -218,8 +218,8 @@ impl Unread {
         };
         self.last = now.last;
         self.run = run;
-        // `now.at` includes the run stored above, which counted as undecoded.
-        self.undecoded -= now.at;
+        // `now.at` includes the run stored above, which counted as unstored.
+        self.unstored -= now.at;
         if now.at == out.len() {
             return Ok(now.at);
         }
@@ -227,9 +227,10 @@ impl Unread {
         Ok(now.at + self.give_run::<N, F>(&mut out[now.at..]))
     }
 
-    // Decodes chunks into `out`, a piece without its first `done` bytes, at least as long as any
-    // run has room, and returns how many bytes: 0 below `RUN_ROOM` (as mostly from a slice), or
-    // below `IN_PLACE` if `done` is 0, since a short piece is given from kept bytes.
+    // Decodes chunks into `out`, what is open of a piece behind its first `done` bytes, and returns
+    // how many bytes. It doesn't stop while `RUN_ROOM` is open, and may go on nearer to the end. It
+    // decodes none below `RUN_ROOM` (as mostly behind `decode_in_place` of a slice), or below
+    // `LONG_PIECE` if `done` is 0, since a short piece is given from kept bytes.
     #[inline]
     fn decode_while_runs_fit<R: Chunks<N, F>, const N: usize, const F: usize>(
         &mut self,
@@ -242,12 +243,12 @@ impl Unread {
         requires run { self.old.run ≡ 0 }
         ensures step { Steps F N R.in_memory (R.ahead reader.old) (R.ahead reader.new)
             self.old self.new out.new (λ size. size) result }
-        ensures few { IfOk result (λ size. length out.new < size + IN_PLACE) }
+        ensures few { IfOk result (λ size. length out.new < size + LONG_PIECE) }
         ensures last { IfOk result (λ size. 0 < done + size
             → length out.new < size + (RUN_ROOM + 3)) }
         ensures none { OnOk result (KeepsNothing self.new) }
     {
-        if out.len() < RUN_ROOM || (done == 0 && out.len() < IN_PLACE) {
+        if out.len() < RUN_ROOM || (done == 0 && out.len() < LONG_PIECE) {
             return Ok(0);
         }
         let size = out.len() / N * N;
@@ -258,7 +259,7 @@ impl Unread {
             Err(e) => return Err(self.fail(e)),
         };
         self.last = now.last;
-        self.undecoded -= now.at;
+        self.unstored -= now.at;
         Ok(now.at)
     }
 
@@ -274,15 +275,15 @@ impl Unread {
         requires room { (0 < room) × (room ≤ DECODED_AHEAD) }
         requires whole { room % N ≡ 0 }
         requires none { KeepsNothing self.old }
-        requires some { 0 < self.old.undecoded }
+        requires some { 0 < self.old.unstored }
         requires pixels { OwesWholePixels N self.old }
         ensures step { Steps F N R.in_memory (R.ahead reader.old) (R.ahead reader.new)
             self.old self.new [] (λ _. 0) result }
         ensures enough { OnOk result
-            (min self.old.undecoded (room - RUN_ROOM) ≤ kept_count self.new) }
+            (min self.old.unstored (room - RUN_ROOM) ≤ kept_count self.new) }
     {
         self.from = 0;
-        if DECODED_AHEAD < self.undecoded {
+        if DECODED_AHEAD < self.unstored {
             let some = keep_some_chunks::<R, N, F>(
                 reader,
                 &mut self.table,
@@ -296,10 +297,10 @@ impl Unread {
             };
             self.last = now.last;
             self.to = now.at;
-            self.undecoded -= now.at;
+            self.unstored -= now.at;
             return Ok(());
         }
-        let size = self.undecoded;
+        let size = self.unstored;
         let rest = keep_rest_of_image::<R, N, F>(
             reader,
             &mut self.table,
@@ -311,7 +312,7 @@ impl Unread {
             return Err(self.fail(e));
         }
         self.to = size;
-        self.undecoded = 0;
+        self.unstored = 0;
         Ok(())
     }
 

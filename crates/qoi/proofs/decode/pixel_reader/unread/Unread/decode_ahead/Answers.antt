@@ -12,22 +12,22 @@ use Rattle.qoi.proofs.decode.pixel_reader.unread.Unread.decode_ahead.Goals as go
 
 -- the front of all room is lent
 room_lent : {f c n : ℕ} {start old : Option (List ℕ)} {given : List ℕ} (p : Unread) (room : ℕ) → IsChannels c → IsUnread f c n start old given p
-    → KeepsNothing p → room ≤ length p.bytes → room % c ≡ 0 → room < p.undecoded → Lent f c n (room / c) start old given p (take room p.bytes) 0
+    → KeepsNothing p → room ≤ length p.bytes → room % c ≡ 0 → room < p.unstored → Lent f c n (room / c) start old given p (take room p.bytes) 0
 room_lent {c = c} p room is h same within whole long =
     let front = length-take-le room p.bytes within in
     lent (room / c) (take room p.bytes) is h same (omega (arith, long)) (front ∙ whole_pixels c room is whole) (omega (arith, front, long))
 
 -- room for the rest is
 rest_lent : {f c n : ℕ} {start old : Option (List ℕ)} {given : List ℕ} (p : Unread) → IsChannels c → IsUnread f c n start old given p
-    → KeepsNothing p → length p.bytes ≡ decoded_ahead → 0 < p.undecoded → p.undecoded ≤ decoded_ahead
-    → Lent f c n (p.undecoded / c) start old given p (take p.undecoded p.bytes) 0
+    → KeepsNothing p → length p.bytes ≡ decoded_ahead → 0 < p.unstored → p.unstored ≤ decoded_ahead
+    → Lent f c n (p.unstored / c) start old given p (take p.unstored p.bytes) 0
 rest_lent {c = c} p is h same size some short =
-    let front = length-take-le p.undecoded p.bytes (omega (arith, size, short)) in
-    lent (p.undecoded / c) (take p.undecoded p.bytes) is h same some (front ∙ rest_whole is h same.0 some) (omega (arith, front))
+    let front = length-take-le p.unstored p.bytes (omega (arith, size, short)) in
+    lent (p.unstored / c) (take p.unstored p.bytes) is h same some (front ∙ rest_whole is h same.0 some) (omega (arith, front))
 
 -- of an image of which no more bytes are left than may be decoded ahead, only all pixels are enough
 all_enough : {f c n all : ℕ} {start old : Option (List ℕ)} {given : List ℕ} {p : Unread} → IsChannels c → IsUnread f c n start old given p → KeepsNothing p
-    → p.undecoded ≤ decoded_ahead → AreEnough c n (length given + 0) all → n ≡ all
+    → p.unstored ≤ decoded_ahead → AreEnough c n (length given + 0) all → n ≡ all
 all_enough {n = n} {all} {given = given} {p} is h same short enough =
     grind (arith, is, h.size, same, short, enough.0, enough.1)
 
@@ -43,13 +43,13 @@ returns-then-self-gt-DECODED_AHEAD-clause-step g c =
     let now = c.in-Ok.now in
     let old : length c.args.self.now.bytes ≡ decoded_ahead = omega arith in
     let within : c.args.room ≤ length c.args.self.now.bytes = omega (arith, old, c.requires.room.1) in
-    let whole = minus_whole g.row.N c.args.self.now.undecoded now.at c.requires.channels pixels.1 c.in-Ok.ensures.read.goes_on.fillable.whole.1 in
+    let whole = minus_whole g.row.N c.args.self.now.unstored now.at c.requires.channels pixels.1 c.in-Ok.ensures.read.goes_on.fillable.whole.1 in
     let size = length-take-le c.args.room out (omega (arith, within, c.keep_some_chunks-some.auto.out)) in
     let below = c.in-Ok.ensures.read.goes_on.below refl (omega (arith, size, length-take-le c.args.room c.args.self.now.bytes within, c.requires.room.0)) in
     gives_none (λ n start given h.
     let l = room_lent c.args.self.now c.args.room c.requires.channels h c.requires.none within c.requires.whole (omega (arith, c.if-self-gt-DECODED_AHEAD.true, c.requires.room.1)) in
     subst (λ z. IsUnread g.row.F g.row.N n start (g.R.Chunks.ahead c.keep_some_chunks-some.new.reader) given
-    (record c.args.self.now { table = c.keep_some_chunks-some.new.table; last = now.last; bytes = z; from = 0; to = now.at; undecoded = c.args.self.now.undecoded - now.at })) (take-append-drop c.args.room out)
+    (record c.args.self.now { table = c.keep_some_chunks-some.new.table; last = now.last; bytes = z; from = 0; to = now.at; unstored = c.args.self.now.unstored - now.at })) (take-append-drop c.args.room out)
     (kept_read (take c.args.room out) (drop c.args.room out) c.requires.channels h c.requires.none l (c.in-Ok.ensures.read.goes_on.between l.gone _ _ l.before)
     below (omega (arith, size, c.if-self-gt-DECODED_AHEAD.true, c.requires.room.1))))
     ((omega arith, omega (arith, below, size, c.requires.room.1)), whole, pixels.2, pixels.3, λ some. absurd (omega (arith, some, c.requires.none)))
@@ -69,7 +69,7 @@ pub returns-clause-step : goal.returns-clause-step
 returns-clause-step g c =
     let pixels = c.requires.pixels in
     let size : length c.args.self.now.bytes ≡ decoded_ahead = omega arith in
-    let short : c.args.self.now.undecoded ≤ decoded_ahead = omega (arith, c.if-self-gt-DECODED_AHEAD.false) in
+    let short : c.args.self.now.unstored ≤ decoded_ahead = omega (arith, c.if-self-gt-DECODED_AHEAD.false) in
     gives_none (λ n start given h.
     let l = rest_lent c.args.self.now c.requires.channels h c.requires.none size c.requires.some short in
     rest_read c.keep_rest_of_image-rest.new.out c.requires.channels h c.requires.none l (c.in_default.ensures.read l.gone _ _ l.before)

@@ -25,7 +25,7 @@ returns-clause-step g c =
     let same : KeepsNothing c.args.self.now = (c.requires.asks.none, c.requires.run) in
     let size : length c.some_chunks.new.out ≡ length (take (length out / g.row.N * g.row.N) out) = c.some_chunks.auto.out in
     let pixels = c.requires.asks.pixels in
-    let whole = minus_whole g.row.N c.args.self.now.undecoded c.in-Ok.now.at c.requires.channels pixels.1 c.in-Ok.ensures.read.goes_on.fillable.whole.1 in
+    let whole = minus_whole g.row.N c.args.self.now.unstored c.in-Ok.now.at c.requires.channels pixels.1 c.in-Ok.ensures.read.goes_on.fillable.whole.1 in
     record {
       read = λ n start given h.
           let l = front_lent c.args.self.now out c.requires.channels h same c.requires.asks.fits (omega (arith, long)) in

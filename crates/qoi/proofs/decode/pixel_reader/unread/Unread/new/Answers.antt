@@ -1,4 +1,4 @@
--- No chunk was taken and no byte given, and all of the image is undecoded.
+-- No chunk was taken and no byte given, and all of the image is unstored.
 use Rattle.std.proofs.Common.{◌∙◌, [], sym, ap, subst, refl, arith}
 use Rattle.std.proofs.KnownBytes.{Consumes-nil}
 use Rattle.qoi.specs.inner.Filling.{DecoderAfter}
@@ -18,11 +18,11 @@ returns-clause-start c f k n start is size =
       has_seen = record { table_is = subst (λ t. HoldsSeen t []) (sym made.chunks.0) c.new.ensures; last_is = ap pixel_of_lanes made.chunks.1 ∙ c.start.ensures };
     } in
     record {
-      size = omega (arith, size, made.none.0, made.none.1, made.undecoded.1);
+      size = omega (arith, size, made.none.0, made.none.1, made.unstored.1);
       goes_on = λ some. (
         [],
-        subst (DecoderAfter start start u.table u.last) (sym (no_copies k u.run u.last [] is made.undecoded.0)) after,
+        subst (DecoderAfter start start u.table u.last) (sym (no_copies k u.run u.last [] is made.unstored.0)) after,
         none_kept u [] (omega (arith, made.none.0, made.none.1)),
       );
-      ends = λ none. absurd (omega (arith, none, made.undecoded.1, c.requires));
+      ends = λ none. absurd (omega (arith, none, made.unstored.1, c.requires));
     }
