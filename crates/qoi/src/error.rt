@@ -46,8 +46,9 @@ pub enum Error {
         size: usize,
         required: usize,
     },
-    /// The input slice ends before header, chunks and end marker are whole, a mark or a row isn't in
-    /// it, or a `PixelReader` refused the image before or has fewer rows than are to be copied.
+    /// The input slice ends before header, chunks and end marker are whole, or a mark or a row
+    /// isn't in it; or a `PixelReader` refused the image before, has fewer rows than a call asks
+    /// for, or no row with such a part.
     UnexpectedBufferEnd,
     /// The eight bytes after the chunks aren't the end marker.
     InvalidPadding,

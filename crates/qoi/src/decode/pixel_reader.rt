@@ -296,8 +296,8 @@ impl<R: Reader + Drop> PixelReader<R> {
     /// is checked, or its end found, without allocating. Gives back the decoder, which goes on
     /// behind the end marker.
     ///
-    /// Refusals are those of `read`, after one of them too. After a refusal the decoder is dropped
-    /// with its reader, so no contract can say where that stood.
+    /// Refusals are those of `read`; of an image that was refused before, `UnexpectedBufferEnd`.
+    /// The decoder is dropped then with its reader, so no contract can say where that stood.
     pub fn finish(mut self) -> Result<Decoder<R>>
         // A success: the bytes that were read, and others, are the image.
         ensures finished { IfGiven R.ahead self (λ d start given. IfOk result (λ decoder.

@@ -16,8 +16,8 @@ use crate::header::Header;
 use crate::types::Channels;
 use std::marker::Model;
 
-/// A point in the image of a slice's file, from which a `PixelReader` goes on, as often as you like.
-/// It has some 5 KB, holds no part of the slice, and needn't be dropped before it.
+/// A point in the image of a slice's file, from which a `PixelReader` goes on, as often as you
+/// like. It has some 5 KB, holds no part of the slice, and needn't be dropped before it.
 ///
 /// A contract sees how many bytes of the slice stand before the point, and the reader's state but
 /// for what is ahead.
@@ -51,10 +51,10 @@ impl Model for Mark {
 }
 
 impl<'a> PixelReader<Bytes<'a>> {
-    /// A mark of the point where the reader stands in `file`, the slice that it reads. The mark
-    /// counts from the front of the slice, so bytes may be appended behind the file.
-    ///
-    /// In another slice, the mark stands as far from the end as the reader does from that of its own.
+    /// A mark of the point where the reader stands in `file`, which is the whole slice that it
+    /// reads: in another one the mark stands as far from the end as the reader does from that of
+    /// its own. The mark counts from the front, so `resume` also takes a slice that begins with
+    /// this one.
     #[tactic(auto, unfolding(crate::specs::pieces::Mark::marked_left, crate::specs::pieces::PixelReader::unread_bytes))]
     pub fn mark(&self, file: &[u8]) -> Mark
         ensures state { result ≡ mark_of (length file.now - length self.now.reader) self.now }

@@ -104,8 +104,8 @@ fn keep_point(
     Ok(())
 }
 
-// How many points an index has, with one for each `every` rows: none for the last rows, which a reader
-// may decode ahead.
+// How many points an index has, with one for each `every` rows: none for the last rows, which a
+// reader may decode ahead.
 fn count_points(header: &Header, every: u32) -> u32
     requires valid { IsValid header.now }
     requires some { 0 < every }
@@ -178,8 +178,9 @@ impl RowIndex {
     {
         let pixels_wanted = pixels_from(decoder.header(), first);
         let mut i = self.points.len().min((first / self.every) as usize);
-        // Point `i` is that of row (i + 1) * `every`. It may lie past the wanted row, since
-        // a reader decodes ahead: then one above it serves.
+        // Point `i` is that of row (i + 1) * `every`. It may lie past the wanted row, since a
+        // reader decodes ahead: then an earlier one serves, in narrow images perhaps many points
+        // earlier.
         while i > 0 {
             i -= 1;
             let point = &self.points[i];
@@ -190,13 +191,13 @@ impl RowIndex {
         Ok(decoder.into_pixels())
     }
 
-    /// A reader that stands before row `first` of the image of the file of which the index was made,
-    /// or of one that begins with it, into the file's own channels. None of the rows above the last
-    /// point before that row is decoded, and nothing is allocated.
+    /// A reader that stands before row `first` of the image of the file of which the index was
+    /// made, or of one that begins with it, into the file's own channels. None of the rows above
+    /// the last point before that row is decoded, and nothing is allocated.
     ///
     /// `first` may be the height, behind the last row. Refusals: those of the header, and
-    /// `UnexpectedBufferEnd` if `first` is greater. With another file's index it reads wrong rows, or
-    /// is refused too.
+    /// `UnexpectedBufferEnd` if `first` is greater. With another file's index it reads wrong rows,
+    /// or is refused too.
     pub fn rows<'a>(&self, file: &'a [u8], first: u32) -> Result<PixelReader<Bytes<'a>>>
         // The reader stands as if it had read `first` rows of the file's image.
         ensures rows { (h : Header) → header_of file.entry.now ≡ Ok h

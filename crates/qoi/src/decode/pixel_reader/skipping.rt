@@ -21,9 +21,9 @@ impl<R: Reader> PixelReader<R> {
     /// decoded, by an array of 16,384 bytes: nothing is allocated. In a slice a `RowIndex` leaves
     /// out the rows above.
     ///
-    /// `UnexpectedBufferEnd` if fewer rows are left, and then nothing is read. Else the refusals are
-    /// those of `read`, and no more of the image can be read then. `left` then counts some of these
-    /// rows, or all: those before the refusal may be gone.
+    /// `UnexpectedBufferEnd` if fewer rows are left, and then nothing is read. Else the refusals
+    /// are those of `read`, and no more of the image can be read then. `left` is then less by some
+    /// bytes of these rows, or none: those that were read before the refusal are gone.
     ///
     /// ```
     /// let mut pixels = Decoder::from_buf_read(reader)?.into_pixels();

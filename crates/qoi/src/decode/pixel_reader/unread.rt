@@ -228,7 +228,7 @@ impl Unread {
     }
 
     // Decodes chunks into `out`, what is open of a piece behind its first `done` bytes, and returns
-    // how many bytes. It doesn't stop while `RUN_ROOM` is open, and may go on nearer to the end. It
+    // how many bytes. It doesn't stop while `RUN_ROOM` is open, and some always stays open. It
     // decodes none below `RUN_ROOM` (as mostly behind `decode_in_place` of a slice), or below
     // `LONG_PIECE` if `done` is 0, since a short piece is given from kept bytes.
     #[inline]
@@ -241,8 +241,10 @@ impl Unread {
         requires channels { IsChannels N }
         requires asks { Asks N self.old (length out.old) }
         requires run { self.old.run ≡ 0 }
+        requires some { 0 < length out.old }
         ensures step { Steps F N R.in_memory (R.ahead reader.old) (R.ahead reader.new)
             self.old self.new out.new (λ size. size) result }
+        ensures open { IfOk result (λ size. size < length out.new) }
         ensures few { IfOk result (λ size. length out.new < size + LONG_PIECE) }
         ensures last { IfOk result (λ size. 0 < done + size
             → length out.new < size + (RUN_ROOM + 3)) }
@@ -341,9 +343,6 @@ impl Unread {
         }
         let more = self.decode_while_runs_fit::<R, N, F>(reader, &mut out[done..], done)?;
         let filled = done + more;
-        if filled == out.len() {
-            return Ok(filled);
-        }
         let room = kept_room(out.len(), filled);
         self.decode_ahead::<R, N, F>(reader, room)?;
         Ok(filled)

@@ -4,10 +4,6 @@ use Rattle.qoi.proofs.decoding.Refusals.{handed_on}
 use Rattle.qoi.proofs.decoding.GivenMore.{gives_two, gives_then_none, refused_after, refused_two}
 use Rattle.qoi.proofs.decode.pixel_reader.unread.Unread.decode_more.Goals as goal
 
-pub returns-then-filled-out-clause-step : goal.returns-then-filled-out-clause-step
-returns-then-filled-out-clause-step g c =
-    gives_two c.decode_while_runs_fit.new.out c.in_ok-more.more c.in_ok-done.ensures.step c.in_ok-more.ensures.step c.decode_while_runs_fit.auto.out
-
 pub returns-in_err-more-clause-step : goal.returns-in_err-more-clause-step
 returns-in_err-more-clause-step g c =
     handed_on _ _ _ c.from_residual-in_err-more.ensures.1 (refused_two c.decode_while_runs_fit.new.out c.in_ok-done.ensures.step c.in_err-more.ensures.step c.decode_while_runs_fit.auto.out)
