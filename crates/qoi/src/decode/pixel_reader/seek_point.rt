@@ -103,7 +103,7 @@ pub(super) fn size_in(channels: Channels, pixels: usize) -> usize
     }
 }
 
-// How many raw bytes of the image aren't decoded: some, if more are left than a reader keeps.
+// How many raw bytes of the image aren't stored: some, if more are left than a reader keeps.
 fn unstored(unread: &Unread) -> usize
     requires { KeepsWithin unread.now }
     ensures same { result ≡ unread.now.unstored }
